@@ -1,0 +1,17 @@
+-- `octets::bytes::ByteWriter::skip` meets its contract: the tests say whether there are n octets.
+-- Assumes nothing.
+use native.Mathlib.Omega.{arith}
+use borrow.Author.Needs.{needs}
+use Rattle.octets.proofs.Places.{enough, too-few}
+use Rattle.octets.proofs.bytes.ByteWriter.skip.Statement.{statement}
+use Rattle.octets.proofs.bytes.ByteWriter.skip.Tie as tie
+
+pub skip-spec : {M : Type 1} → statement M
+skip-spec =
+    tie.close
+    (tie.spec
+    (λ c. let a = c .before .args in simp (too-few (a .n) (a .out .now) (a .self .at) (omega arith)))
+    (λ c. search needs)
+    (λ c. let a = c .before .before .args in simp (too-few (a .n) (a .out .now) (a .self .at) (omega arith)))
+    (λ c. search needs)
+    (λ c. let a = c .before .before .args in simp (enough (a .n) (a .out .now) (a .self .at) (omega arith))))

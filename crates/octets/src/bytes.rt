@@ -1,0 +1,345 @@
+// Octets read from and written to a lent slice, at a position that is passed on by value.
+ghost use mathlib.Core.Path.{_≡_};
+ghost use mathlib.Core.List.{[], _∷_};
+ghost use Prim.Native.Nat.{_-_, min};
+ghost use lib.Dec.{leb};
+ghost use lib.ListN.{length};
+ghost use Rattle.octets.specs.Bytes.{le, leBytes, beBytes, skipTo, u8Read, u16Read, u32Read, sliceRead, arrayRead, writeTo, outAfter, fitting, countedTo, truncateTo};
+use crate::error::Error;
+
+// A position from which octets are read. rubble's holds the slice; here each call is lent it.
+pub struct ByteReader {
+    pub at: usize,
+}
+
+// A position to which octets are written. The octets before it are kept.
+pub struct ByteWriter {
+    pub at: usize,
+}
+
+// The position after what was passed over or read.
+pub enum Skipped {
+    To(ByteReader),
+    Refused(Error),
+}
+
+pub enum U8Read {
+    Value(u8, ByteReader),
+    Refused(Error),
+}
+
+pub enum U16Read {
+    Value(u16, ByteReader),
+    Refused(Error),
+}
+
+pub enum U32Read {
+    Value(u32, ByteReader),
+    Refused(Error),
+}
+
+// A part of the slice that was read, by its start and its length.
+pub enum SliceRead {
+    Part {
+        start: usize,
+        len: usize,
+        next: ByteReader,
+    },
+    Refused(Error),
+}
+
+// The octets read, or zeros where the read was refused.
+pub struct Array5Read {
+    pub octets: [u8; 5],
+    pub read: Skipped,
+}
+
+pub struct Array6Read {
+    pub octets: [u8; 6],
+    pub read: Skipped,
+}
+
+// The position after what was written.
+pub enum Written {
+    To(ByteWriter),
+    Refused(Error),
+}
+
+// The number of octets written, and the position after them.
+pub enum Truncated {
+    To(usize, ByteWriter),
+    Refused(Error),
+}
+
+// Copies src over dst, which is as long.
+fn copy(src: &[u8], dst: &mut [u8])
+    requires { ⌜ length (now src) ≡ length (now dst) ⌝ }
+    ensures { λ _. ⌜ now (dst .exit) ≡ now (src .entry) ⌝ }
+{
+    let mut i = 0;
+    while i < src.len() {
+        dst[i] = src[i];
+        i += 1;
+    }
+}
+
+// What a write of n octets did, with their number.
+fn counted(n: usize, written: Written) -> Truncated
+    ensures { λ r. ⌜ r ≡ countedTo n written ⌝ }
+{
+    match written {
+        Written::To(next) => Truncated::To(n, next),
+        Written::Refused(e) => Truncated::Refused(e),
+    }
+}
+
+fn least(a: usize, b: usize) -> usize
+    ensures { λ r. ⌜ r ≡ min a b ⌝ }
+{
+    if a < b { a } else { b }
+}
+
+// The number whose octets are given, least significant first.
+pub fn u16_from_le_bytes(b0: u8, b1: u8) -> u16
+    ensures { λ r. ⌜ r ≡ le (b0 ∷ b1 ∷ []) ⌝ }
+{
+    b0 as u16 + 256 * (b1 as u16)
+}
+
+pub fn u32_from_le_bytes(b0: u8, b1: u8, b2: u8, b3: u8) -> u32
+    ensures { λ r. ⌜ r ≡ le (b0 ∷ b1 ∷ b2 ∷ b3 ∷ []) ⌝ }
+{
+    b0 as u32 + 256 * (b1 as u32) + 65536 * (b2 as u32) + 16777216 * (b3 as u32)
+}
+
+// The octets of a number, least significant first.
+pub fn u16_to_le_bytes(value: u16) -> [u8; 2]
+    ensures { λ r. ⌜ r ≡ leBytes 2 value ⌝ }
+{
+    [(value % 256) as u8, (value / 256 % 256) as u8]
+}
+
+pub fn u32_to_le_bytes(value: u32) -> [u8; 4]
+    ensures { λ r. ⌜ r ≡ leBytes 4 value ⌝ }
+{
+    let above0 = value / 256;
+    let above1 = above0 / 256;
+    let above2 = above1 / 256;
+    [
+        (value % 256) as u8,
+        (above0 % 256) as u8,
+        (above1 % 256) as u8,
+        (above2 % 256) as u8,
+    ]
+}
+
+// The octets of a number, most significant first.
+pub fn u32_to_be_bytes(value: u32) -> [u8; 4]
+    ensures { λ r. ⌜ r ≡ beBytes 4 value ⌝ }
+{
+    let le = u32_to_le_bytes(value);
+    [le[3], le[2], le[1], le[0]]
+}
+
+impl ByteReader {
+    // A reader that begins at the front.
+    pub fn new() -> ByteReader
+        ensures { λ r. ⌜ r .at ≡ 0 ⌝ }
+    {
+        ByteReader { at: 0 }
+    }
+
+    // Passes over n octets.
+    pub fn skip(self, s: &[u8], n: usize) -> Skipped
+        ensures { λ r. ⌜ r ≡ skipTo n (now (s .entry)) (self .at) ⌝ }
+    {
+        let at = self.at;
+        if s.len() < at {
+            return Skipped::Refused(Error::Eof);
+        }
+        if s.len() - at < n {
+            return Skipped::Refused(Error::Eof);
+        }
+        Skipped::To(ByteReader { at: at + n })
+    }
+
+    // How many octets are left, none from a position past the end.
+    pub fn bytes_left(self, s: &[u8]) -> usize
+        ensures { λ r. ⌜ r ≡ length (now (s .entry)) - self .at ⌝ }
+    {
+        let at = self.at;
+        if s.len() < at { 0 } else { s.len() - at }
+    }
+
+    pub fn is_empty(self, s: &[u8]) -> bool
+        ensures { λ r. ⌜ r ≡ leb (length (now (s .entry))) (self .at) ⌝ }
+    {
+        let at = self.at;
+        s.len() <= at
+    }
+
+    // A part of n octets.
+    pub fn read_slice(self, s: &[u8], n: usize) -> SliceRead
+        ensures { λ r. ⌜ r ≡ sliceRead n (now (s .entry)) (self .at) ⌝ }
+    {
+        let at = self.at;
+        if s.len() < at {
+            return SliceRead::Refused(Error::Eof);
+        }
+        if s.len() - at < n {
+            return SliceRead::Refused(Error::Eof);
+        }
+        SliceRead::Part {
+            start: at,
+            len: n,
+            next: ByteReader { at: at + n },
+        }
+    }
+
+    pub fn read_array5(self, s: &[u8]) -> Array5Read
+        ensures { λ r. ⌜ (r .octets ≡ arrayRead 5 (now (s .entry)) (self .at)) × (r .read ≡ skipTo 5 (now (s .entry)) (self .at)) ⌝ }
+    {
+        let at = self.at;
+        let mut octets = [0u8; 5];
+        if self.bytes_left(s) < 5 {
+            return Array5Read {
+                octets,
+                read: Skipped::Refused(Error::Eof),
+            };
+        }
+        let end = at + 5;
+        copy(&s[at..end], &mut octets);
+        Array5Read {
+            octets,
+            read: Skipped::To(ByteReader { at: end }),
+        }
+    }
+
+    pub fn read_array6(self, s: &[u8]) -> Array6Read
+        ensures { λ r. ⌜ (r .octets ≡ arrayRead 6 (now (s .entry)) (self .at)) × (r .read ≡ skipTo 6 (now (s .entry)) (self .at)) ⌝ }
+    {
+        let at = self.at;
+        let mut octets = [0u8; 6];
+        if self.bytes_left(s) < 6 {
+            return Array6Read {
+                octets,
+                read: Skipped::Refused(Error::Eof),
+            };
+        }
+        let end = at + 6;
+        copy(&s[at..end], &mut octets);
+        Array6Read {
+            octets,
+            read: Skipped::To(ByteReader { at: end }),
+        }
+    }
+
+    pub fn read_u8(self, s: &[u8]) -> U8Read
+        ensures { λ r. ⌜ r ≡ u8Read (now (s .entry)) (self .at) ⌝ }
+    {
+        let at = self.at;
+        if self.bytes_left(s) < 1 {
+            return U8Read::Refused(Error::Eof);
+        }
+        U8Read::Value(s[at], ByteReader { at: at + 1 })
+    }
+
+    pub fn read_u16_le(self, s: &[u8]) -> U16Read
+        ensures { λ r. ⌜ r ≡ u16Read (now (s .entry)) (self .at) ⌝ }
+    {
+        let at = self.at;
+        if self.bytes_left(s) < 2 {
+            return U16Read::Refused(Error::Eof);
+        }
+        U16Read::Value(u16_from_le_bytes(s[at], s[at + 1]), ByteReader { at: at + 2 })
+    }
+
+    pub fn read_u32_le(self, s: &[u8]) -> U32Read
+        ensures { λ r. ⌜ r ≡ u32Read (now (s .entry)) (self .at) ⌝ }
+    {
+        let at = self.at;
+        if self.bytes_left(s) < 4 {
+            return U32Read::Refused(Error::Eof);
+        }
+        U32Read::Value(
+            u32_from_le_bytes(s[at], s[at + 1], s[at + 2], s[at + 3]),
+            ByteReader { at: at + 4 },
+        )
+    }
+}
+
+impl ByteWriter {
+    // A writer that begins at the front.
+    pub fn new() -> ByteWriter
+        ensures { λ r. ⌜ r .at ≡ 0 ⌝ }
+    {
+        ByteWriter { at: 0 }
+    }
+
+    // Passes over n octets, which are kept.
+    pub fn skip(self, out: &[u8], n: usize) -> Written
+        ensures { λ r. ⌜ r ≡ writeTo n (now (out .entry)) (self .at) ⌝ }
+    {
+        let at = self.at;
+        if out.len() < at {
+            return Written::Refused(Error::Eof);
+        }
+        if out.len() - at < n {
+            return Written::Refused(Error::Eof);
+        }
+        Written::To(ByteWriter { at: at + n })
+    }
+
+    // How many octets can be written, none from a position past the end.
+    pub fn space_left(self, out: &[u8]) -> usize
+        ensures { λ r. ⌜ r ≡ length (now (out .entry)) - self .at ⌝ }
+    {
+        let at = self.at;
+        if out.len() < at { 0 } else { out.len() - at }
+    }
+
+    // Writes all of `other`, or nothing.
+    pub fn write_slice(self, out: &mut [u8], other: &[u8]) -> Written
+        ensures { λ r. ⌜ (r ≡ writeTo (length (now (other .entry))) (now (out .entry)) (self .at)) × (now (out .exit) ≡ outAfter (now (other .entry)) (now (out .entry)) (self .at)) ⌝ }
+    {
+        let at = self.at;
+        if out.len() < at {
+            return Written::Refused(Error::Eof);
+        }
+        if out.len() - at < other.len() {
+            return Written::Refused(Error::Eof);
+        }
+        let end = at + other.len();
+        copy(other, &mut out[at..end]);
+        Written::To(ByteWriter { at: end })
+    }
+
+    // Writes the first octets of `other`, as many as there is space for.
+    pub fn write_slice_truncate(self, out: &mut [u8], other: &[u8]) -> Truncated
+        ensures { λ r. ⌜ (r ≡ truncateTo (now (other .entry)) (now (out .entry)) (self .at)) × (now (out .exit) ≡ outAfter (fitting (now (other .entry)) (now (out .entry)) (self .at)) (now (out .entry)) (self .at)) ⌝ }
+    {
+        let n = least(other.len(), self.space_left(out));
+        counted(n, self.write_slice(out, &other[..n]))
+    }
+
+    pub fn write_u8(self, out: &mut [u8], byte: u8) -> Written
+        ensures { λ r. ⌜ (r ≡ writeTo 1 (now (out .entry)) (self .at)) × (now (out .exit) ≡ outAfter (byte ∷ []) (now (out .entry)) (self .at)) ⌝ }
+    {
+        let octets = [byte];
+        self.write_slice(out, &octets)
+    }
+
+    pub fn write_u16_le(self, out: &mut [u8], value: u16) -> Written
+        ensures { λ r. ⌜ (r ≡ writeTo 2 (now (out .entry)) (self .at)) × (now (out .exit) ≡ outAfter (leBytes 2 value) (now (out .entry)) (self .at)) ⌝ }
+    {
+        let octets = u16_to_le_bytes(value);
+        self.write_slice(out, &octets)
+    }
+
+    pub fn write_u32_le(self, out: &mut [u8], value: u32) -> Written
+        ensures { λ r. ⌜ (r ≡ writeTo 4 (now (out .entry)) (self .at)) × (now (out .exit) ≡ outAfter (leBytes 4 value) (now (out .entry)) (self .at)) ⌝ }
+    {
+        let octets = u32_to_le_bytes(value);
+        self.write_slice(out, &octets)
+    }
+}
