@@ -1,1 +1,4 @@
 pub mod Places
+pub mod Sequences
+pub mod Numbers
+pub mod Laws

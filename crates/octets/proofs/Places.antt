@@ -21,6 +21,10 @@ enough n s at h = le-leb (at + n) (length s) h
 pub too-few : (n : ℕ) (s : List ℕ) (at : ℕ) → length s < at + n → has n s at ≡ false
 too-few n s at h = lt-leb (at + n) (length s) h
 
+-- what begins at a position: the octet there, and what begins at the next position
+pub front : (s : List ℕ) (at : ℕ) → at < length s → drop at s ≡ getD s at 0 ∷ drop (at + 1) s
+front s at h = rw (add-one, drop-cons s at 0)
+
 -- the octets of a part, one by one
 abbrev pub others : ℕ → List ℕ → ℕ → ℕ → List ℕ
 others zero s at k = []
@@ -33,7 +37,7 @@ others-part (suc n) s at k h =
     rw (drop-cons s (at + k) 0 (omega arith), next, others-part n s at (suc k) (omega arith))
 
 pub part-octets : (n : ℕ) (s : List ℕ) (at : ℕ) → at + suc n ≤ length s → part (suc n) s at ≡ getD s at 0 ∷ others n s at 1
-part-octets n s at h = rw (drop-cons s at 0 (omega arith), ← add-one at, others-part n s at 1 (omega arith))
+part-octets n s at h = rw (front s at (omega arith), others-part n s at 1 (omega arith))
 
 -- a part that was copied to an array of n octets
 pub array-copied : (n : ℕ) (s : List ℕ) (at : ℕ) {l : List ℕ} → at + n ≤ length s → l ≡ take (at + n - at) (drop at s) → l ≡ arrayRead n s at

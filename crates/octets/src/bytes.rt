@@ -72,7 +72,7 @@ pub enum Truncated {
 }
 
 // Copies src over dst, which is as long.
-fn copy(src: &[u8], dst: &mut [u8])
+pub(crate) fn copy(src: &[u8], dst: &mut [u8])
     requires { ⌜ length (now src) ≡ length (now dst) ⌝ }
     ensures { λ _. ⌜ now (dst .exit) ≡ now (src .entry) ⌝ }
 {

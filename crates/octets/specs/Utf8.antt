@@ -1,0 +1,68 @@
+-- Well-formed UTF-8: the table of well-formed byte sequences of the Unicode Standard (Table 3-7).
+use Prim.Native.Nat.{ℕ, zero, suc}
+use mathlib.Core.Bool.{Bool, true, false, cond, _&&_}
+use mathlib.Core.Option.{Option, none, some}
+use mathlib.Core.List.{List, [], _∷_}
+use lib.ListN.{replicate}
+use lib.Dec.{leb}
+use Rattle.octets.specs.declared.utf8.Lead.{Lead}
+use Rattle.octets.specs.declared.utf8.Lead.the-variants.{Before, Never}
+
+infix 80 _to_
+-- the octets from `low` to `high`
+pub record Range : Type 0 where
+  pub low : ℕ
+  pub high : ℕ
+
+abbrev pub _to_ : ℕ → ℕ → Range
+l to h = record { low = l; high = h }
+
+abbrev pub within : ℕ → Range → Bool
+within b r = leb (r .low) b && leb b (r .high)
+
+abbrev pub tail : Range
+tail = 0x80 to 0xBF
+
+-- a row has the range of each octet of a sequence
+abbrev pub table : List (List Range)
+table =
+    (0x00 to 0x7F ∷ [])
+    ∷ (0xC2 to 0xDF ∷ tail ∷ [])
+    ∷ (0xE0 to 0xE0 ∷ 0xA0 to 0xBF ∷ tail ∷ [])
+    ∷ (0xE1 to 0xEC ∷ tail ∷ tail ∷ [])
+    ∷ (0xED to 0xED ∷ 0x80 to 0x9F ∷ tail ∷ [])
+    ∷ (0xEE to 0xEF ∷ tail ∷ tail ∷ [])
+    ∷ (0xF0 to 0xF0 ∷ 0x90 to 0xBF ∷ tail ∷ tail ∷ [])
+    ∷ (0xF1 to 0xF3 ∷ tail ∷ tail ∷ tail ∷ [])
+    ∷ (0xF4 to 0xF4 ∷ 0x80 to 0x8F ∷ tail ∷ tail ∷ [])
+    ∷ []
+
+-- what follows b in the row that begins with it
+unfoldable pub rowIn : List (List Range) → ℕ → Option (List Range)
+rowIn [] b = none
+rowIn ([] ∷ rows) b = rowIn rows b
+rowIn ((first ∷ rest) ∷ rows) b = cond (within b first) (some rest) (rowIn rows b)
+
+-- the rest of a row, as the octets after it decide
+abbrev pub following : Option (List Range) → (List Range → Bool) → Bool
+following none after = false
+following (some rest) after = after rest
+
+-- the octets finish a sequence, of which these ranges are left, and go on with whole sequences
+unfoldable pub utf8After : List ℕ → List Range → Bool
+utf8After [] [] = true
+utf8After [] (r ∷ rest) = false
+utf8After (b ∷ s) [] = following (rowIn table b) (utf8After s)
+utf8After (b ∷ s) (r ∷ rest) = within b r && utf8After s rest
+
+abbrev pub isUtf8 : List ℕ → Bool
+isUtf8 s = utf8After s []
+
+-- `count` octets, the first of them from `low` to `high`
+abbrev pub pending : ℕ → ℕ → ℕ → List Range
+pending zero low high = []
+pending (suc count) low high = low to high ∷ replicate count tail
+
+abbrev pub rowFrom : Lead → Option (List Range)
+rowFrom (Before count low high) = some (pending count low high)
+rowFrom Never = none
