@@ -2,3 +2,4 @@ pub mod Places
 pub mod Sequences
 pub mod Numbers
 pub mod Laws
+pub mod WellFormed

@@ -69,8 +69,7 @@ pub truncated : (xs out : List ℕ) (at n : ℕ) {r : Truncated} {w : Written} {
     → (r ≡ truncateTo xs out at) × (l ≡ outAfter (fitting xs out at) out at)
 truncated xs out at n is count wrote =
     let first = fitting-take xs out at n is in
-    let size : n ≡ length (fitting xs out at) = simp length-take (omega arith) in
-    (
+    let size : n ≡ length (fitting xs out at) = simp length-take (omega arith) in (
       count ∙ (rw (wrote .0, first) (ap (λ (k : ℕ). countedTo k (writeTo (length (fitting xs out at)) out at)) size)),
       wrote .1 ∙ ap (λ (ys : List ℕ). outAfter ys out at) first,
     )

@@ -13,7 +13,7 @@ use Rattle.octets.specs.Utf8.{Range, _to_, within, table, rowIn, followi
 use Rattle.octets.specs.declared.utf8.Lead.{Lead}
 use Rattle.octets.proofs.Places.{front}
 
-T-and : (a b : Bool) → T (a && b) → T a × T b
+pub T-and : (a b : Bool) → T (a && b) → T a × T b
 T-and true b t = (tt, t)
 T-and false b t = absurd t
 
@@ -37,7 +37,7 @@ under low [] = true
 under low ([] ∷ rows) = under low rows
 under low ((r ∷ rest) ∷ rows) = ltb (r .high) low && under low rows
 
-abbrev over : ℕ → List (List Range) → Bool
+abbrev pub over : ℕ → List (List Range) → Bool
 over high [] = true
 over high ([] ∷ rows) = over high rows
 over high ((r ∷ rest) ∷ rows) = ltb high (r .low) && over high rows

@@ -1,9 +1,13 @@
 -- Well-formed UTF-8: the table of well-formed byte sequences of the Unicode Standard (Table 3-7).
-use Prim.Native.Nat.{ℕ, zero, suc}
+--   table            == its rows, each with the range of every octet of a sequence
+--   isUtf8 s         == s is read, octet by octet, as whole sequences of the table
+--   WellFormed s     == s is whole sequences of the table, one after the other; `Means s` says that both are the same
+use mathlib.Core.Path.{_≡_}
+use Prim.Native.Nat.{ℕ, zero, suc, _<_}
 use mathlib.Core.Bool.{Bool, true, false, cond, _&&_}
 use mathlib.Core.Option.{Option, none, some}
-use mathlib.Core.List.{List, [], _∷_}
-use lib.ListN.{replicate}
+use mathlib.Core.List.{List, [], _∷_, _++_}
+use lib.ListN.{length, getD, replicate}
 use lib.Dec.{leb}
 use Rattle.octets.specs.declared.utf8.Lead.{Lead}
 use Rattle.octets.specs.declared.utf8.Lead.the-variants.{Before, Never}
@@ -57,6 +61,22 @@ utf8After (b ∷ s) (r ∷ rest) = within b r && utf8After s rest
 
 abbrev pub isUtf8 : List ℕ → Bool
 isUtf8 s = utf8After s []
+
+-- the octets of a sequence lie in the ranges of a row, one by one
+abbrev pub Sequence : List Range → List ℕ → Type 0
+Sequence [] [] = Unit {0}
+Sequence [] (b ∷ s) = ⊥
+Sequence (r ∷ row) [] = ⊥
+Sequence (r ∷ row) (b ∷ s) = (within b r ≡ true) × Sequence row s
+
+pub data WellFormed : List ℕ → Type 0 where
+  nothing : WellFormed []
+  -- a sequence of row k, then the rest
+  and-then : {s : List ℕ} (k : ℕ) (octets rest : List ℕ) → s ≡ octets ++ rest → k < length table → Sequence (getD table k []) octets → WellFormed rest → WellFormed s
+
+pub record Means (s : List ℕ) : Type 0 where
+  pub sound : isUtf8 s ≡ true → WellFormed s
+  pub complete : WellFormed s → isUtf8 s ≡ true
 
 -- `count` octets, the first of them from `low` to `high`
 abbrev pub pending : ℕ → ℕ → ℕ → List Range

@@ -251,7 +251,10 @@ impl ByteReader {
         if self.bytes_left(s) < 2 {
             return U16Read::Refused(Error::Eof);
         }
-        U16Read::Value(u16_from_le_bytes(s[at], s[at + 1]), ByteReader { at: at + 2 })
+        U16Read::Value(
+            u16_from_le_bytes(s[at], s[at + 1]),
+            ByteReader { at: at + 2 },
+        )
     }
 
     pub fn read_u32_le(self, s: &[u8]) -> U32Read
