@@ -8,7 +8,7 @@ use native.Mathlib.Omega.{arith}
 use lib.ListN.{length, getD, take, drop, length-append, length-take, length-drop}
 use lib.Seq.{length-take-le, take-at, drop-at, drop-append-le, take-append-seam}
 use borrow.Author.Tests.{leb-true}
-use Rattle.octets.specs.Bytes.{has, part, written, le, leBytes, u8Read, u16Read, u32Read, arrayRead, outAfter}
+use Rattle.octets.specs.Bytes.{has, part, written, le, leBytes, u8Read, u16Read, u32Read, outAfter}
 use Rattle.octets.specs.Laws.{Keeps, Field, ReadBack, Elapsed}
 use Rattle.octets.proofs.Places.{enough, part-octets}
 use Rattle.octets.proofs.Numbers.{field}
@@ -50,7 +50,7 @@ pub read-back : (out : List ℕ) (at : ℕ) → ReadBack out at
 read-back out at =
     record {
       number = λ n v small h. ap le (part-back n (leBytes n v) out at (field n .as-long v) h) ∙ field n .number-back v small;
-      array = λ xs h. rw (has-back (length xs) xs out at refl h) (part-back (length xs) xs out at refl h);
+      array = λ xs dst same h. rw (has-back (length dst) xs out at (sym same) (omega arith)) (part-back (length dst) xs out at (sym same) (omega arith));
       u8 = λ v h. rw (has-back 1 (v ∷ []) out at refl h, octet-back v out at h);
       u16 = λ v small h. rw (has-back 2 (leBytes 2 v) out at refl h, part-back 2 (leBytes 2 v) out at refl h, field 2 .number-back v small);
       u32 = λ v small h. rw (has-back 4 (leBytes 4 v) out at refl h, part-back 4 (leBytes 4 v) out at refl h, field 4 .number-back v small);

@@ -10,7 +10,7 @@ use lib.Seq.{drop-cons, take-all, take-length}
 use lib.Dec.{leb}
 use borrow.Author.Tests.{le-leb, lt-leb, leb-true, leb-false}
 use borrow.Rule.Slice.PartMut.{putMid, post-is}
-use Rattle.octets.specs.Bytes.{has, part, arrayRead, writeTo, outAfter, fitting, countedTo, truncateTo}
+use Rattle.octets.specs.Bytes.{has, part, filled, writeTo, outAfter, fitting, countedTo, truncateTo}
 use Rattle.octets.specs.declared.bytes.Written.{Written}
 use Rattle.octets.specs.declared.bytes.Truncated.{Truncated}
 
@@ -39,11 +39,11 @@ others-part (suc n) s at k h =
 pub part-octets : (n : ℕ) (s : List ℕ) (at : ℕ) → at + suc n ≤ length s → part (suc n) s at ≡ getD s at 0 ∷ others n s at 1
 part-octets n s at h = rw (front s at (omega arith), others-part n s at 1 (omega arith))
 
--- a part that was copied to an array of n octets
-pub array-copied : (n : ℕ) (s : List ℕ) (at : ℕ) {l : List ℕ} → at + n ≤ length s → l ≡ take (at + n - at) (drop at s) → l ≡ arrayRead n s at
-array-copied n s at h e =
-    let size : at + n - at ≡ n = omega arith in
-    e ∙ simp (size, enough n s at h)
+-- a part that was copied over `dst`
+pub part-copied : (s dst : List ℕ) (at : ℕ) {l : List ℕ} → at + length dst ≤ length s → l ≡ take (at + length dst - at) (drop at s) → l ≡ filled s at dst
+part-copied s dst at h e =
+    let size : at + length dst - at ≡ length dst = omega arith in
+    e ∙ simp (size, enough (length dst) s at h)
 
 -- a slice that was copied to a part of `out`
 pub slice-copied : (xs out : List ℕ) (at : ℕ) {l : List ℕ} → at + length xs ≤ length out → l ≡ xs → putMid at (at + length xs - at) out l ≡ outAfter xs out at

@@ -65,9 +65,12 @@ u16Read s at = cond (has 2 s at) (u16read.Value (le (part 2 s at)) (record { at 
 abbrev pub u32Read : List ℕ → ℕ → U32Read
 u32Read s at = cond (has 4 s at) (u32read.Value (le (part 4 s at)) (record { at = at + 4 })) (u32read.Refused Eof)
 
--- the octets of an array of n that is read: zeros where there are too few
+-- `dst` after a read into it: itself where there are too few octets; an array of n begins as zeros
+abbrev pub filled : List ℕ → ℕ → List ℕ → List ℕ
+filled s at dst = cond (has (length dst) s at) (part (length dst) s at) dst
+
 abbrev pub arrayRead : ℕ → List ℕ → ℕ → List ℕ
-arrayRead n s at = cond (has n s at) (part n s at) (replicate n 0)
+arrayRead n s at = filled s at (replicate n 0)
 
 -- what a write of n octets at position `at` of `out` answers, and what `out` then holds: itself where there is too little space
 abbrev pub writeTo : ℕ → List ℕ → ℕ → Written

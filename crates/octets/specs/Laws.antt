@@ -7,7 +7,7 @@ use mathlib.Core.Path.{_≡_}
 use mathlib.Core.List.{List, [], _∷_}
 use Prim.Native.Nat.{ℕ, _+_, _≤_, _<_, _^_}
 use lib.ListN.{length, take, drop}
-use Rattle.octets.specs.Bytes.{part, written, le, leBytes, u8Read, u16Read, u32Read, arrayRead, outAfter}
+use Rattle.octets.specs.Bytes.{part, written, le, leBytes, u8Read, u16Read, u32Read, filled, outAfter}
 use Rattle.octets.specs.declared.bytes.U8Read.the-variants as u8read
 use Rattle.octets.specs.declared.bytes.U16Read.the-variants as u16read
 use Rattle.octets.specs.declared.bytes.U32Read.the-variants as u32read
@@ -31,7 +31,7 @@ pub record Field (n : ℕ) : Type 0 where
 
 pub record ReadBack (out : List ℕ) (at : ℕ) : Type 0 where
   pub number : (n v : ℕ) → v < 256 ^ n → at + n ≤ length out → le (part n (outAfter (leBytes n v) out at) at) ≡ v
-  pub array : (xs : List ℕ) → at + length xs ≤ length out → arrayRead (length xs) (outAfter xs out at) at ≡ xs
+  pub array : (xs dst : List ℕ) → length dst ≡ length xs → at + length xs ≤ length out → filled (outAfter xs out at) at dst ≡ xs
   pub u8 : (v : ℕ) → at + 1 ≤ length out → u8Read (outAfter (v ∷ []) out at) at ≡ u8read.Value v (record { at = at + 1 })
   pub u16 : (v : ℕ) → v < 2 ^ 16 → at + 2 ≤ length out → u16Read (outAfter (leBytes 2 v) out at) at ≡ u16read.Value v (record { at = at + 2 })
   pub u32 : (v : ℕ) → v < 2 ^ 32 → at + 4 ≤ length out → u32Read (outAfter (leBytes 4 v) out at) at ≡ u32read.Value v (record { at = at + 4 })

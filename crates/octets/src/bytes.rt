@@ -4,7 +4,7 @@ ghost use mathlib.Core.List.{[], _∷_};
 ghost use Prim.Native.Nat.{_-_, min};
 ghost use lib.Dec.{leb};
 ghost use lib.ListN.{length};
-ghost use Rattle.octets.specs.Bytes.{le, leBytes, beBytes, skipTo, u8Read, u16Read, u32Read, sliceRead, arrayRead, writeTo, outAfter, fitting, countedTo, truncateTo};
+ghost use Rattle.octets.specs.Bytes.{le, leBytes, beBytes, skipTo, u8Read, u16Read, u32Read, sliceRead, filled, arrayRead, writeTo, outAfter, fitting, countedTo, truncateTo};
 use crate::error::Error;
 
 // A position from which octets are read. rubble's holds the slice; here each call is lent it.
@@ -196,42 +196,36 @@ impl ByteReader {
         }
     }
 
+    // Reads as many octets as `dst` has into it, or leaves it.
+    pub fn read_into(self, s: &[u8], dst: &mut [u8]) -> Skipped
+        ensures { λ r. ⌜ (r ≡ skipTo (length (now (dst .entry))) (now (s .entry)) (self .at)) × (now (dst .exit) ≡ filled (now (s .entry)) (self .at) (now (dst .entry))) ⌝ }
+    {
+        let at = self.at;
+        if s.len() < at {
+            return Skipped::Refused(Error::Eof);
+        }
+        if s.len() - at < dst.len() {
+            return Skipped::Refused(Error::Eof);
+        }
+        let end = at + dst.len();
+        copy(&s[at..end], dst);
+        Skipped::To(ByteReader { at: end })
+    }
+
     pub fn read_array5(self, s: &[u8]) -> Array5Read
         ensures { λ r. ⌜ (r .octets ≡ arrayRead 5 (now (s .entry)) (self .at)) × (r .read ≡ skipTo 5 (now (s .entry)) (self .at)) ⌝ }
     {
-        let at = self.at;
         let mut octets = [0u8; 5];
-        if self.bytes_left(s) < 5 {
-            return Array5Read {
-                octets,
-                read: Skipped::Refused(Error::Eof),
-            };
-        }
-        let end = at + 5;
-        copy(&s[at..end], &mut octets);
-        Array5Read {
-            octets,
-            read: Skipped::To(ByteReader { at: end }),
-        }
+        let read = self.read_into(s, &mut octets);
+        Array5Read { octets, read }
     }
 
     pub fn read_array6(self, s: &[u8]) -> Array6Read
         ensures { λ r. ⌜ (r .octets ≡ arrayRead 6 (now (s .entry)) (self .at)) × (r .read ≡ skipTo 6 (now (s .entry)) (self .at)) ⌝ }
     {
-        let at = self.at;
         let mut octets = [0u8; 6];
-        if self.bytes_left(s) < 6 {
-            return Array6Read {
-                octets,
-                read: Skipped::Refused(Error::Eof),
-            };
-        }
-        let end = at + 6;
-        copy(&s[at..end], &mut octets);
-        Array6Read {
-            octets,
-            read: Skipped::To(ByteReader { at: end }),
-        }
+        let read = self.read_into(s, &mut octets);
+        Array6Read { octets, read }
     }
 
     pub fn read_u8(self, s: &[u8]) -> U8Read

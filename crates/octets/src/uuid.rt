@@ -144,19 +144,11 @@ impl Uuid128 {
     pub fn from_bytes(reader: ByteReader, s: &[u8]) -> Uuid128Read
         ensures { λ r. ⌜ (r .uuid .0 ≡ arrayRead 16 (now (s .entry)) (reader .at)) × (r .read ≡ skipTo 16 (now (s .entry)) (reader .at)) ⌝ }
     {
-        let at = reader.at;
         let mut octets = [0u8; 16];
-        if reader.bytes_left(s) < 16 {
-            return Uuid128Read {
-                uuid: Uuid128(octets),
-                read: Skipped::Refused(Error::Eof),
-            };
-        }
-        let end = at + 16;
-        copy(&s[at..end], &mut octets);
+        let read = reader.read_into(s, &mut octets);
         Uuid128Read {
             uuid: Uuid128(octets),
-            read: Skipped::To(ByteReader { at: end }),
+            read,
         }
     }
 
