@@ -1,17 +1,51 @@
--- The laws of specs/Laws.antt: a write keeps what it should, and what is read after it was written is what was written.
+-- The laws of specs/Laws.antt, save `field`: parts, what a write keeps, and what is read after it was written.
 -- Assumes nothing.
 use mathlib.Core.Path.{_≡_, refl, sym, ap, _∙_}
-use mathlib.Core.Bool.{true, cond}
+use mathlib.Core.Bool.{Bool, true, false}
 use mathlib.Core.List.{List, [], _∷_, _++_, append-assoc}
-use Prim.Native.Nat.{ℕ, _+_, _≤_, _<_, _^_}
+use Prim.Native.Nat.{ℕ, zero, suc, _+_, _≤_}
 use native.Mathlib.Omega.{arith}
 use lib.ListN.{length, getD, take, drop, length-append, length-take, length-drop}
-use lib.Seq.{length-take-le, take-at, drop-at, drop-append-le, take-append-seam}
+use lib.Seq.{take-take, take-add, drop-drop, length-take-le, take-at, drop-at, take-append-seam}
 use borrow.Author.Tests.{leb-true}
-use Rattle.octets.specs.Bytes.{has, part, written, le, leBytes, u8Read, u16Read, u32Read, outAfter}
-use Rattle.octets.specs.Laws.{Keeps, Field, ReadBack, Elapsed}
+use Rattle.octets.specs.Bytes.{has, part, written, le, leBytes, sliceRead, outAfter}
+use Rattle.octets.specs.Laws.{Parts, Keeps, ReadBack, Elapsed}
+use Rattle.octets.specs.declared.error.Error.the-variants.{Eof}
+use Rattle.octets.specs.declared.bytes.ByteReader.{ByteReader}
+use Rattle.octets.specs.declared.bytes.SliceRead.the-variants as sliceread
 use Rattle.octets.proofs.Places.{enough, part-octets}
 use Rattle.octets.proofs.Numbers.{field}
+
+-- a part that is read, by whether there are octets enough
+part-inside : (n : ℕ) (s : List ℕ) (at start len : ℕ) (next : ByteReader) → sliceRead n s at ≡ sliceread.Part start len next → (start + len ≤ length s) × (part len s start ≡ part n s at)
+part-inside n s at start len next read = go (has n s at) refl
+  where
+    go : (b : Bool) → has n s at ≡ b → (start + len ≤ length s) × (part len s start ≡ part n s at)
+    go true e =
+        let answer : sliceread.Part at n (record { at = at + n }) ≡ sliceread.Part start len next = simp e at read in
+        let from : at ≡ start = cc in
+        let size : n ≡ len = cc in
+        let fits = leb-true (at + n) (length s) e in
+        (omega arith, rw (from, size))
+    go false e =
+        let answer : sliceread.Refused Eof ≡ sliceread.Part start len next = simp e at read in
+        absurd (let z : _≡_ {A = ℕ} 0 1 = cc in omega arith)
+
+-- what lies within the first m octets
+drop-within : (n k m : ℕ) (l : List ℕ) → k + n ≤ m → take n (drop k (take m l)) ≡ take n (drop k l)
+drop-within n zero m l h = take-take n m l (omega arith)
+drop-within n (suc k) zero l h = absurd (omega arith)
+drop-within n (suc k) (suc m) [] h = refl
+drop-within n (suc k) (suc m) (x ∷ l) h = drop-within n k m l (omega arith)
+
+pub parts : (s : List ℕ) → Parts s
+parts s =
+    record {
+      inside = λ n at start len next read. part-inside n s at start len next read;
+      as-long = λ n at h. simp (length-take, length-drop) (omega arith);
+      of-part = λ n m at k h. drop-within n k m (drop at s) h ∙ ap (take n) (drop-drop k at s);
+      joined = λ n m at. rw (take-add, drop-drop);
+    }
 
 pub written-keeps : (xs out : List ℕ) (at : ℕ) → at + length xs ≤ length out → Keeps xs out at
 written-keeps xs out at h =

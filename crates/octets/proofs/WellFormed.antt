@@ -1,6 +1,6 @@
 -- `isUtf8` says of octets that they are whole sequences of the table, one after the other.
 -- Assumes nothing.
-use mathlib.Core.Path.{_≡_, refl, sym, ap, _∙_}
+use mathlib.Core.Path.{_≡_, refl, ap}
 use mathlib.Core.Bool.{Bool, true, false, _&&_}
 use mathlib.Core.Option.{Option, none, some}
 use mathlib.Core.List.{List, [], _∷_, _++_}
@@ -9,7 +9,7 @@ use native.Mathlib.Omega.{arith}
 use lib.ListN.{length, getD}
 use lib.Dec.{T, leb, ltb, ltb→lt}
 use borrow.Author.Tests.{leb-true}
-use Rattle.octets.specs.Utf8.{Range, _to_, within, table, rowIn, following, utf8After, isUtf8, Sequence, WellFormed, nothing, and-then, Means}
+use Rattle.octets.specs.Utf8.{Range, within, table, rowIn, utf8After, isUtf8, Sequence, WellFormed, nothing, and-then, Means}
 use Rattle.octets.proofs.Sequences.{T-and, over, above-range}
 
 and-true : (a b : Bool) → (a && b) ≡ true → (a ≡ true) × (b ≡ true)
