@@ -3,3 +3,4 @@ pub mod Sequences
 pub mod Numbers
 pub mod Laws
 pub mod WellFormed
+pub mod Examples

@@ -1,10 +1,18 @@
--- Octets at a position of a slice: what reading finds there, and what writing leaves. A position past the end has no octets, not even none.
+-- Octets at a position of a slice: what a read there answers, and what a write answers and leaves. A position past the end is refused, even
+-- where no octets are asked for.
+--
+--   out before a write at `at`   | out 0 .. at - 1 | n octets          | the rest |
+--   out after it                 | the same        | the written ones  | the same |
+--
 --   has n s at           == s has n octets from position `at` on
 --   part n s at          == those octets
 --   written xs out at    == out with xs in the place of as many octets from position `at` on
 --   le xs                == the number whose octets are xs, least significant first
---   leBytes n v          == the n octets of v, least significant first
---   beBytes n v          == the n octets of v, most significant first
+--   leBytes n v          == the n octets of v, least significant first; beBytes n v: most significant first
+--   skipTo, sliceRead, u8Read, u16Read, u32Read, arrayRead     == what each read answers
+--   filled s at dst      == dst after a read into it
+--   writeTo n out at     == what a write of n octets answers; outAfter xs out at: what out holds after a write of xs
+--   fitting xs out at    == the first octets of xs, as many as there is space for; truncateTo: what a write of these answers
 use Prim.Native.Nat.{ℕ, zero, suc, _+_, _*_, _-_, _/_, _%_}
 use mathlib.Core.Bool.{Bool, cond}
 use mathlib.Core.List.{List, [], _∷_, _++_, reverse}
@@ -84,7 +92,6 @@ abbrev pub countedTo : ℕ → Written → Truncated
 countedTo n (written'.To next) = truncated.To n next
 countedTo n (written'.Refused e) = truncated.Refused e
 
--- the first octets of xs, as many as there is space for from position `at` of `out` on; a truncated write writes these
 abbrev pub fitting : List ℕ → List ℕ → ℕ → List ℕ
 fitting xs out at = take (length out - at) xs
 

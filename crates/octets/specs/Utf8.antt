@@ -30,14 +30,23 @@ tail = 0x80 to 0xBF
 -- a row has the range of each octet of a sequence
 abbrev pub table : List (List Range)
 table =
+    -- U+0000 to U+007F
     (0x00 to 0x7F ∷ [])
+    -- U+0080 to U+07FF
     ∷ (0xC2 to 0xDF ∷ tail ∷ [])
+    -- U+0800 to U+0FFF: a second octet below A0 would be overlong
     ∷ (0xE0 to 0xE0 ∷ 0xA0 to 0xBF ∷ tail ∷ [])
+    -- U+1000 to U+CFFF
     ∷ (0xE1 to 0xEC ∷ tail ∷ tail ∷ [])
+    -- U+D000 to U+D7FF: a second octet above 9F would be a surrogate
     ∷ (0xED to 0xED ∷ 0x80 to 0x9F ∷ tail ∷ [])
+    -- U+E000 to U+FFFF
     ∷ (0xEE to 0xEF ∷ tail ∷ tail ∷ [])
+    -- U+10000 to U+3FFFF: a second octet below 90 would be overlong
     ∷ (0xF0 to 0xF0 ∷ 0x90 to 0xBF ∷ tail ∷ tail ∷ [])
+    -- U+40000 to U+FFFFF
     ∷ (0xF1 to 0xF3 ∷ tail ∷ tail ∷ tail ∷ [])
+    -- U+100000 to U+10FFFF: a second octet above 8F would be past the last code point
     ∷ (0xF4 to 0xF4 ∷ 0x80 to 0x8F ∷ tail ∷ tail ∷ [])
     ∷ []
 

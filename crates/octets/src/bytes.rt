@@ -7,14 +7,26 @@ ghost use lib.ListN.{length};
 ghost use Rattle.octets.specs.Bytes.{le, leBytes, beBytes, skipTo, u8Read, u16Read, u32Read, sliceRead, filled, arrayRead, writeTo, outAfter, fitting, countedTo, truncateTo};
 use crate::error::Error;
 
-// A position from which octets are read. rubble's holds the slice; here each call is lent it.
+// A position to which octets are written; those before it are kept. rubble's writer holds the slice; here each call is lent it.
+pub struct ByteWriter {
+    pub at: usize,
+}
+
+// A position from which octets are read.
 pub struct ByteReader {
     pub at: usize,
 }
 
-// A position to which octets are written. The octets before it are kept.
-pub struct ByteWriter {
-    pub at: usize,
+// The position after what was written.
+pub enum Written {
+    To(ByteWriter),
+    Refused(Error),
+}
+
+// The number of octets written, and the position after them.
+pub enum Truncated {
+    To(usize, ByteWriter),
+    Refused(Error),
 }
 
 // The position after what was passed over or read.
@@ -57,18 +69,6 @@ pub struct Array5Read {
 pub struct Array6Read {
     pub octets: [u8; 6],
     pub read: Skipped,
-}
-
-// The position after what was written.
-pub enum Written {
-    To(ByteWriter),
-    Refused(Error),
-}
-
-// The number of octets written, and the position after them.
-pub enum Truncated {
-    To(usize, ByteWriter),
-    Refused(Error),
 }
 
 // Copies src over dst, which is as long.
@@ -139,6 +139,82 @@ pub fn u32_to_be_bytes(value: u32) -> [u8; 4]
 {
     let le = u32_to_le_bytes(value);
     [le[3], le[2], le[1], le[0]]
+}
+
+impl ByteWriter {
+    // A writer that begins at the front.
+    pub fn new() -> ByteWriter
+        ensures { λ r. ⌜ r .at ≡ 0 ⌝ }
+    {
+        ByteWriter { at: 0 }
+    }
+
+    // Passes over n octets, which are kept.
+    pub fn skip(self, out: &[u8], n: usize) -> Written
+        ensures { λ r. ⌜ r ≡ writeTo n (now (out .entry)) (self .at) ⌝ }
+    {
+        let at = self.at;
+        if out.len() < at {
+            return Written::Refused(Error::Eof);
+        }
+        if out.len() - at < n {
+            return Written::Refused(Error::Eof);
+        }
+        Written::To(ByteWriter { at: at + n })
+    }
+
+    // How many octets can be written, none from a position past the end.
+    pub fn space_left(self, out: &[u8]) -> usize
+        ensures { λ r. ⌜ r ≡ length (now (out .entry)) - self .at ⌝ }
+    {
+        let at = self.at;
+        if out.len() < at { 0 } else { out.len() - at }
+    }
+
+    // Writes all of `other`, or nothing.
+    pub fn write_slice(self, out: &mut [u8], other: &[u8]) -> Written
+        ensures { λ r. ⌜ (r ≡ writeTo (length (now (other .entry))) (now (out .entry)) (self .at)) × (now (out .exit) ≡ outAfter (now (other .entry)) (now (out .entry)) (self .at)) ⌝ }
+    {
+        let at = self.at;
+        if out.len() < at {
+            return Written::Refused(Error::Eof);
+        }
+        if out.len() - at < other.len() {
+            return Written::Refused(Error::Eof);
+        }
+        let end = at + other.len();
+        copy(other, &mut out[at..end]);
+        Written::To(ByteWriter { at: end })
+    }
+
+    // Writes the first octets of `other`, as many as there is space for.
+    pub fn write_slice_truncate(self, out: &mut [u8], other: &[u8]) -> Truncated
+        ensures { λ r. ⌜ (r ≡ truncateTo (now (other .entry)) (now (out .entry)) (self .at)) × (now (out .exit) ≡ outAfter (fitting (now (other .entry)) (now (out .entry)) (self .at)) (now (out .entry)) (self .at)) ⌝ }
+    {
+        let n = least(other.len(), self.space_left(out));
+        counted(n, self.write_slice(out, &other[..n]))
+    }
+
+    pub fn write_u8(self, out: &mut [u8], byte: u8) -> Written
+        ensures { λ r. ⌜ (r ≡ writeTo 1 (now (out .entry)) (self .at)) × (now (out .exit) ≡ outAfter (byte ∷ []) (now (out .entry)) (self .at)) ⌝ }
+    {
+        let octets = [byte];
+        self.write_slice(out, &octets)
+    }
+
+    pub fn write_u16_le(self, out: &mut [u8], value: u16) -> Written
+        ensures { λ r. ⌜ (r ≡ writeTo 2 (now (out .entry)) (self .at)) × (now (out .exit) ≡ outAfter (leBytes 2 value) (now (out .entry)) (self .at)) ⌝ }
+    {
+        let octets = u16_to_le_bytes(value);
+        self.write_slice(out, &octets)
+    }
+
+    pub fn write_u32_le(self, out: &mut [u8], value: u32) -> Written
+        ensures { λ r. ⌜ (r ≡ writeTo 4 (now (out .entry)) (self .at)) × (now (out .exit) ≡ outAfter (leBytes 4 value) (now (out .entry)) (self .at)) ⌝ }
+    {
+        let octets = u32_to_le_bytes(value);
+        self.write_slice(out, &octets)
+    }
 }
 
 impl ByteReader {
@@ -262,81 +338,5 @@ impl ByteReader {
             u32_from_le_bytes(s[at], s[at + 1], s[at + 2], s[at + 3]),
             ByteReader { at: at + 4 },
         )
-    }
-}
-
-impl ByteWriter {
-    // A writer that begins at the front.
-    pub fn new() -> ByteWriter
-        ensures { λ r. ⌜ r .at ≡ 0 ⌝ }
-    {
-        ByteWriter { at: 0 }
-    }
-
-    // Passes over n octets, which are kept.
-    pub fn skip(self, out: &[u8], n: usize) -> Written
-        ensures { λ r. ⌜ r ≡ writeTo n (now (out .entry)) (self .at) ⌝ }
-    {
-        let at = self.at;
-        if out.len() < at {
-            return Written::Refused(Error::Eof);
-        }
-        if out.len() - at < n {
-            return Written::Refused(Error::Eof);
-        }
-        Written::To(ByteWriter { at: at + n })
-    }
-
-    // How many octets can be written, none from a position past the end.
-    pub fn space_left(self, out: &[u8]) -> usize
-        ensures { λ r. ⌜ r ≡ length (now (out .entry)) - self .at ⌝ }
-    {
-        let at = self.at;
-        if out.len() < at { 0 } else { out.len() - at }
-    }
-
-    // Writes all of `other`, or nothing.
-    pub fn write_slice(self, out: &mut [u8], other: &[u8]) -> Written
-        ensures { λ r. ⌜ (r ≡ writeTo (length (now (other .entry))) (now (out .entry)) (self .at)) × (now (out .exit) ≡ outAfter (now (other .entry)) (now (out .entry)) (self .at)) ⌝ }
-    {
-        let at = self.at;
-        if out.len() < at {
-            return Written::Refused(Error::Eof);
-        }
-        if out.len() - at < other.len() {
-            return Written::Refused(Error::Eof);
-        }
-        let end = at + other.len();
-        copy(other, &mut out[at..end]);
-        Written::To(ByteWriter { at: end })
-    }
-
-    // Writes the first octets of `other`, as many as there is space for.
-    pub fn write_slice_truncate(self, out: &mut [u8], other: &[u8]) -> Truncated
-        ensures { λ r. ⌜ (r ≡ truncateTo (now (other .entry)) (now (out .entry)) (self .at)) × (now (out .exit) ≡ outAfter (fitting (now (other .entry)) (now (out .entry)) (self .at)) (now (out .entry)) (self .at)) ⌝ }
-    {
-        let n = least(other.len(), self.space_left(out));
-        counted(n, self.write_slice(out, &other[..n]))
-    }
-
-    pub fn write_u8(self, out: &mut [u8], byte: u8) -> Written
-        ensures { λ r. ⌜ (r ≡ writeTo 1 (now (out .entry)) (self .at)) × (now (out .exit) ≡ outAfter (byte ∷ []) (now (out .entry)) (self .at)) ⌝ }
-    {
-        let octets = [byte];
-        self.write_slice(out, &octets)
-    }
-
-    pub fn write_u16_le(self, out: &mut [u8], value: u16) -> Written
-        ensures { λ r. ⌜ (r ≡ writeTo 2 (now (out .entry)) (self .at)) × (now (out .exit) ≡ outAfter (leBytes 2 value) (now (out .entry)) (self .at)) ⌝ }
-    {
-        let octets = u16_to_le_bytes(value);
-        self.write_slice(out, &octets)
-    }
-
-    pub fn write_u32_le(self, out: &mut [u8], value: u32) -> Written
-        ensures { λ r. ⌜ (r ≡ writeTo 4 (now (out .entry)) (self .at)) × (now (out .exit) ≡ outAfter (leBytes 4 value) (now (out .entry)) (self .at)) ⌝ }
-    {
-        let octets = u32_to_le_bytes(value);
-        self.write_slice(out, &octets)
     }
 }

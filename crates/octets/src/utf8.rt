@@ -3,7 +3,7 @@ ghost use mathlib.Core.Path.{_≡_};
 ghost use Rattle.octets.specs.Utf8.{table, rowIn, rowFrom, isUtf8};
 
 // What may follow a lead octet: `count` octets, the first of them from `low` to `high`, the others from 80 to BF.
-pub enum Lead {
+enum Lead {
     Before { count: usize, low: u8, high: u8 },
     // No sequence begins so.
     Never,
@@ -62,6 +62,7 @@ fn lead_of(b: u8) -> Lead
     }
 }
 
+// Whether the octets are well-formed UTF-8.
 pub fn is_utf8(s: &[u8]) -> bool
     ensures { λ r. ⌜ r ≡ isUtf8 (now (s .entry)) ⌝ }
 {

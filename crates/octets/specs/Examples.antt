@@ -1,0 +1,23 @@
+-- Worked values of the Core and of the Unicode Standard, on the definitions.
+use mathlib.Core.Path.{_≡_}
+use mathlib.Core.Bool.{true, false}
+use mathlib.Core.List.{[], _∷_}
+use Rattle.octets.specs.Bytes.{le, leBytes}
+use Rattle.octets.specs.Time.{later}
+use Rattle.octets.specs.Utf8.{isUtf8}
+use Rattle.octets.specs.Uuid.{fullUuid}
+
+pub record Examples : Type 0 where
+  -- the access address of the advertising channels (the Core, Vol 6 Part B, 2.1.2) as it is sent
+  pub access-address : leBytes 4 0x8E89BED6 ≡ 0xD6 ∷ 0xBE ∷ 0x89 ∷ 0x8E ∷ []
+  pub interval : le (0x18 ∷ 0x00 ∷ []) ≡ 24
+  -- the Heart Rate service (the Core, Vol 3 Part B, 2.5.1; Assigned Numbers)
+  pub heart-rate : fullUuid 0x180D ≡ 0 ∷ 0 ∷ 0x18 ∷ 0x0D ∷ 0 ∷ 0 ∷ 0x10 ∷ 0 ∷ 0x80 ∷ 0 ∷ 0 ∷ 0x80 ∷ 0x5F ∷ 0x9B ∷ 0x34 ∷ 0xFB ∷ []
+  pub wraps : later 4294967295 1251 ≡ 1250
+  -- U+004D U+0430 U+4E8C U+10302 (Unicode, 3.9, D92); then octets that its text, or tables 3-8 to 3-11, call ill-formed
+  pub four-lengths : isUtf8 (0x4D ∷ 0xD0 ∷ 0xB0 ∷ 0xE4 ∷ 0xBA ∷ 0x8C ∷ 0xF0 ∷ 0x90 ∷ 0x8C ∷ 0x82 ∷ []) ≡ true
+  pub overlong-two : isUtf8 (0xC0 ∷ 0xAF ∷ []) ≡ false
+  pub overlong-three : isUtf8 (0xE0 ∷ 0x9F ∷ 0x80 ∷ []) ≡ false
+  pub surrogate : isUtf8 (0xED ∷ 0xA0 ∷ 0x80 ∷ []) ≡ false
+  pub past-the-last : isUtf8 (0xF4 ∷ 0x91 ∷ 0x92 ∷ 0x93 ∷ []) ≡ false
+  pub cut-short : isUtf8 (0xE1 ∷ 0x80 ∷ []) ≡ false
