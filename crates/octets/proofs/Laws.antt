@@ -84,6 +84,7 @@ pub read-back : (out : List ℕ) (at : ℕ) → ReadBack out at
 read-back out at =
     record {
       number = λ n v small h. ap le (part-back n (leBytes n v) out at (field n .as-long v) h) ∙ field n .number-back v small;
+      passed = λ xs h. rw (has-back (length xs) xs out at refl h);
       array = λ xs dst same h. rw (has-back (length dst) xs out at (sym same) (omega arith)) (part-back (length dst) xs out at (sym same) (omega arith));
       u8 = λ v h. rw (has-back 1 (v ∷ []) out at refl h, octet-back v out at h);
       u16 = λ v small h. rw (has-back 2 (leBytes 2 v) out at refl h, part-back 2 (leBytes 2 v) out at refl h, field 2 .number-back v small);

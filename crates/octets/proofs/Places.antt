@@ -1,5 +1,6 @@
--- Laws of octets at a position: which way a read or a write goes, and what a part and a written slice hold.
-use mathlib.Core.Path.{_≡_, refl, ap, _∙_}
+-- Laws of octets at a position: whether there are octets enough, and what a part and a written slice hold.
+-- Assumes nothing.
+use mathlib.Core.Path.{_≡_, refl, sym, ap, _∙_}
 use mathlib.Core.Bool.{Bool, true, false}
 use mathlib.Core.List.{List, [], _∷_}
 use Prim.Native.Nat.{ℕ, zero, suc, _+_, _-_, _≤_, _<_, min}
@@ -14,12 +15,21 @@ use Rattle.octets.specs.Bytes.{has, part, filled, writeTo, outAfter, fit
 use Rattle.octets.specs.declared.bytes.Written.{Written}
 use Rattle.octets.specs.declared.bytes.Truncated.{Truncated}
 
--- there are n octets from position `at` on, or there are not
+-- n octets are left behind a position
+pub left-has : (n at l : ℕ) → at ≤ l → leb n (l - at) ≡ leb (at + n) l
+left-has n at l h = go (leb n (l - at)) refl
+  where
+    go : (b : Bool) → leb n (l - at) ≡ b → leb n (l - at) ≡ leb (at + n) l
+    go true e =
+        let fits : n ≤ l - at = leb-true _ _ e in
+        e ∙ sym (le-leb (at + n) l (omega arith))
+    go false e =
+        let short : l - at < n = leb-false _ _ e in
+        e ∙ sym (lt-leb (at + n) l (omega arith))
+
+-- there are n octets from position `at` on
 pub enough : (n : ℕ) (s : List ℕ) (at : ℕ) → at + n ≤ length s → has n s at ≡ true
 enough n s at h = le-leb (at + n) (length s) h
-
-pub too-few : (n : ℕ) (s : List ℕ) (at : ℕ) → length s < at + n → has n s at ≡ false
-too-few n s at h = lt-leb (at + n) (length s) h
 
 -- what begins at a position: the octet there, and what begins at the next position
 pub front : (s : List ℕ) (at : ℕ) → at < length s → drop at s ≡ getD s at 0 ∷ drop (at + 1) s

@@ -1,4 +1,5 @@
--- Laws of the table of UTF-8 sequences and of reading by it.
+-- Laws of the table of UTF-8 sequences and of reading by it, octet by octet.
+-- Assumes nothing.
 use mathlib.Core.Path.{_≡_, refl, sym, _∙_}
 use mathlib.Core.Bool.{Bool, true, false, _&&_}
 use mathlib.Core.Option.{none, some}
@@ -7,15 +8,15 @@ use Prim.Native.Nat.{ℕ, zero, suc, _+_, _-_, _≤_, _<_}
 use native.Mathlib.Numerals.{sub-one}
 use native.Mathlib.Omega.{arith}
 use lib.ListN.{length, getD, take, drop, drop-of-length-le}
-use lib.Dec.{T, leb, ltb, eqb, ltb→lt, eqb·suc-zero}
-use borrow.Author.Tests.{le-leb, lt-leb}
+use lib.Dec.{leb, ltb, eqb, eqb·suc-zero}
+use borrow.Author.Tests.{le-leb, lt-leb, ltb-true}
 use Rattle.octets.specs.Utf8.{Range, _to_, within, table, rowIn, following, utf8After, pending, isUtf8, rowFrom}
 use Rattle.octets.specs.declared.utf8.Lead.{Lead}
 use Rattle.octets.proofs.Places.{front}
 
-pub T-and : (a b : Bool) → T (a && b) → T a × T b
-T-and true b t = (tt, t)
-T-and false b t = absurd t
+pub both-true : (a b : Bool) → (a && b) ≡ true → (a ≡ true) × (b ≡ true)
+both-true true b e = (refl, e)
+both-true false b e = absurd (let z : _≡_ {A = ℕ} 0 1 = cc in omega arith)
 
 -- b lies in a range, below it or above it
 pub in-range : (l h b : ℕ) → l ≤ b → b ≤ h → within b (l to h) ≡ true
@@ -43,34 +44,34 @@ over high ([] ∷ rows) = over high rows
 over high ((r ∷ rest) ∷ rows) = ltb high (r .low) && over high rows
 
 -- rows that begin below b are passed over
-past : (n : ℕ) (rows : List (List Range)) (low b : ℕ) → T (under low (take n rows)) → low ≤ b → rowIn rows b ≡ rowIn (drop n rows) b
+past : (n : ℕ) (rows : List (List Range)) (low b : ℕ) → under low (take n rows) ≡ true → low ≤ b → rowIn rows b ≡ rowIn (drop n rows) b
 unfolding rowIn
 past zero rows low b t h = refl
 past (suc n) [] low b t h = refl
 past (suc n) ([] ∷ rows) low b t h = past n rows low b t h
 past (suc n) ((r ∷ rest) ∷ rows) low b t h =
-    let parts = T-and (ltb (r .high) low) (under low (take n rows)) t in
+    let parts = both-true (ltb (r .high) low) (under low (take n rows)) t in
     let later = past n rows low b (parts .1) h in
-    rw (above-range (r .low) (r .high) b (omega (arith, ltb→lt (r .high) low (parts .0)))) later
+    rw (above-range (r .low) (r .high) b (omega (arith, ltb-true (r .high) low (parts .0)))) later
 
 -- no row begins with b where all begin above it
-ahead : (rows : List (List Range)) (high b : ℕ) → T (over high rows) → b ≤ high → rowIn rows b ≡ none
+ahead : (rows : List (List Range)) (high b : ℕ) → over high rows ≡ true → b ≤ high → rowIn rows b ≡ none
 unfolding rowIn
 ahead [] high b t h = refl
 ahead ([] ∷ rows) high b t h = ahead rows high b t h
 ahead ((r ∷ rest) ∷ rows) high b t h =
-    let parts = T-and (ltb high (r .low)) (over high rows) t in
+    let parts = both-true (ltb high (r .low)) (over high rows) t in
     let later = ahead rows high b (parts .1) h in
-    rw (below-range (r .low) (r .high) b (omega (arith, ltb→lt high (r .low) (parts .0)))) later
+    rw (below-range (r .low) (r .high) b (omega (arith, ltb-true high (r .low) (parts .0)))) later
 
 -- row k, from l to h, is the one that begins with b
-pub row : (k l h b : ℕ) {rest : List Range} {rows : List (List Range)} → drop k table ≡ (l to h ∷ rest) ∷ rows → T (under l (take k table)) → l ≤ b → b ≤ h
+pub row : (k l h b : ℕ) {rest : List Range} {rows : List (List Range)} → drop k table ≡ (l to h ∷ rest) ∷ rows → under l (take k table) ≡ true → l ≤ b → b ≤ h
     → some rest ≡ rowIn table b
 unfolding rowIn
 row k l h b {rest} is t low high = sym (past k table l b t low ∙ (rw (is, in-range l h b low high)))
 
 -- no row begins with b, which lies between those before row k and the others
-pub no-row : (k l h b : ℕ) → T (under l (take k table)) → T (over h (drop k table)) → l ≤ b → b ≤ h → none ≡ rowIn table b
+pub no-row : (k l h b : ℕ) → under l (take k table) ≡ true → over h (drop k table) ≡ true → l ≤ b → b ≤ h → none ≡ rowIn table b
 no-row k l h b before after low high = sym (past k table l b before low ∙ ahead (drop k table) h b after high)
 
 -- a loop over s is at position i, and `count` octets are still to follow, the next of them from `low` to `high`

@@ -7,17 +7,13 @@ use mathlib.Core.List.{List, [], _∷_, _++_}
 use Prim.Native.Nat.{ℕ, zero, suc, _<_, _≤_}
 use native.Mathlib.Omega.{arith}
 use lib.ListN.{length, getD}
-use lib.Dec.{T, leb, ltb, ltb→lt}
-use borrow.Author.Tests.{leb-true}
-use Rattle.octets.specs.Utf8.{Range, within, table, rowIn, utf8After, isUtf8, Sequence, WellFormed, nothing, and-then, Means}
-use Rattle.octets.proofs.Sequences.{T-and, over, above-range}
-
-and-true : (a b : Bool) → (a && b) ≡ true → (a ≡ true) × (b ≡ true)
-and-true true b e = (refl, e)
-and-true false b e = absurd (let z : _≡_ {A = ℕ} 0 1 = cc in omega arith)
+use lib.Dec.{leb, ltb}
+use borrow.Author.Tests.{leb-true, ltb-true}
+use Rattle.octets.specs.Utf8.{Range, within, table, rowIn, utf8After, isUtf8, Sequence, WellFormed, nothing, and-then, Utf8Is}
+use Rattle.octets.proofs.Sequences.{both-true, over, above-range}
 
 within-low : (b : ℕ) (r : Range) → within b r ≡ true → r .low ≤ b
-within-low b r e = leb-true (r .low) b (and-true (leb (r .low) b) (leb b (r .high)) e .0)
+within-low b r e = leb-true (r .low) b (both-true (leb (r .low) b) (leb b (r .high)) e .0)
 
 -- a row of the table, by its number, begins with b
 record Row (rows : List (List Range)) (b : ℕ) (rest : List Range) : Type 0 where
@@ -49,17 +45,17 @@ separate [] = true
 separate ([] ∷ rows) = separate rows
 separate ((r ∷ row) ∷ rows) = over (r .high) rows && separate rows
 
-above : (rows : List (List Range)) (high : ℕ) → T (over high rows) → (k : ℕ) (first : Range) (rest : List Range) → getD rows k [] ≡ first ∷ rest → high < first .low
-above [] high t k first rest is = absurd (let z : _≡_ {A = ℕ} 0 1 = cc in omega arith)
-above ([] ∷ rows) high t zero first rest is = absurd (let z : _≡_ {A = ℕ} 0 1 = cc in omega arith)
-above ([] ∷ rows) high t (suc k) first rest is = above rows high t k first rest is
-above ((r ∷ row) ∷ rows) high t zero first rest is =
+begins-above : (rows : List (List Range)) (high : ℕ) → over high rows ≡ true → (k : ℕ) (first : Range) (rest : List Range) → getD rows k [] ≡ first ∷ rest → high < first .low
+begins-above [] high t k first rest is = absurd (let z : _≡_ {A = ℕ} 0 1 = cc in omega arith)
+begins-above ([] ∷ rows) high t zero first rest is = absurd (let z : _≡_ {A = ℕ} 0 1 = cc in omega arith)
+begins-above ([] ∷ rows) high t (suc k) first rest is = begins-above rows high t k first rest is
+begins-above ((r ∷ row) ∷ rows) high t zero first rest is =
     let same : r ≡ first = cc in
-    rw (← same) (ltb→lt high (r .low) (T-and (ltb high (r .low)) (over high rows) t .0))
-above ((r ∷ row) ∷ rows) high t (suc k) first rest is = above rows high (T-and (ltb high (r .low)) (over high rows) t .1) k first rest is
+    rw (← same) (ltb-true high (r .low) (both-true (ltb high (r .low)) (over high rows) t .0))
+begins-above ((r ∷ row) ∷ rows) high t (suc k) first rest is = begins-above rows high (both-true (ltb high (r .low)) (over high rows) t .1) k first rest is
 
 -- the row that begins with b is the one that is found
-row-is : (rows : List (List Range)) (b : ℕ) → T (separate rows) → (k : ℕ) (first : Range) (rest : List Range) → getD rows k [] ≡ first ∷ rest → within b first ≡ true
+row-is : (rows : List (List Range)) (b : ℕ) → separate rows ≡ true → (k : ℕ) (first : Range) (rest : List Range) → getD rows k [] ≡ first ∷ rest → within b first ≡ true
     → rowIn rows b ≡ some rest
 unfolding rowIn separate
 row-is [] b t k first rest is begins = absurd (let z : _≡_ {A = ℕ} 0 1 = cc in omega arith)
@@ -70,8 +66,8 @@ row-is ((r ∷ row) ∷ rows) b t zero first rest is begins =
     let others : row ≡ rest = cc in
     rw (same, begins, others)
 row-is ((r ∷ row) ∷ rows) b t (suc k) first rest is begins =
-    let parts = T-and (over (r .high) rows) (separate rows) t in
-    let low = above rows (r .high) (parts .0) k first rest is in
+    let parts = both-true (over (r .high) rows) (separate rows) t in
+    let low = begins-above rows (r .high) (parts .0) k first rest is in
     rw (above-range (r .low) (r .high) b (omega (arith, within-low b first begins))) (row-is rows b (parts .1) k first rest is begins)
 
 -- s is octets that finish a sequence, of which these ranges are left, and then whole sequences
@@ -101,7 +97,7 @@ finishes (b ∷ s) [] e = go (rowIn table b) refl (finishes s)
           more = and-then (r .k) (b ∷ f .octets) (f .rest) (ap (λ (l : List ℕ). b ∷ l) (f .split)) (r .listed) (rw (r .is) (r .begins, f .sequence)) (f .more);
         }
 finishes (b ∷ s) (r ∷ ranges) e =
-    let parts = and-true (within b r) (utf8After s ranges) e in
+    let parts = both-true (within b r) (utf8After s ranges) e in
     let f = finishes s ranges (parts .1) in
     record { octets = b ∷ f .octets; rest = f .rest; split = ap (λ (l : List ℕ). b ∷ l) (f .split); sequence = (parts .0, f .sequence); more = f .more }
 
@@ -114,18 +110,18 @@ finished (b ∷ octets) rest [] sequence e = absurd sequence
 finished (b ∷ octets) rest (r ∷ ranges) sequence e = rw (sequence .0) (finished octets rest ranges (sequence .1) e)
 
 -- a sequence of the table, before octets that are read to the end
-led : (k : ℕ) (octets rest : List ℕ) (row : List Range) → getD table k [] ≡ row → k < length table → Sequence row octets → utf8After rest [] ≡ true
+sequence-read : (k : ℕ) (octets rest : List ℕ) (row : List Range) → getD table k [] ≡ row → k < length table → Sequence row octets → utf8After rest [] ≡ true
     → utf8After (octets ++ rest) [] ≡ true
 unfolding utf8After separate
-led k [] rest [] is listed sequence e = e
-led k [] rest (r ∷ row) is listed sequence e = absurd sequence
-led k (b ∷ octets) rest [] is listed sequence e = absurd sequence
-led k (b ∷ octets) rest (r ∷ row) is listed sequence e = rw (row-is table b tt k r row is (sequence .0)) (finished octets rest row (sequence .1) e)
+sequence-read k [] rest [] is listed sequence e = e
+sequence-read k [] rest (r ∷ row) is listed sequence e = absurd sequence
+sequence-read k (b ∷ octets) rest [] is listed sequence e = absurd sequence
+sequence-read k (b ∷ octets) rest (r ∷ row) is listed sequence e = rw (row-is table b refl k r row is (sequence .0)) (finished octets rest row (sequence .1) e)
 
 complete : (s : List ℕ) → WellFormed s → isUtf8 s ≡ true
 unfolding utf8After
 complete s nothing = refl
-complete s (and-then k octets rest split listed sequence more) = rw split (led k octets rest (getD table k []) refl listed sequence (complete rest more))
+complete s (and-then k octets rest split listed sequence more) = rw split (sequence-read k octets rest (getD table k []) refl listed sequence (complete rest more))
 
 -- where nothing is left to finish, the rest is all
 ended : (octets rest s : List ℕ) → Sequence [] octets → s ≡ octets ++ rest → WellFormed rest → WellFormed s
@@ -137,5 +133,5 @@ sound s e =
     let f = finishes s [] e in
     ended (f .octets) (f .rest) s (f .sequence) (f .split) (f .more)
 
-pub utf8-means : (s : List ℕ) → Means s
-utf8-means s = record { sound = sound s; complete = complete s }
+pub utf8-is : (s : List ℕ) → Utf8Is s
+utf8-is s = record { sound = sound s; complete = complete s }

@@ -18,7 +18,6 @@ use mathlib.Core.Bool.{Bool, cond}
 use mathlib.Core.List.{List, [], _∷_, _++_, reverse}
 use lib.ListN.{length, take, drop, getD, replicate}
 use lib.Dec.{leb}
-use Rattle.octets.specs.declared.error.Error.{Error}
 use Rattle.octets.specs.declared.error.Error.the-variants.{Eof}
 use Rattle.octets.specs.declared.bytes.ByteReader.{ByteReader}
 use Rattle.octets.specs.declared.bytes.ByteWriter.{ByteWriter}

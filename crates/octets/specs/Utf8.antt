@@ -1,7 +1,7 @@
 -- Well-formed UTF-8: the table of well-formed byte sequences of the Unicode Standard (Table 3-7).
 --   table            == its rows, each with the range of every octet of a sequence
 --   isUtf8 s         == s is read, octet by octet, as whole sequences of the table
---   WellFormed s     == s is whole sequences of the table, one after the other; `Means s` says that both are the same
+--   WellFormed s     == s is whole sequences of the table, one after the other; `Utf8Is s`: both are the same
 use mathlib.Core.Path.{_≡_}
 use Prim.Native.Nat.{ℕ, zero, suc, _<_}
 use mathlib.Core.Bool.{Bool, true, false, cond, _&&_}
@@ -10,7 +10,7 @@ use mathlib.Core.List.{List, [], _∷_, _++_}
 use lib.ListN.{length, getD, replicate}
 use lib.Dec.{leb}
 use Rattle.octets.specs.declared.utf8.Lead.{Lead}
-use Rattle.octets.specs.declared.utf8.Lead.the-variants.{Before, Never}
+use Rattle.octets.specs.declared.utf8.Lead.the-variants.{Begins, Never}
 
 infix 80 _to_
 -- the octets from `low` to `high`
@@ -56,7 +56,7 @@ rowIn [] b = none
 rowIn ([] ∷ rows) b = rowIn rows b
 rowIn ((first ∷ rest) ∷ rows) b = cond (within b first) (some rest) (rowIn rows b)
 
--- the rest of a row, as the octets after it decide
+-- the octets after a lead octet, by what its row has left; none where it begins no row
 abbrev pub following : Option (List Range) → (List Range → Bool) → Bool
 following none after = false
 following (some rest) after = after rest
@@ -83,7 +83,7 @@ pub data WellFormed : List ℕ → Type 0 where
   -- a sequence of row k, then the rest
   and-then : {s : List ℕ} (k : ℕ) (octets rest : List ℕ) → s ≡ octets ++ rest → k < length table → Sequence (getD table k []) octets → WellFormed rest → WellFormed s
 
-pub record Means (s : List ℕ) : Type 0 where
+pub record Utf8Is (s : List ℕ) : Type 0 where
   pub sound : isUtf8 s ≡ true → WellFormed s
   pub complete : WellFormed s → isUtf8 s ≡ true
 
@@ -93,5 +93,5 @@ pending zero low high = []
 pending (suc count) low high = low to high ∷ replicate count tail
 
 abbrev pub rowFrom : Lead → Option (List Range)
-rowFrom (Before count low high) = some (pending count low high)
+rowFrom (Begins count low high) = some (pending count low high)
 rowFrom Never = none

@@ -4,7 +4,7 @@ ghost use mathlib.Core.List.{[], _∷_};
 ghost use Prim.Native.Nat.{_-_, min};
 ghost use lib.Dec.{leb};
 ghost use lib.ListN.{length};
-ghost use Rattle.octets.specs.Bytes.{le, leBytes, beBytes, skipTo, u8Read, u16Read, u32Read, sliceRead, filled, arrayRead, writeTo, outAfter, fitting, countedTo, truncateTo};
+ghost use Rattle.octets.specs.Bytes.{has, le, leBytes, beBytes, skipTo, u8Read, u16Read, u32Read, sliceRead, filled, arrayRead, writeTo, outAfter, fitting, countedTo, truncateTo};
 use crate::error::Error;
 
 // A position to which octets are written; those before it are kept. rubble's writer holds the slice; here each call is lent it.
@@ -69,6 +69,16 @@ pub struct Array5Read {
 pub struct Array6Read {
     pub octets: [u8; 6],
     pub read: Skipped,
+}
+
+// Whether s has n octets from position `at` on; past the end there are not even none.
+fn has_octets(s: &[u8], at: usize, n: usize) -> bool
+    ensures { λ r. ⌜ r ≡ has n (now (s .entry)) at ⌝ }
+{
+    if s.len() < at {
+        return false;
+    }
+    n <= s.len() - at
 }
 
 // Copies src over dst, which is as long.
@@ -154,13 +164,11 @@ impl ByteWriter {
         ensures { λ r. ⌜ r ≡ writeTo n (now (out .entry)) (self .at) ⌝ }
     {
         let at = self.at;
-        if out.len() < at {
-            return Written::Refused(Error::Eof);
+        if has_octets(out, at, n) {
+            Written::To(ByteWriter { at: at + n })
+        } else {
+            Written::Refused(Error::Eof)
         }
-        if out.len() - at < n {
-            return Written::Refused(Error::Eof);
-        }
-        Written::To(ByteWriter { at: at + n })
     }
 
     // How many octets can be written, none from a position past the end.
@@ -176,15 +184,13 @@ impl ByteWriter {
         ensures { λ r. ⌜ (r ≡ writeTo (length (now (other .entry))) (now (out .entry)) (self .at)) × (now (out .exit) ≡ outAfter (now (other .entry)) (now (out .entry)) (self .at)) ⌝ }
     {
         let at = self.at;
-        if out.len() < at {
-            return Written::Refused(Error::Eof);
+        if has_octets(out, at, other.len()) {
+            let end = at + other.len();
+            copy(other, &mut out[at..end]);
+            Written::To(ByteWriter { at: end })
+        } else {
+            Written::Refused(Error::Eof)
         }
-        if out.len() - at < other.len() {
-            return Written::Refused(Error::Eof);
-        }
-        let end = at + other.len();
-        copy(other, &mut out[at..end]);
-        Written::To(ByteWriter { at: end })
     }
 
     // Writes the first octets of `other`, as many as there is space for.
@@ -230,13 +236,11 @@ impl ByteReader {
         ensures { λ r. ⌜ r ≡ skipTo n (now (s .entry)) (self .at) ⌝ }
     {
         let at = self.at;
-        if s.len() < at {
-            return Skipped::Refused(Error::Eof);
+        if has_octets(s, at, n) {
+            Skipped::To(ByteReader { at: at + n })
+        } else {
+            Skipped::Refused(Error::Eof)
         }
-        if s.len() - at < n {
-            return Skipped::Refused(Error::Eof);
-        }
-        Skipped::To(ByteReader { at: at + n })
     }
 
     // How many octets are left, none from a position past the end.
@@ -259,16 +263,14 @@ impl ByteReader {
         ensures { λ r. ⌜ r ≡ sliceRead n (now (s .entry)) (self .at) ⌝ }
     {
         let at = self.at;
-        if s.len() < at {
-            return SliceRead::Refused(Error::Eof);
-        }
-        if s.len() - at < n {
-            return SliceRead::Refused(Error::Eof);
-        }
-        SliceRead::Part {
-            start: at,
-            len: n,
-            next: ByteReader { at: at + n },
+        if has_octets(s, at, n) {
+            SliceRead::Part {
+                start: at,
+                len: n,
+                next: ByteReader { at: at + n },
+            }
+        } else {
+            SliceRead::Refused(Error::Eof)
         }
     }
 
@@ -277,15 +279,13 @@ impl ByteReader {
         ensures { λ r. ⌜ (r ≡ skipTo (length (now (dst .entry))) (now (s .entry)) (self .at)) × (now (dst .exit) ≡ filled (now (s .entry)) (self .at) (now (dst .entry))) ⌝ }
     {
         let at = self.at;
-        if s.len() < at {
-            return Skipped::Refused(Error::Eof);
+        if has_octets(s, at, dst.len()) {
+            let end = at + dst.len();
+            copy(&s[at..end], dst);
+            Skipped::To(ByteReader { at: end })
+        } else {
+            Skipped::Refused(Error::Eof)
         }
-        if s.len() - at < dst.len() {
-            return Skipped::Refused(Error::Eof);
-        }
-        let end = at + dst.len();
-        copy(&s[at..end], dst);
-        Skipped::To(ByteReader { at: end })
     }
 
     pub fn read_array5(self, s: &[u8]) -> Array5Read
@@ -308,35 +308,34 @@ impl ByteReader {
         ensures { λ r. ⌜ r ≡ u8Read (now (s .entry)) (self .at) ⌝ }
     {
         let at = self.at;
-        if self.bytes_left(s) < 1 {
-            return U8Read::Refused(Error::Eof);
+        if has_octets(s, at, 1) {
+            U8Read::Value(s[at], ByteReader { at: at + 1 })
+        } else {
+            U8Read::Refused(Error::Eof)
         }
-        U8Read::Value(s[at], ByteReader { at: at + 1 })
     }
 
     pub fn read_u16_le(self, s: &[u8]) -> U16Read
         ensures { λ r. ⌜ r ≡ u16Read (now (s .entry)) (self .at) ⌝ }
     {
         let at = self.at;
-        if self.bytes_left(s) < 2 {
-            return U16Read::Refused(Error::Eof);
+        if has_octets(s, at, 2) {
+            let value = u16_from_le_bytes(s[at], s[at + 1]);
+            U16Read::Value(value, ByteReader { at: at + 2 })
+        } else {
+            U16Read::Refused(Error::Eof)
         }
-        U16Read::Value(
-            u16_from_le_bytes(s[at], s[at + 1]),
-            ByteReader { at: at + 2 },
-        )
     }
 
     pub fn read_u32_le(self, s: &[u8]) -> U32Read
         ensures { λ r. ⌜ r ≡ u32Read (now (s .entry)) (self .at) ⌝ }
     {
         let at = self.at;
-        if self.bytes_left(s) < 4 {
-            return U32Read::Refused(Error::Eof);
+        if has_octets(s, at, 4) {
+            let value = u32_from_le_bytes(s[at], s[at + 1], s[at + 2], s[at + 3]);
+            U32Read::Value(value, ByteReader { at: at + 4 })
+        } else {
+            U32Read::Refused(Error::Eof)
         }
-        U32Read::Value(
-            u32_from_le_bytes(s[at], s[at + 1], s[at + 2], s[at + 3]),
-            ByteReader { at: at + 4 },
-        )
     }
 }

@@ -2,9 +2,9 @@
 ghost use mathlib.Core.Path.{_≡_};
 ghost use Rattle.octets.specs.Utf8.{table, rowIn, rowFrom, isUtf8};
 
-// What may follow a lead octet: `count` octets, the first of them from `low` to `high`, the others from 80 to BF.
+// What a lead octet begins: a sequence in which `count` octets follow, the first of them from `low` to `high`, the others from 80 to BF.
 enum Lead {
-    Before { count: usize, low: u8, high: u8 },
+    Begins { count: usize, low: u8, high: u8 },
     // No sequence begins so.
     Never,
 }
@@ -13,47 +13,47 @@ fn lead_of(b: u8) -> Lead
     ensures { λ r. ⌜ rowFrom r ≡ rowIn table b ⌝ }
 {
     match b {
-        0x00..=0x7F => Lead::Before {
+        0x00..=0x7F => Lead::Begins {
             count: 0,
             low: 0x80,
             high: 0xBF,
         },
-        0xC2..=0xDF => Lead::Before {
+        0xC2..=0xDF => Lead::Begins {
             count: 1,
             low: 0x80,
             high: 0xBF,
         },
-        0xE0 => Lead::Before {
+        0xE0 => Lead::Begins {
             count: 2,
             low: 0xA0,
             high: 0xBF,
         },
-        0xE1..=0xEC => Lead::Before {
+        0xE1..=0xEC => Lead::Begins {
             count: 2,
             low: 0x80,
             high: 0xBF,
         },
-        0xED => Lead::Before {
+        0xED => Lead::Begins {
             count: 2,
             low: 0x80,
             high: 0x9F,
         },
-        0xEE..=0xEF => Lead::Before {
+        0xEE..=0xEF => Lead::Begins {
             count: 2,
             low: 0x80,
             high: 0xBF,
         },
-        0xF0 => Lead::Before {
+        0xF0 => Lead::Begins {
             count: 3,
             low: 0x90,
             high: 0xBF,
         },
-        0xF1..=0xF3 => Lead::Before {
+        0xF1..=0xF3 => Lead::Begins {
             count: 3,
             low: 0x80,
             high: 0xBF,
         },
-        0xF4 => Lead::Before {
+        0xF4 => Lead::Begins {
             count: 3,
             low: 0x80,
             high: 0x8F,
@@ -75,7 +75,7 @@ pub fn is_utf8(s: &[u8]) -> bool
         let b = s[i];
         if count == 0 {
             match lead_of(b) {
-                Lead::Before {
+                Lead::Begins {
                     count: n,
                     low: l,
                     high: h,

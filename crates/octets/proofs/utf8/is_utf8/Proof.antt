@@ -6,7 +6,7 @@ use Prim.Native.Nat.{_-_}
 use borrow.Author.Needs.{needs}
 use lib.ListN.{length}
 use Rattle.octets.specs.Utf8.{rowFrom}
-use Rattle.octets.specs.declared.utf8.Lead.the-variants.{Before, Never}
+use Rattle.octets.specs.declared.utf8.Lead.the-variants.{Begins, Never}
 use Rattle.octets.proofs.Sequences.{in-range, below-range, above-range, Reading, led, followed, done}
 use Rattle.octets.proofs.utf8.is_utf8.Statement.{statement}
 use Rattle.octets.proofs.utf8.is_utf8.Tie as tie
@@ -40,7 +40,7 @@ loop-again : tie.Need-loop-again Inv-loop μ-loop
 loop-again c =
     let at-test = c .before .before in
     ⊎-elim
-    (λ w. record { same = rw (w .5, w .6, w .7) (led (Before (w .3 .given .0 .0) (w .3 .given .0 .1 .0) (w .3 .given .0 .1 .1 .0)) (at-test .before .loop .inv) (at-test .loop-test .taken) (w .0 .taken) (ap rowFrom (sym (w .3 .given .1)) ∙ w .1 .ensures)) })
+    (λ w. record { same = rw (w .5, w .6, w .7) (led (Begins (w .3 .given .0 .0) (w .3 .given .0 .1 .0) (w .3 .given .0 .1 .1 .0)) (at-test .before .loop .inv) (at-test .loop-test .taken) (w .0 .taken) (ap rowFrom (sym (w .3 .given .1)) ∙ w .1 .ensures)) })
     (λ w. record { same = rw (w .3, w .4, w .5) (followed (at-test .before .loop .inv) (at-test .loop-test .taken) (w .0 .left) (in-range _ _ _ (w .1 .left) (w .2 .left))) })
     (c .if1 .came)
 
