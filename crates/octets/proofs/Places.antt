@@ -27,9 +27,12 @@ left-has n at l h = go (leb n (l - at)) refl
         let short : l - at < n = leb-false _ _ e in
         e ∙ sym (lt-leb (at + n) l (omega arith))
 
--- there are n octets from position `at` on
+-- there are n octets from position `at` on, or there are not
 pub enough : (n : ℕ) (s : List ℕ) (at : ℕ) → at + n ≤ length s → has n s at ≡ true
 enough n s at h = le-leb (at + n) (length s) h
+
+pub too-few : (n : ℕ) (s : List ℕ) (at : ℕ) → length s < at + n → has n s at ≡ false
+too-few n s at h = lt-leb (at + n) (length s) h
 
 -- what begins at a position: the octet there, and what begins at the next position
 pub front : (s : List ℕ) (at : ℕ) → at < length s → drop at s ≡ getD s at 0 ∷ drop (at + 1) s
