@@ -1,0 +1,10 @@
+pub mod Lists
+pub mod Pairs
+pub mod Cuts
+pub mod Again
+pub mod Rewritten
+pub mod Accepted
+pub mod RoundTrip
+pub mod ReadBack
+pub mod Rows
+pub mod Uuids

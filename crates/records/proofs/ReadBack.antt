@@ -1,0 +1,157 @@
+-- What reading finds of a record that was written: `written-and-read-back`, and a write that is not read back: `not-as-itself`.
+-- Assumes nothing.
+use mathlib.Core.Path.{_≡_, refl, sym, ap, _∙_}
+use mathlib.Core.Bool.{Bool, true, false, cond}
+use mathlib.Core.List.{List, [], _∷_, _++_}
+use Prim.Native.Nat.{ℕ, suc, _+_, _-_, _≤_, _<_, _^_}
+use native.Mathlib.Nat.{add-zero}
+use native.Mathlib.Omega.{arith}
+use lib.ListN.{length, take, drop, length-append, length-take, length-drop}
+use lib.Seq.{length-take-le, take-at, drop-at, drop-drop}
+use lib.Dec.{ltb, eqb, eqb·suc-zero}
+use borrow.Author.Tests.{leb-true, ltb-false, le-ltb, ne-eqb}
+use Rattle.octets.specs.declared.error.Error.{Error}
+use Rattle.octets.specs.declared.error.Error.the-variants.{Eof, InvalidValue, RecordLength}
+use Rattle.octets.specs.declared.uuid.UuidKind.{UuidKind}
+use Rattle.octets.specs.declared.uuid.UuidKind.the-variants.{Uuid16, Uuid32, Uuid128}
+use Rattle.octets.specs.Utf8.{isUtf8}
+use Rattle.octets.specs.Bytes.{has, part, le, leBytes, written}
+use Rattle.octets.proofs.Laws.{written-keeps}
+use Rattle.octets.proofs.Numbers.{field}
+use Rattle.octets.proofs.Places.{enough}
+use Rattle.records.specs.declared.ad_structure.AdStructure.{AdStructure}
+use Rattle.records.specs.declared.ad_structure.AdStructure.the-variants as ad
+use Rattle.records.specs.declared.ad_structure.Parsed.the-variants.{Structure}
+use Rattle.records.specs.declared.ad_structure.Checked.{Checked}
+use Rattle.records.specs.declared.ad_structure.Checked.the-variants.{Fine}
+use Rattle.records.specs.Record.{recordOf, named, flagsRead, wholeUuids, uuidList, uuidsRead, localName, nameRead, serviceData, manufacturerData, pairRead, dataRead, kindRead, upTo, recordRead, first, recordAt, lentRead, knownRead}
+use Rattle.records.specs.Write.{typeOf, ownOf, startOf, lenOf, listCheck, nameCheck, checkOf, dataOf, andThen, mayWrite, octetsOf, writtenAfter}
+use Rattle.records.specs.ReadBack.{movedTo, AsItself, OfKnownType, leftAs, ReadBack, WrittenAndReadBack, NotAsItself}
+use Rattle.records.proofs.Again.{named-twice}
+
+-- what was tested of a record that may be written
+record May (a : AdStructure) (s out : List ℕ) (at : ℕ) : Type 0 where
+  placed : startOf a + lenOf a ≤ length s
+  checked : checkOf a (part (lenOf a) s (startOf a)) ≡ Fine
+  space : at + (length (dataOf a s) + 2) ≤ length out
+
+may : (a : AdStructure) (s out : List ℕ) (at : ℕ) → mayWrite a s out at ≡ Fine → May a s out at
+unfolding mayWrite
+may a s out at = go (has (lenOf a) s (startOf a)) (checkOf a (part (lenOf a) s (startOf a))) (has (length (dataOf a s) + 2) out at) (ltb 255 (length (dataOf a s) + 1)) refl refl refl
+  where
+    go : (there : Bool) (check : Checked) (room long : Bool) → has (lenOf a) s (startOf a) ≡ there → checkOf a (part (lenOf a) s (startOf a)) ≡ check
+        → has (length (dataOf a s) + 2) out at ≡ room
+        → cond there (andThen check (cond room (cond long (Checked.Refused RecordLength) Fine) (Checked.Refused Eof))) (Checked.Refused Eof) ≡ Fine → May a s out at
+    go false check room long t c r e = absurd (let z : _≡_ {A = ℕ} 0 1 = cc in omega arith)
+    go true (Checked.Refused k) room long t c r e = absurd (let z : _≡_ {A = ℕ} 0 1 = cc in omega arith)
+    go true Fine false long t c r e = absurd (let z : _≡_ {A = ℕ} 0 1 = cc in omega arith)
+    go true Fine true long t c r e = record { placed = leb-true (startOf a + lenOf a) (length s) t; checked = c; space = leb-true (at + (length (dataOf a s) + 2)) (length out) r }
+
+-- what begins at the position of a record that was written, and what begins at its data
+module _ (ty : ℕ) (d out : List ℕ) (at : ℕ) (space : at + (length d + 2) ≤ length out) where
+  behind : List ℕ
+  behind = drop (at + suc (suc (length d))) out
+
+  begins : drop at (written (recordOf ty d) out at) ≡ suc (length d) ∷ ty ∷ (d ++ behind)
+  unfolding recordOf behind
+  begins = drop-at (take at out) (recordOf ty d ++ behind) at (length-take-le at out (omega arith))
+
+  long : length (written (recordOf ty d) out at) ≡ length out
+  unfolding recordOf
+  long = written-keeps (recordOf ty d) out at (omega arith) .as-long
+
+  data-there : part (length d) (written (recordOf ty d) out at) (at + 2) ≡ d
+  data-there = rw (← drop-drop, begins) (take-at d behind (length d) refl)
+
+  read-written : recordAt (written (recordOf ty d) out at) at ≡ upTo (at + length (recordOf ty d)) (dataRead ty d (at + 2))
+  unfolding recordAt first recordRead recordOf
+  read-written =
+      rw (le-ltb (length (written (recordOf ty d) out at)) at (omega (arith, long)), begins, take-at d behind (length d) refl, eqb·suc-zero, le-ltb (suc (length d)) (suc (length d)) (omega arith))
+
+-- the lent part is as long as it says
+lent-long : (len start : ℕ) (s : List ℕ) → start + len ≤ length s → length (part len s start) ≡ len
+lent-long len start s h = rw (length-take, length-drop) (omega arith)
+
+-- a list or a name that passed its check
+whole-fine : (b : Bool) (e : Error) → cond b Fine (Checked.Refused e) ≡ Fine → b ≡ true
+whole-fine true e h = refl
+whole-fine false e h = absurd (let z : _≡_ {A = ℕ} 0 1 = cc in omega arith)
+
+uuids-back : (k : UuidKind) (complete : Bool) (len from : ℕ) (s : List ℕ) (start : ℕ) → from + len ≤ length s → listCheck k (part len s from) ≡ Fine
+    → uuidsRead k complete (part len s from) start ≡ Structure (uuidList k complete start len)
+unfolding uuidsRead
+uuids-back k complete len from s start placed fine = rw (whole-fine (wholeUuids k (part len s from)) Eof fine, lent-long len from s placed)
+
+name-back : (complete : Bool) (len from : ℕ) (s : List ℕ) (start : ℕ) → from + len ≤ length s → nameCheck (part len s from) ≡ Fine
+    → nameRead complete (part len s from) start ≡ Structure (localName complete start len)
+unfolding nameRead
+name-back complete len from s start placed fine = rw (whole-fine (isUtf8 (part len s from)) InvalidValue fine, lent-long len from s placed)
+
+read-itself : (a : AdStructure) (s out : List ℕ) (at start : ℕ) → May a s out at → AsItself a → dataRead (typeOf a) (dataOf a s) start ≡ Structure (movedTo start a)
+unfolding dataRead dataOf flagsRead
+read-itself (ad.Flags f) s out at start m is = ap (λ (x : ℕ). Structure (ad.Flags (record { bits = x }))) (named-twice (f .bits))
+read-itself (ad.ServiceUuids16 true from len) s out at start m is = uuids-back Uuid16 true len from s start (m .placed) (m .checked)
+read-itself (ad.ServiceUuids16 false from len) s out at start m is = uuids-back Uuid16 false len from s start (m .placed) (m .checked)
+read-itself (ad.ServiceUuids32 complete from len) s out at start m is = absurd is
+read-itself (ad.ServiceUuids128 complete from len) s out at start m is = absurd is
+read-itself (ad.ServiceData16 uuid from len) s out at start m is = absurd is
+read-itself (ad.CompleteLocalName from len) s out at start m is = absurd is
+read-itself (ad.ShortenedLocalName from len) s out at start m is = absurd is
+read-itself (ad.ManufacturerSpecificData company from len) s out at start m is = absurd is
+read-itself (ad.Unknown ty from len) s out at start m is = rw (ne-eqb ty 1 (is .0), ne-eqb ty 2 (is .1), ne-eqb ty 3 (is .2), lent-long len from s (m .placed))
+
+left : (a : AdStructure) (s : List ℕ) (start : ℕ) → OfKnownType a → dataRead (typeOf a) (dataOf a s) start ≡ Structure (leftAs a s start)
+unfolding dataRead
+left (ad.Flags f) s start is = absurd is
+left (ad.ServiceUuids16 complete from len) s start is = absurd is
+left (ad.ServiceUuids32 true from len) s start is = refl
+left (ad.ServiceUuids32 false from len) s start is = refl
+left (ad.ServiceUuids128 true from len) s start is = refl
+left (ad.ServiceUuids128 false from len) s start is = refl
+left (ad.ServiceData16 uuid from len) s start is = refl
+left (ad.CompleteLocalName from len) s start is = refl
+left (ad.ShortenedLocalName from len) s start is = refl
+left (ad.ManufacturerSpecificData company from len) s start is = refl
+left (ad.Unknown ty from len) s start is = absurd is
+
+-- a number of two octets and the data after it
+pair-back : (kind : ℕ → ℕ → ℕ → AdStructure) (v : ℕ) (d : List ℕ) (start : ℕ) → v < 2 ^ 16 → pairRead kind (leBytes 2 v ++ d) start ≡ Structure (kind v (start + 2) (length d))
+unfolding pairRead
+pair-back kind v d start small =
+    let size : suc (suc (length d)) - 2 ≡ length d = omega arith in
+    rw (le-ltb (suc (suc (length d))) 2 (omega arith), size, field 2 .number-back v small)
+
+known-itself : (a : AdStructure) (s out : List ℕ) (at start : ℕ) → May a s out at → OfKnownType a
+    → kindRead (typeOf a) (dataOf a s) start ≡ Structure (movedTo (start + length (ownOf a)) a)
+unfolding kindRead dataOf
+known-itself (ad.Flags f) s out at start m is = absurd is
+known-itself (ad.ServiceUuids16 complete from len) s out at start m is = absurd is
+known-itself (ad.ServiceUuids32 true from len) s out at start m is = rw add-zero (uuids-back Uuid32 true len from s start (m .placed) (m .checked))
+known-itself (ad.ServiceUuids32 false from len) s out at start m is = rw add-zero (uuids-back Uuid32 false len from s start (m .placed) (m .checked))
+known-itself (ad.ServiceUuids128 true from len) s out at start m is = rw add-zero (uuids-back Uuid128 true len from s start (m .placed) (m .checked))
+known-itself (ad.ServiceUuids128 false from len) s out at start m is = rw add-zero (uuids-back Uuid128 false len from s start (m .placed) (m .checked))
+known-itself (ad.ServiceData16 uuid from len) s out at start m is = rw (pair-back serviceData uuid (part len s from) start is, lent-long len from s (m .placed))
+known-itself (ad.CompleteLocalName from len) s out at start m is = rw add-zero (name-back true len from s start (m .placed) (m .checked))
+known-itself (ad.ShortenedLocalName from len) s out at start m is = rw add-zero (name-back false len from s start (m .placed) (m .checked))
+known-itself (ad.ManufacturerSpecificData company from len) s out at start m is = rw (pair-back manufacturerData (company .0) (part len s from) start is, lent-long len from s (m .placed))
+known-itself (ad.Unknown ty from len) s out at start m is = absurd is
+
+pub written-and-read-back : WrittenAndReadBack
+unfolding writtenAfter octetsOf knownRead lentRead upTo
+written-and-read-back a s out at fine =
+    let m = may a s out at fine in
+    let d = dataOf a s in
+    let o = written (recordOf (typeOf a) d) out at in
+    let reads = read-written (typeOf a) d out at (m .space) in
+    let there = data-there (typeOf a) d out at (m .space) in
+    let size : at + 2 + length d ≤ length o = omega (arith, long (typeOf a) d out at (m .space), m .space) in
+    record {
+      reads = rw fine reads;
+      there = rw fine there;
+      itself = λ is. rw fine (rw (read-itself a s out at (at + 2) m is) at reads);
+      known = λ is. rw fine (rw (left a s (at + 2) is) at reads, rw (enough (length d) o (at + 2) size, there) (known-itself a s out at (at + 2) m is));
+    }
+
+pub not-as-itself : NotAsItself
+unfolding writtenAfter octetsOf mayWrite dataOf recordOf recordAt recordRead first dataRead flagsRead upTo
+not-as-itself = record { writes = refl; refuses = refl }

@@ -1,0 +1,11 @@
+-- The rows on records: `rows`, by computation.
+-- Assumes nothing.
+use mathlib.Core.Path.{refl}
+use mathlib.Core.List.{flatten}
+use Rattle.records.specs.Record.{named, flagsRead, uuidsRead, dataRead, upTo, recordRead, first, recordAt}
+use Rattle.records.specs.Area.{cut, reads, before, areaOf, readArea, clean, rewritten}
+use Rattle.records.specs.Rows.{Rows}
+
+pub rows : Rows
+unfolding named flagsRead uuidsRead dataRead upTo recordRead first recordAt cut reads before areaOf readArea clean rewritten flatten
+rows = record { flags = refl; flags-rewritten = refl; empty-list = refl; odd-list = refl; zero-length = refl }

@@ -1,0 +1,72 @@
+-- What reading a whole area of records finds, and what writing its records again writes.
+--   records s             == the octets of each record, the last cut short where s ends within it
+--   reads rs at           == what reading each of these records finds, the first at position `at`
+--   readArea s            == the number of records, or the refusal of the first bad one
+--   clean r               == a record's octets, that of Flags without the bits that have no name
+--   rewritten s           == these of each record
+use mathlib.Core.Path.{_≡_}
+use Prim.Native.Nat.{ℕ, zero, suc, _+_}
+use mathlib.Core.Bool.{cond}
+use mathlib.Core.List.{List, [], _∷_, map, flatten}
+use lib.ListN.{length, getD, set, drop}
+use lib.Dec.{ltb, eqb}
+use Rattle.octets.specs.declared.error.Error.the-variants.{Eof}
+use Rattle.octets.specs.declared.bytes.Written.{Written}
+use Rattle.records.specs.declared.ad_structure.Read.{Read}
+use Rattle.records.specs.declared.ad_structure.Read.the-variants.{Record, End}
+use Rattle.records.specs.declared.ad_structure.Checked.{Checked}
+use Rattle.records.specs.declared.ad_structure.Checked.the-variants.{Fine}
+use Rattle.records.specs.declared.area.Area.{Area}
+use Rattle.records.specs.declared.area.Area.the-variants.{Accepted}
+use Rattle.records.specs.Record.{named, first, recordRead}
+use Rattle.records.specs.Write.{answer, leaves}
+
+-- the octets of each record, `skip` octets of the record before being still to pass
+unfoldable pub cut : List ℕ → ℕ → List (List ℕ)
+unfolding first
+cut [] skip = []
+cut (n ∷ rest) zero = first (n ∷ rest) ∷ cut rest n
+cut (x ∷ rest) (suc skip) = cut rest skip
+
+abbrev pub records : List ℕ → List (List ℕ)
+records s = cut s 0
+
+unfoldable pub reads : List (List ℕ) → ℕ → List Read
+reads [] at = []
+reads (r ∷ rs) at = recordRead r at ∷ reads rs (at + length r)
+
+-- an area whose first record reads so, before an area that reads so
+unfoldable pub before : Read → Area → Area
+before (Record a next) (Accepted n) = Accepted (n + 1)
+before (Record a next) (Area.Refused e) = Area.Refused e
+before End area = area
+before (Read.Refused e) area = Area.Refused e
+
+unfoldable pub areaOf : List Read → Area
+areaOf [] = Accepted 0
+areaOf (answer ∷ answers) = before answer (areaOf answers)
+
+unfoldable pub readArea : List ℕ → Area
+readArea s = areaOf (reads (records s) 0)
+
+-- from position `at` on, s is an area that is accepted
+pub record AcceptedFrom (s : List ℕ) (at : ℕ) : Type 0 where
+  pub count : ℕ
+  pub accepted : areaOf (reads (records (drop at s)) at) ≡ Accepted count
+
+unfoldable pub clean : List ℕ → List ℕ
+clean r = cond (eqb (getD r 1 0) 1) (set r 2 (named (getD r 2 0))) r
+
+unfoldable pub rewritten : List ℕ → List ℕ
+rewritten s = flatten (map clean (records s))
+
+-- whether an area that reads so may be written again to `out`
+unfoldable pub mayRewrite : Area → List ℕ → List ℕ → Checked
+mayRewrite (Accepted n) s out = cond (ltb (length out) (length s)) (Checked.Refused Eof) Fine
+mayRewrite (Area.Refused e) s out = Checked.Refused e
+
+unfoldable pub rewrittenTo : List ℕ → List ℕ → Written
+rewrittenTo s out = answer (mayRewrite (readArea s) s out) (rewritten s) 0
+
+unfoldable pub rewrittenAfter : List ℕ → List ℕ → List ℕ
+rewrittenAfter s out = leaves (mayRewrite (readArea s) s out) (rewritten s) out 0

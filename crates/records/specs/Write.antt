@@ -1,0 +1,122 @@
+-- What writing one record answers, and what the octets then hold (type octets: Assigned Numbers, 2.3; refusals and their order: document 01).
+--   shapeOf a             == the row of the table of kinds
+--   dataOf a s            == the data, whose lent part lies in s
+--   spaceFor d out at     == whether a record with data d may be written at position `at` of out
+--   mayWrite a s out at   == whether the record a may, whose lent part lies in s
+use Prim.Native.Nat.{ℕ, _+_}
+use mathlib.Core.Bool.{Bool, cond}
+use mathlib.Core.List.{List, [], _∷_, _++_}
+use lib.ListN.{length}
+use lib.Dec.{ltb}
+use Rattle.octets.specs.declared.error.Error.the-variants.{Eof, InvalidValue, RecordLength}
+use Rattle.octets.specs.declared.uuid.UuidKind.{UuidKind}
+use Rattle.octets.specs.declared.uuid.UuidKind.the-variants.{Uuid16, Uuid32, Uuid128}
+use Rattle.octets.specs.declared.bytes.Written.{Written}
+use Rattle.octets.specs.declared.bytes.Written.the-variants.{To}
+use Rattle.octets.specs.Bytes.{has, part, leBytes, written}
+use Rattle.octets.specs.Utf8.{isUtf8}
+use Rattle.records.specs.declared.ad_structure.AdStructure.{AdStructure}
+use Rattle.records.specs.declared.ad_structure.AdStructure.the-variants.{Flags, ServiceUuids16, ServiceUuids32, ServiceUuids128, ServiceData16, CompleteLocalName, ShortenedLocalName, ManufacturerSpecificData, Unknown}
+use Rattle.records.specs.declared.ad_structure.Checked.{Checked}
+use Rattle.records.specs.declared.ad_structure.Checked.the-variants.{Fine}
+use Rattle.records.specs.Record.{recordOf, named, wholeUuids}
+
+abbrev pub listType : UuidKind → Bool → ℕ
+listType Uuid16 complete = cond complete 0x03 0x02
+listType Uuid32 complete = cond complete 0x05 0x04
+listType Uuid128 complete = cond complete 0x07 0x06
+
+abbrev pub listCheck : UuidKind → List ℕ → Checked
+listCheck k d = cond (wholeUuids k d) Fine (Checked.Refused Eof)
+
+abbrev pub nameCheck : List ℕ → Checked
+nameCheck d = cond (isUtf8 d) Fine (Checked.Refused InvalidValue)
+
+abbrev pub noCheck : List ℕ → Checked
+noCheck d = Fine
+
+-- type octet; octets of its own, before the lent part; where that lies; what it must be
+pub record Shape : Type 0 where
+  pub type : ℕ
+  pub own : List ℕ
+  pub start : ℕ
+  pub len : ℕ
+  pub check : List ℕ → Checked
+
+abbrev pub shape : ℕ → List ℕ → ℕ → ℕ → (List ℕ → Checked) → Shape
+shape type own start len check = record { type = type; own = own; start = start; len = len; check = check }
+
+abbrev pub shapeOf : AdStructure → Shape
+shapeOf (Flags f) = shape 0x01 (named (f .bits) ∷ []) 0 0 noCheck
+shapeOf (ServiceUuids16 complete start len) = shape (listType Uuid16 complete) [] start len (listCheck Uuid16)
+shapeOf (ServiceUuids32 complete start len) = shape (listType Uuid32 complete) [] start len (listCheck Uuid32)
+shapeOf (ServiceUuids128 complete start len) = shape (listType Uuid128 complete) [] start len (listCheck Uuid128)
+shapeOf (ServiceData16 uuid start len) = shape 0x16 (leBytes 2 uuid) start len noCheck
+shapeOf (CompleteLocalName start len) = shape 0x09 [] start len nameCheck
+shapeOf (ShortenedLocalName start len) = shape 0x08 [] start len nameCheck
+shapeOf (ManufacturerSpecificData company start len) = shape 0xFF (leBytes 2 (company .0)) start len noCheck
+shapeOf (Unknown ty start len) = shape ty [] start len noCheck
+
+abbrev pub typeOf : AdStructure → ℕ
+typeOf a = shapeOf a .type
+
+abbrev pub ownOf : AdStructure → List ℕ
+ownOf a = shapeOf a .own
+
+abbrev pub startOf : AdStructure → ℕ
+startOf a = shapeOf a .start
+
+abbrev pub lenOf : AdStructure → ℕ
+lenOf a = shapeOf a .len
+
+abbrev pub checkOf : AdStructure → List ℕ → Checked
+checkOf a d = shapeOf a .check d
+
+unfoldable pub dataOf : AdStructure → List ℕ → List ℕ
+dataOf a s = ownOf a ++ part (lenOf a) s (startOf a)
+
+-- length and type take two octets more; the length octet counts the type too
+abbrev pub spaceFor : List ℕ → List ℕ → ℕ → Checked
+spaceFor d out at =
+    cond (has (length d + 2) out at) (cond (ltb 255 (length d + 1)) (Checked.Refused RecordLength) Fine) (Checked.Refused Eof)
+
+abbrev pub andThen : Checked → Checked → Checked
+andThen Fine later = later
+andThen (Checked.Refused e) later = Checked.Refused e
+
+unfoldable pub mayWrite : AdStructure → List ℕ → List ℕ → ℕ → Checked
+mayWrite a s out at =
+    cond (has (lenOf a) s (startOf a)) (andThen (checkOf a (part (lenOf a) s (startOf a))) (spaceFor (dataOf a s) out at)) (Checked.Refused Eof)
+
+-- what a write of xs that passed its checks, or did not, answers and leaves
+abbrev pub answer : Checked → List ℕ → ℕ → Written
+answer Fine xs at = To (record { at = at + length xs })
+answer (Checked.Refused e) xs at = Written.Refused e
+
+abbrev pub leaves : Checked → List ℕ → List ℕ → ℕ → List ℕ
+leaves Fine xs out at = written xs out at
+leaves (Checked.Refused e) xs out at = out
+
+-- of a type with data
+unfoldable pub rawTo : ℕ → List ℕ → List ℕ → ℕ → Written
+rawTo ty d out at = answer (spaceFor d out at) (recordOf ty d) at
+
+unfoldable pub rawAfter : ℕ → List ℕ → List ℕ → ℕ → List ℕ
+rawAfter ty d out at = leaves (spaceFor d out at) (recordOf ty d) out at
+
+-- of a record of type ty whose lent part is d
+unfoldable pub lentTo : AdStructure → ℕ → List ℕ → List ℕ → ℕ → Written
+lentTo a ty d out at = answer (andThen (checkOf a d) (spaceFor (ownOf a ++ d) out at)) (recordOf ty (ownOf a ++ d)) at
+
+unfoldable pub lentAfter : AdStructure → ℕ → List ℕ → List ℕ → ℕ → List ℕ
+lentAfter a ty d out at = leaves (andThen (checkOf a d) (spaceFor (ownOf a ++ d) out at)) (recordOf ty (ownOf a ++ d)) out at
+
+-- of a record
+unfoldable pub octetsOf : AdStructure → List ℕ → List ℕ
+octetsOf a s = recordOf (typeOf a) (dataOf a s)
+
+unfoldable pub writtenTo : AdStructure → List ℕ → List ℕ → ℕ → Written
+writtenTo a s out at = answer (mayWrite a s out at) (octetsOf a s) at
+
+unfoldable pub writtenAfter : AdStructure → List ℕ → List ℕ → ℕ → List ℕ
+writtenAfter a s out at = leaves (mayWrite a s out at) (octetsOf a s) out at
