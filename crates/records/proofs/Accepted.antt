@@ -1,16 +1,15 @@
 -- An area is accepted exactly if good records tile it, and refused exactly as its first bad record is: `decided`.
 -- Assumes nothing.
-use mathlib.Core.Path.{_≡_, refl, sym, ap, _∙_, subst}
+use mathlib.Core.Path.{_≡_, refl, sym, ap, _∙_}
 use mathlib.Core.Logic.{inl, inr, ⊎-elim}
 use mathlib.Core.Bool.{Bool, true, false, cond}
 use mathlib.Core.List.{List, [], _∷_, _++_, append-assoc, append-nil, flatten}
 use Prim.Native.Nat.{ℕ, zero, suc, _+_, _-_, _%_, _≤_, _<_}
 use native.Mathlib.Omega.{arith}
-use native.Mathlib.Numerals.{add-one}
 use lib.ListN.{length, getD, take, drop, length-append, length-take, length-drop, take-append-drop}
 use lib.Seq.{getD-take, take-at, drop-at, take-all}
 use lib.Dec.{ltb, eqb}
-use borrow.Author.Tests.{eqb-true, eqb-false, ltb-true, ltb-false, ne-eqb, eq-eqb, lt-ltb, le-ltb}
+use borrow.Author.Tests.{eqb-true, eqb-false, ltb-true, ltb-false, ne-eqb, lt-ltb, le-ltb}
 use Rattle.octets.specs.declared.error.Error.{Error}
 use Rattle.octets.specs.declared.error.Error.the-variants.{Eof, InvalidLength}
 use Rattle.octets.specs.declared.uuid.UuidKind.the-variants.{Uuid16}
@@ -23,7 +22,7 @@ use Rattle.records.specs.declared.area.Area.{Area}
 use Rattle.records.specs.declared.area.Area.the-variants.{Accepted}
 use Rattle.records.specs.Record.{named, flagsRead, uuidsRead, dataRead, upTo, recordRead, first}
 use Rattle.records.specs.Area.{cut, records, reads, before, areaOf, readArea}
-use Rattle.records.specs.Accepted.{IsList, Good, AllGood, Tiling, Bad, zero-length, too-few, wrong-flags, odd-list, FirstBad, Verdict, Decided}
+use Rattle.records.specs.Accepted.{IsList, Good, AllGood, Bad, zero-length, too-few, wrong-flags, odd-list, Verdict, Decided}
 use Rattle.records.proofs.Cuts.{cut-skip, counting, counting-none}
 
 -- what a record's answer says of it, where `rest` follows its length octet n

@@ -1,21 +1,21 @@
 -- What reading finds of a record that was written: `written-and-read-back`, and a write that is not read back: `not-as-itself`.
 -- Assumes nothing.
-use mathlib.Core.Path.{_≡_, refl, sym, ap, _∙_}
+use mathlib.Core.Path.{_≡_, refl, ap}
 use mathlib.Core.Bool.{Bool, true, false, cond}
-use mathlib.Core.List.{List, [], _∷_, _++_}
+use mathlib.Core.List.{List, _∷_, _++_}
 use Prim.Native.Nat.{ℕ, suc, _+_, _-_, _≤_, _<_, _^_}
 use native.Mathlib.Nat.{add-zero}
 use native.Mathlib.Omega.{arith}
-use lib.ListN.{length, take, drop, length-append, length-take, length-drop}
+use lib.ListN.{length, take, drop, length-take, length-drop}
 use lib.Seq.{length-take-le, take-at, drop-at, drop-drop}
-use lib.Dec.{ltb, eqb, eqb·suc-zero}
-use borrow.Author.Tests.{leb-true, ltb-false, le-ltb, ne-eqb}
+use lib.Dec.{ltb, eqb·suc-zero}
+use borrow.Author.Tests.{leb-true, le-ltb, ne-eqb}
 use Rattle.octets.specs.declared.error.Error.{Error}
 use Rattle.octets.specs.declared.error.Error.the-variants.{Eof, InvalidValue, RecordLength}
 use Rattle.octets.specs.declared.uuid.UuidKind.{UuidKind}
 use Rattle.octets.specs.declared.uuid.UuidKind.the-variants.{Uuid16, Uuid32, Uuid128}
 use Rattle.octets.specs.Utf8.{isUtf8}
-use Rattle.octets.specs.Bytes.{has, part, le, leBytes, written}
+use Rattle.octets.specs.Bytes.{has, part, leBytes, written}
 use Rattle.octets.proofs.Laws.{written-keeps}
 use Rattle.octets.proofs.Numbers.{field}
 use Rattle.octets.proofs.Places.{enough}
@@ -24,9 +24,9 @@ use Rattle.records.specs.declared.ad_structure.AdStructure.the-variants 
 use Rattle.records.specs.declared.ad_structure.Parsed.the-variants.{Structure}
 use Rattle.records.specs.declared.ad_structure.Checked.{Checked}
 use Rattle.records.specs.declared.ad_structure.Checked.the-variants.{Fine}
-use Rattle.records.specs.Record.{recordOf, named, flagsRead, wholeUuids, uuidList, uuidsRead, localName, nameRead, serviceData, manufacturerData, pairRead, dataRead, kindRead, upTo, recordRead, first, recordAt, lentRead, knownRead}
+use Rattle.records.specs.Record.{recordOf, flagsRead, wholeUuids, uuidList, uuidsRead, localName, nameRead, serviceData, manufacturerData, pairRead, dataRead, kindRead, upTo, recordRead, first, recordAt, lentRead, knownRead}
 use Rattle.records.specs.Write.{typeOf, ownOf, startOf, lenOf, listCheck, nameCheck, checkOf, dataOf, andThen, mayWrite, octetsOf, writtenAfter}
-use Rattle.records.specs.ReadBack.{movedTo, AsItself, OfKnownType, leftAs, ReadBack, WrittenAndReadBack, NotAsItself}
+use Rattle.records.specs.ReadBack.{movedTo, AsItself, OfKnownType, leftAs, WrittenAndReadBack, NotAsItself}
 use Rattle.records.proofs.Again.{named-twice}
 
 -- what was tested of a record that may be written

@@ -16,7 +16,7 @@ use Rattle.records.specs.declared.ad_structure.Read.{Read}
 use Rattle.records.specs.declared.ad_structure.Read.the-variants.{Record}
 use Rattle.records.specs.declared.ad_structure.Checked.the-variants.{Fine}
 use Rattle.records.specs.Record.{named, dataRead, upTo, recordAt, knownRead}
-use Rattle.records.specs.Write.{typeOf, ownOf, lenOf, dataOf, mayWrite, octetsOf, writtenAfter}
+use Rattle.records.specs.Write.{typeOf, ownOf, dataOf, mayWrite, octetsOf, writtenAfter}
 
 abbrev pub movedTo : ℕ → AdStructure → AdStructure
 movedTo start (Flags f) = Flags (record { bits = named (f .bits) })

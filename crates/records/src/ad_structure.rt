@@ -1,8 +1,8 @@
 // AD structures, here called records: a length octet, a type octet and data (the Core, Vol 3 Part C, 11; the Supplement, Part A, 1).
 ghost use mathlib.Core.Path.{_≡_};
-ghost use lib.Dec.{eqb};
 ghost use mathlib.Core.List.{_++_};
 ghost use Prim.Native.Nat.{_+_, _≤_, _<_, _^_};
+ghost use lib.Dec.{eqb};
 ghost use lib.ListN.{length, take};
 ghost use Rattle.octets.specs.Bytes.{written};
 ghost use Rattle.records.specs.Record.{recordOf, named, bit, uuidList, wholeUuids, flagsRead, uuidsRead, localName, nameRead, serviceData, manufacturerData, pairRead, dataRead, kindRead, lentRead, knownRead, recordAt};
@@ -140,38 +140,30 @@ impl AdStructure {
                 uuid: _,
                 start,
                 len,
-            } => {
-                Outline {
-                    ty: Type::SERVICE_DATA_16BIT_UUID,
-                    start,
-                    len,
-                }
-            }
-            AdStructure::CompleteLocalName { start, len } => {
-                Outline {
-                    ty: Type::COMPLETE_LOCAL_NAME,
-                    start,
-                    len,
-                }
-            }
-            AdStructure::ShortenedLocalName { start, len } => {
-                Outline {
-                    ty: Type::SHORTENED_LOCAL_NAME,
-                    start,
-                    len,
-                }
-            }
+            } => Outline {
+                ty: Type::SERVICE_DATA_16BIT_UUID,
+                start,
+                len,
+            },
+            AdStructure::CompleteLocalName { start, len } => Outline {
+                ty: Type::COMPLETE_LOCAL_NAME,
+                start,
+                len,
+            },
+            AdStructure::ShortenedLocalName { start, len } => Outline {
+                ty: Type::SHORTENED_LOCAL_NAME,
+                start,
+                len,
+            },
             AdStructure::ManufacturerSpecificData {
                 company_identifier: _,
                 start,
                 len,
-            } => {
-                Outline {
-                    ty: Type::MANUFACTURER_SPECIFIC_DATA,
-                    start,
-                    len,
-                }
-            }
+            } => Outline {
+                ty: Type::MANUFACTURER_SPECIFIC_DATA,
+                start,
+                len,
+            },
             AdStructure::Unknown { ty, start, len } => Outline { ty, start, len },
         }
     }
@@ -188,22 +180,18 @@ impl AdStructure {
                 uuid,
                 start: _,
                 len: _,
-            } => {
-                Own {
-                    octets: u16_to_le_bytes(uuid),
-                    len: 2,
-                }
-            }
+            } => Own {
+                octets: u16_to_le_bytes(uuid),
+                len: 2,
+            },
             AdStructure::ManufacturerSpecificData {
                 company_identifier,
                 start: _,
                 len: _,
-            } => {
-                Own {
-                    octets: u16_to_le_bytes(company_identifier.as_u16()),
-                    len: 2,
-                }
-            }
+            } => Own {
+                octets: u16_to_le_bytes(company_identifier.as_u16()),
+                len: 2,
+            },
             _ => Own {
                 octets: [0, 0],
                 len: 0,

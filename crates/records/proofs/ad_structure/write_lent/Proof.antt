@@ -6,11 +6,9 @@ use Prim.Native.Nat.{ℕ, _≤_}
 use native.Mathlib.Omega.{arith}
 use lib.ListN.{length, take, length-take}
 use borrow.Author.Needs.{needs}
-use Rattle.octets.specs.declared.error.Error.{Error}
 use Rattle.octets.specs.declared.bytes.Written.{Written}
 use Rattle.records.specs.declared.ad_structure.AdStructure.{AdStructure}
 use Rattle.records.specs.declared.ad_structure.AdStructure.the-variants as ad
-use Rattle.records.specs.declared.ad_structure.Checked.{Checked}
 use Rattle.records.specs.declared.ad_structure.Checked.the-variants.{Fine}
 use Rattle.records.specs.Write.{ownOf, checkOf, rawTo, rawAfter, lentTo, lentAfter}
 use Rattle.records.proofs.ad_structure.write_lent.Statement.{statement}

@@ -1,6 +1,6 @@
 -- `records::area::rewrite_area` meets its contract: each way is the case of `mayRewrite` that what `read_area` found picks.
 -- Assumes nothing.
-use mathlib.Core.Path.{_≡_, refl, sym, _∙_}
+use mathlib.Core.Path.{_≡_, sym, _∙_}
 use mathlib.Core.List.{List, _++_}
 use Prim.Native.Nat.{ℕ, _+_, _≤_}
 use native.Mathlib.Omega.{arith}
