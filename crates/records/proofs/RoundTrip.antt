@@ -3,13 +3,13 @@
 use mathlib.Core.Path.{_≡_, refl, sym, ap, _∙_}
 use mathlib.Core.Bool.{Bool, true, false, cond}
 use mathlib.Core.List.{List, [], _∷_, _++_, map, flatten, append-nil}
-use Prim.Native.Nat.{ℕ, zero, suc, _+_, _≤_, _<_}
+use Prim.Native.Nat.{ℕ, zero, suc, _+_, _%_, _≤_, _<_}
 use native.Mathlib.Omega.{arith}
 use native.Mathlib.Decide.{decLe}
 use lib.ListN.{length, getD, set, take, drop, length-take, drop-of-length-le}
-use lib.Seq.{take-at, drop-at, take-all}
+use lib.Seq.{take-at, drop-at, take-all, set-getD, getD-set-same, getD-set-other}
 use lib.Dec.{ltb, eqb}
-use borrow.Author.Tests.{ltb-false}
+use borrow.Author.Tests.{ltb-false, eqb-true}
 use Rattle.octets.specs.declared.error.Error.the-variants.{Eof}
 use Rattle.records.specs.declared.ad_structure.AdStructure.{AdStructure}
 use Rattle.records.specs.declared.ad_structure.Read.{Read}
@@ -17,7 +17,7 @@ use Rattle.records.specs.declared.ad_structure.Read.the-variants.{Record
 use Rattle.records.specs.Record.{named, flagsRead, dataRead, recordRead, first, recordAt}
 use Rattle.records.specs.Write.{writtenTo, writtenAfter}
 use Rattle.records.specs.Area.{cut, records, reads, areaOf, readArea, clean, rewritten}
-use Rattle.records.specs.RoundTrip.{RoundTrip, ReadAndRewritten}
+use Rattle.records.specs.RoundTrip.{Cleans, NamedOnly, RoundTrip, ReadAndRewritten}
 use Rattle.records.proofs.Lists.{cond-same, octet-at}
 use Rattle.records.proofs.Cuts.{cut-skip, here, at-here, Step, stepped}
 use Rattle.records.proofs.Again.{named-twice, written-again}
@@ -83,6 +83,34 @@ again (n ∷ rest) zero =
     let kept : clean (n ∷ take n rest) ≡ n ∷ drop 1 (clean (n ∷ take n rest)) = clean-cons n (take n rest) in
     step n rest (drop 1 (clean (n ∷ take n rest))) kept later
 
+-- `clean` by whether a record is one of Flags
+pub cleans : (r : List ℕ) → Cleans r
+unfolding clean named
+cleans r =
+    record {
+      as-long = clean-length r;
+      kept = λ i other. go (eqb (getD r 1 0) 1) refl i other;
+      flags = λ is inside. simp is (getD-set-same r 2 (getD r 2 0 % 32) 0 inside);
+    }
+  where
+    go : (b : Bool) → eqb (getD r 1 0) 1 ≡ b → (i : ℕ) → (getD r 1 0 ≡ 0x01 → i ≡ 2 → ⊥)
+        → getD (cond b (set r 2 (getD r 2 0 % 32)) r) i 0 ≡ getD r i 0
+    go true e i other = getD-set-other r 2 i (getD r 2 0 % 32) 0 (other (eqb-true (getD r 1 0) 1 e))
+    go false e i other = refl
+
+-- records of named bits alone are clean
+named-clean : (rs : List (List ℕ)) → NamedOnly rs → map clean rs ≡ rs
+unfolding clean named
+named-clean [] only = refl
+named-clean (r ∷ rs) only = ap (λ (l : List (List ℕ)). clean r ∷ l) (named-clean rs (only .1)) ∙ ap (λ (x : List ℕ). x ∷ rs) (go (eqb (getD r 1 0) 1) refl)
+  where
+    go : (b : Bool) → eqb (getD r 1 0) 1 ≡ b → cond b (set r 2 (getD r 2 0 % 32)) r ≡ r
+    go true e =
+        let small : getD r 2 0 < 32 = only .0 (eqb-true (getD r 1 0) 1 e) in
+        let same : getD r 2 0 % 32 ≡ getD r 2 0 = omega arith in
+        rw same (set-getD r 2 0)
+    go false e = refl
+
 pub round-trip : (s : List ℕ) → RoundTrip s
 unfolding rewritten readArea
 round-trip s =
@@ -91,7 +119,7 @@ round-trip s =
     record {
       tiles = tile s 0;
       as-long = rewritten-length s;
-      same = λ clear. rw clear (tile s 0);
+      same = λ only. rw (named-clean (records s) only) (tile s 0);
       records-again = cut-again;
       reads-again = read-again;
       area-again = ap areaOf read-again;

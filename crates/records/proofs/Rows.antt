@@ -3,9 +3,18 @@
 use mathlib.Core.Path.{refl}
 use mathlib.Core.List.{flatten}
 use Rattle.records.specs.Record.{named, flagsRead, uuidsRead, dataRead, upTo, recordRead, first, recordAt}
-use Rattle.records.specs.Area.{cut, reads, before, areaOf, readArea, clean, rewritten}
+use Rattle.records.specs.Area.{cut, reads, before, areaOf, readArea, clean, rewritten, mayRewrite, rewrittenAfter}
 use Rattle.records.specs.Rows.{Rows}
 
 pub rows : Rows
-unfolding named flagsRead uuidsRead dataRead upTo recordRead first recordAt cut reads before areaOf readArea clean rewritten flatten
-rows = record { flags = refl; flags-rewritten = refl; empty-list = refl; odd-list = refl; zero-length = refl }
+unfolding named flagsRead uuidsRead dataRead upTo recordRead first recordAt cut reads before areaOf readArea clean rewritten mayRewrite rewrittenAfter flatten
+rows =
+    record {
+      flags = refl;
+      flags-accepted = refl;
+      flags-rewritten = refl;
+      empty-list = refl;
+      empty-list-accepted = refl;
+      odd-list = refl;
+      zero-length = refl;
+    }

@@ -33,7 +33,7 @@ use Rattle.records.specs.declared.ad_structure.Read.the-variants.{Record
 unfoldable pub recordOf : ℕ → List ℕ → List ℕ
 recordOf ty d = suc (length d) ∷ ty ∷ d
 
--- bits 0 to 4 have a name (the Supplement, Part A, 1.3.1)
+-- bits 0 to 4 have a name in the Rust `Flags` (document 01)
 unfoldable pub named : ℕ → ℕ
 named x = x % 32
 

@@ -630,6 +630,18 @@ impl Flags {
     {
         self.bits / Flags::LE_GENERAL_DISCOVERABLE % 2 == 1
     }
+
+    pub fn simul_le_br_controller(self) -> bool
+        ensures { λ r. ⌜ r ≡ eqb (bit 3 (self .bits)) 1 ⌝ }
+    {
+        self.bits / Flags::SIMUL_LE_BR_CONTROLLER % 2 == 1
+    }
+
+    pub fn simul_le_br_host(self) -> bool
+        ensures { λ r. ⌜ r ≡ eqb (bit 4 (self .bits)) 1 ⌝ }
+    {
+        self.bits / Flags::SIMUL_LE_BR_HOST % 2 == 1
+    }
 }
 
 // The type octets that are read or written here (Assigned Numbers, 2.3).
