@@ -16,15 +16,16 @@ use Rattle.octets.specs.declared.error.Error.the-variants.{Eof, InvalidLength}
 use Rattle.records.specs.declared.area.Area.{Area}
 use Rattle.records.specs.declared.area.Area.the-variants.{Accepted}
 use Rattle.records.specs.Area.{readArea}
+use Rattle.records.specs.Types.{flagsType, incomplete16Type, complete16Type}
 
 -- the type octet is that of a list of 16-bit UUIDs
 abbrev pub IsList : ℕ → Type 0
-IsList ty = (ty ≡ 0x02) ⊎ (ty ≡ 0x03)
+IsList ty = (ty ≡ incomplete16Type) ⊎ (ty ≡ complete16Type)
 
 pub record Good (n : ℕ) (body : List ℕ) : Type 0 where
   pub whole : length body ≡ n
   pub some : 0 < n
-  pub flags : getD body 0 0 ≡ 0x01 → n ≡ 2
+  pub flags : getD body 0 0 ≡ flagsType → n ≡ 2
   pub list : IsList (getD body 0 0) → n % 2 ≡ 1
 
 abbrev pub AllGood : List (List ℕ) → Type 0
@@ -41,7 +42,7 @@ pub record Tiling (s : List ℕ) (m : ℕ) : Type 0 where
 pub data Bad : List ℕ → Error → Type 0 where
   zero-length : {rest : List ℕ} → Bad (0 ∷ rest) InvalidLength
   too-few : {n : ℕ} {rest : List ℕ} → 0 < n → length rest < n → Bad (n ∷ rest) Eof
-  wrong-flags : {n : ℕ} {rest : List ℕ} → 0 < n → n ≤ length rest → getD rest 0 0 ≡ 0x01 → (n ≡ 2 → ⊥) → Bad (n ∷ rest) InvalidLength
+  wrong-flags : {n : ℕ} {rest : List ℕ} → 0 < n → n ≤ length rest → getD rest 0 0 ≡ flagsType → (n ≡ 2 → ⊥) → Bad (n ∷ rest) InvalidLength
   odd-list : {n : ℕ} {rest : List ℕ} → 0 < n → n ≤ length rest → IsList (getD rest 0 0) → n % 2 ≡ 0 → Bad (n ∷ rest) Eof
 
 pub record FirstBad (s : List ℕ) (e : Error) : Type 0 where

@@ -1,3 +1,4 @@
+pub mod Types
 pub mod Record
 pub mod Uuids
 pub mod Write

@@ -17,6 +17,7 @@ use Rattle.records.specs.declared.ad_structure.Read.the-variants.{Record
 use Rattle.records.specs.declared.ad_structure.Checked.the-variants.{Fine}
 use Rattle.records.specs.Record.{named, dataRead, upTo, recordAt, knownRead}
 use Rattle.records.specs.Write.{typeOf, ownOf, dataOf, mayWrite, octetsOf, writtenAfter}
+use Rattle.records.specs.Types.{flagsType, incomplete16Type, complete16Type}
 
 abbrev pub movedTo : ℕ → AdStructure → AdStructure
 movedTo start (Flags f) = Flags (record { bits = named (f .bits) })
@@ -38,7 +39,7 @@ AsItself (ServiceData16 uuid start len) = ⊥
 AsItself (CompleteLocalName start len) = ⊥
 AsItself (ShortenedLocalName start len) = ⊥
 AsItself (ManufacturerSpecificData company start len) = ⊥
-AsItself (Unknown ty start len) = (ty ≡ 0x01 → ⊥) × (ty ≡ 0x02 → ⊥) × (ty ≡ 0x03 → ⊥)
+AsItself (Unknown ty start len) = (ty ≡ flagsType → ⊥) × (ty ≡ incomplete16Type → ⊥) × (ty ≡ complete16Type → ⊥)
 
 abbrev pub OfKnownType : AdStructure → Type 0
 OfKnownType (Flags f) = ⊥

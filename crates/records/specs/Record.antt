@@ -29,6 +29,7 @@ use Rattle.records.specs.declared.ad_structure.Parsed.{Parsed}
 use Rattle.records.specs.declared.ad_structure.Parsed.the-variants.{Structure}
 use Rattle.records.specs.declared.ad_structure.Read.{Read}
 use Rattle.records.specs.declared.ad_structure.Read.the-variants.{Record, End}
+use Rattle.records.specs.Types.{flagsType, incomplete16Type, complete16Type, incomplete32Type, complete32Type, incomplete128Type, complete128Type, shortenedNameType, completeNameType, serviceDataType, manufacturerType}
 
 unfoldable pub recordOf : ℕ → List ℕ → List ℕ
 recordOf ty d = suc (length d) ∷ ty ∷ d
@@ -73,21 +74,21 @@ manufacturerData company start len = ad.ManufacturerSpecificData (record { 0 = c
 
 unfoldable pub dataRead : ℕ → List ℕ → ℕ → Parsed
 dataRead ty d start =
-    cond (eqb ty 0x01) (flagsRead d)
-    (cond (eqb ty 0x02) (uuidsRead Uuid16 false d start)
-    (cond (eqb ty 0x03) (uuidsRead Uuid16 true d start)
+    cond (eqb ty flagsType) (flagsRead d)
+    (cond (eqb ty incomplete16Type) (uuidsRead Uuid16 false d start)
+    (cond (eqb ty complete16Type) (uuidsRead Uuid16 true d start)
     (Structure (ad.Unknown ty start (length d)))))
 
 unfoldable pub kindRead : ℕ → List ℕ → ℕ → Parsed
 kindRead ty d start =
-    cond (eqb ty 0x04) (uuidsRead Uuid32 false d start)
-    (cond (eqb ty 0x05) (uuidsRead Uuid32 true d start)
-    (cond (eqb ty 0x06) (uuidsRead Uuid128 false d start)
-    (cond (eqb ty 0x07) (uuidsRead Uuid128 true d start)
-    (cond (eqb ty 0x08) (nameRead false d start)
-    (cond (eqb ty 0x09) (nameRead true d start)
-    (cond (eqb ty 0x16) (pairRead serviceData d start)
-    (cond (eqb ty 0xFF) (pairRead manufacturerData d start)
+    cond (eqb ty incomplete32Type) (uuidsRead Uuid32 false d start)
+    (cond (eqb ty complete32Type) (uuidsRead Uuid32 true d start)
+    (cond (eqb ty incomplete128Type) (uuidsRead Uuid128 false d start)
+    (cond (eqb ty complete128Type) (uuidsRead Uuid128 true d start)
+    (cond (eqb ty shortenedNameType) (nameRead false d start)
+    (cond (eqb ty completeNameType) (nameRead true d start)
+    (cond (eqb ty serviceDataType) (pairRead serviceData d start)
+    (cond (eqb ty manufacturerType) (pairRead manufacturerData d start)
     (dataRead ty d start))))))))
 
 -- a structure that ends at `next`

@@ -20,11 +20,12 @@ use Rattle.records.specs.declared.ad_structure.AdStructure.the-variants.
 use Rattle.records.specs.declared.ad_structure.Checked.{Checked}
 use Rattle.records.specs.declared.ad_structure.Checked.the-variants.{Fine}
 use Rattle.records.specs.Record.{recordOf, named, wholeUuids}
+use Rattle.records.specs.Types.{flagsType, incomplete16Type, complete16Type, incomplete32Type, complete32Type, incomplete128Type, complete128Type, shortenedNameType, completeNameType, serviceDataType, manufacturerType}
 
 abbrev pub listType : UuidKind → Bool → ℕ
-listType Uuid16 complete = cond complete 0x03 0x02
-listType Uuid32 complete = cond complete 0x05 0x04
-listType Uuid128 complete = cond complete 0x07 0x06
+listType Uuid16 complete = cond complete complete16Type incomplete16Type
+listType Uuid32 complete = cond complete complete32Type incomplete32Type
+listType Uuid128 complete = cond complete complete128Type incomplete128Type
 
 abbrev pub listCheck : UuidKind → List ℕ → Checked
 listCheck k d = cond (wholeUuids k d) Fine (Checked.Refused Eof)
@@ -47,14 +48,14 @@ abbrev pub shape : ℕ → List ℕ → ℕ → ℕ → (List ℕ → Checked) �
 shape type own start len check = record { type = type; own = own; start = start; len = len; check = check }
 
 abbrev pub shapeOf : AdStructure → Shape
-shapeOf (Flags f) = shape 0x01 (named (f .bits) ∷ []) 0 0 noCheck
+shapeOf (Flags f) = shape flagsType (named (f .bits) ∷ []) 0 0 noCheck
 shapeOf (ServiceUuids16 complete start len) = shape (listType Uuid16 complete) [] start len (listCheck Uuid16)
 shapeOf (ServiceUuids32 complete start len) = shape (listType Uuid32 complete) [] start len (listCheck Uuid32)
 shapeOf (ServiceUuids128 complete start len) = shape (listType Uuid128 complete) [] start len (listCheck Uuid128)
-shapeOf (ServiceData16 uuid start len) = shape 0x16 (leBytes 2 uuid) start len noCheck
-shapeOf (CompleteLocalName start len) = shape 0x09 [] start len nameCheck
-shapeOf (ShortenedLocalName start len) = shape 0x08 [] start len nameCheck
-shapeOf (ManufacturerSpecificData company start len) = shape 0xFF (leBytes 2 (company .0)) start len noCheck
+shapeOf (ServiceData16 uuid start len) = shape serviceDataType (leBytes 2 uuid) start len noCheck
+shapeOf (CompleteLocalName start len) = shape completeNameType [] start len nameCheck
+shapeOf (ShortenedLocalName start len) = shape shortenedNameType [] start len nameCheck
+shapeOf (ManufacturerSpecificData company start len) = shape manufacturerType (leBytes 2 (company .0)) start len noCheck
 shapeOf (Unknown ty start len) = shape ty [] start len noCheck
 
 abbrev pub typeOf : AdStructure → ℕ
