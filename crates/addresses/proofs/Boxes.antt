@@ -1,0 +1,65 @@
+-- Each setter of a header changes its own box of the figure only: `own-bits`. Assumes nothing.
+use mathlib.Core.Bool.{Bool, true, false, cond}
+use mathlib.Core.List.{List, [], _∷_}
+use mathlib.Core.Path.{_≡_, sym, ap, _∙_}
+use Prim.Native.Nat.{ℕ, _+_, _-_, _*_, _/_, _%_, _<_, _≤_, _^_}
+use native.Mathlib.Nat.{div-div-eq-div-mul}
+use native.Mathlib.Omega.{arith}
+use lib.ListN.{getD}
+use Rattle.addresses.specs.Header.{headerOf}
+use Rattle.addresses.specs.Laws.{boxes, OwnBits}
+use Rattle.addresses.specs.declared.header.Header.{Header}
+
+-- six boxes, one by one
+six : {a b c d e f a' b' c' d' e' f' : ℕ} → a ≡ a' → b ≡ b' → c ≡ c' → d ≡ d' → e ≡ e' → f ≡ f'
+    → _≡_ {A = List ℕ} (a ∷ b ∷ c ∷ d ∷ e ∷ f ∷ []) (a' ∷ b' ∷ c' ∷ d' ∷ e' ∷ f' ∷ [])
+six a b c d e f = λ i. a i ∷ b i ∷ c i ∷ d i ∷ e i ∷ f i ∷ []
+
+bit-small : (v : Bool) → cond v 1 0 ≤ 1
+bit-small true = omega arith
+bit-small false = omega arith
+
+-- a number above a bit is that bit, and the number above the next
+tx-step : (x : ℕ) → x / 64 ≡ x / 64 % 2 + 2 * (x / 128)
+tx-step x = omega arith
+
+rx-step : (x : ℕ) → x / 128 ≡ x / 128 % 2 + 2 * (x / 256)
+rx-step x = omega arith
+
+-- another bit in its place leaves the number above it
+tx-above : (x v : ℕ) → v ≤ 1 → (x - 64 * (x / 64 % 2) + 64 * v) / 128 ≡ x / 128
+tx-above x v s = let parts : x - 64 * (x / 64 % 2) + 64 * v ≡ x % 64 + 64 * v + 128 * (x / 128) = omega (arith, tx-step x) in rw parts (omega arith)
+
+rx-above : (x v : ℕ) → v ≤ 1 → (x - 128 * (x / 128 % 2) + 128 * v) / 256 ≡ x / 256
+rx-above x v s = let parts : x - 128 * (x / 128 % 2) + 128 * v ≡ x % 128 + 128 * v + 256 * (x / 256) = omega (arith, rx-step x) in rw parts (omega arith)
+
+-- and those above that
+higher : (x y k m : ℕ) → x / k ≡ y / k → x / (k * m) ≡ y / (k * m)
+higher x y k m e = sym (div-div-eq-div-mul x k m) ∙ ap (λ (n : ℕ). n / m) e ∙ div-div-eq-div-mul y k m
+
+abbrev join : List ℕ → ℕ
+join l = getD l 0 0 + 16 * (getD l 1 0 + 4 * (getD l 2 0 + 2 * (getD l 3 0 + 2 * (getD l 4 0 + 64 * getD l 5 0))))
+
+-- 16 bits are their boxes
+joined : (x : ℕ) → x < 2 ^ 16 → x ≡ join (boxes (headerOf x))
+joined x small =
+    let top : x / 256 ≡ x / 256 % 64 + 64 * (x / 16384 % 4) = omega arith in
+    let low : x / 16 ≡ x / 16 % 4 + 4 * (x / 64) = omega arith in
+    rw (← top, ← rx-step x, ← tx-step x, ← low) (omega arith)
+
+pub own-bits : (h : Header) → h .0 < 2 ^ 16 → OwnBits h
+own-bits h small =
+    record {
+      tx = λ v.
+          let s = bit-small v in
+          let above = tx-above (h .0) (cond v 1 0) s in
+          six (omega arith) (omega arith) (omega arith) (ap (λ (n : ℕ). n % 2) above) (ap (λ (n : ℕ). n % 64) (higher _ (h .0) 128 2 above))
+          (ap (λ (n : ℕ). n % 4) (higher _ (h .0) 128 128 above));
+      rx = λ v.
+          let s = bit-small v in
+          let above = rx-above (h .0) (cond v 1 0) s in
+          six (omega arith) (omega arith) (omega arith) (omega arith) (ap (λ (n : ℕ). n % 64) above)
+          (ap (λ (n : ℕ). n % 4) (higher _ (h .0) 256 64 above));
+      len = λ n l. six (omega arith) (omega arith) (omega arith) (omega arith) (omega arith) (omega arith);
+      all = λ g fits e. ap headerOf (joined (g .0) fits ∙ ap join e ∙ sym (joined (h .0) small));
+    }

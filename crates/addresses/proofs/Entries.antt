@@ -1,0 +1,74 @@
+-- What it means that some number passes a test, and that a whitelist matches. Assumes nothing.
+use mathlib.Core.Bool.{Bool, true, false, cond, _||_}
+use mathlib.Core.List.{List}
+use mathlib.Core.Path.{_≡_, refl, ap, _∙_}
+use Prim.Native.Nat.{ℕ, zero, suc, _/_, _<_}
+use native.Mathlib.Omega.{arith}
+use lib.ListN.{length}
+use Rattle.octets.specs.declared.error.Error.the-variants.{InvalidValue}
+use Rattle.addresses.specs.Filter.{any, entryAt, entryIs, isList, whitelisted}
+use Rattle.addresses.specs.Laws.{Entry, Listed}
+use Rattle.addresses.specs.declared.device_address.DeviceAddress.{DeviceAddress}
+use Rattle.addresses.specs.declared.filter.Matches.the-variants.{Is, Refused}
+use Rattle.addresses.proofs.Addresses.{equality}
+
+or-false : (b : Bool) → b ≡ b || false
+or-false true = refl
+or-false false = refl
+
+or-true : (b : Bool) → b || true ≡ true
+or-true true = refl
+or-true false = refl
+
+pub any-more : (p : ℕ → Bool) (n : ℕ) → any p n ≡ false → p n ≡ false → any p (suc n) ≡ false
+unfolding any
+any-more p n before last = rw (before, last)
+
+pub any-found : (p : ℕ → Bool) (n i : ℕ) → i < n → p i ≡ true → any p n ≡ true
+unfolding any
+any-found p zero i h e = absurd (omega arith)
+any-found p (suc n) i h e = go (p n) refl (any-found p n i)
+  where
+    go : (b : Bool) → p n ≡ b → (i < n → p i ≡ true → any p n ≡ true) → any p n || p n ≡ true
+    go true last before = rw last (or-true (any p n))
+    go false last before =
+        let other : i ≡ n → ⊥ = λ same. let z : _≡_ {A = ℕ} 0 1 = cc (ap p same) in omega arith in
+        rw (before (omega arith) e)
+
+-- a number that passes
+record Passing (p : ℕ → Bool) (n : ℕ) : Type 0 where
+  number : ℕ
+  below : number < n
+  passes : p number ≡ true
+
+any-passing : (p : ℕ → Bool) (n : ℕ) → any p n ≡ true → Passing p n
+unfolding any
+any-passing p zero e = let z : _≡_ {A = ℕ} 0 1 = cc in absurd (omega arith)
+any-passing p (suc n) e = go (p n) refl e (any-passing p n)
+  where
+    go : (b : Bool) → p n ≡ b → any p n || p n ≡ true → (any p n ≡ true → Passing p n) → Passing p (suc n)
+    go true last found before = record { number = n; below = omega arith; passes = last }
+    go false last found before =
+        let earlier = before (or-false (any p n) ∙ (rw last at found)) in
+        record { number = earlier .number; below = omega (arith, earlier .below); passes = earlier .passes }
+
+pub listed : (list : List ℕ) (a : DeviceAddress) → Listed list a
+unfolding whitelisted any
+listed list a =
+    record {
+      sound = sound (isList list) refl;
+      complete = λ good entry.
+          let found = any-found (entryIs list a) (length list / 7) (entry .place) (entry .inside) (equality (entryAt list (entry .place)) a .complete (entry .is)) in
+          rw (good, found);
+      empty = refl;
+    }
+  where
+    sound : (b : Bool) → isList list ≡ b → cond (isList list) (Is (any (entryIs list a) (length list / 7))) (Refused InvalidValue) ≡ Is true → Entry list a
+    sound true e is =
+        let answer = rw e at is in
+        let found = any-passing (entryIs list a) (length list / 7) (cc) in
+        record { place = found .number; inside = found .below; is = equality (entryAt list (found .number)) a .sound (found .passes) }
+    sound false e is =
+        let answer = rw e at is in
+        let z : _≡_ {A = ℕ} 0 1 = cc in
+        absurd (omega arith)

@@ -1,0 +1,3 @@
+pub mod Addresses
+pub mod Boxes
+pub mod Entries

@@ -1,0 +1,4 @@
+pub mod Address
+pub mod Filter
+pub mod Header
+pub mod Laws

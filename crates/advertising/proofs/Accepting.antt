@@ -1,0 +1,148 @@
+-- A header and a payload are accepted exactly if they have a shape of the Core: `accepting`. Assumes nothing.
+use mathlib.Core.Bool.{Bool, true, false, cond}
+use mathlib.Core.List.{List, [], _∷_}
+use mathlib.Core.Logic.{_⊎_, inl, inr}
+use mathlib.Core.Path.{_≡_, refl, sym, _∙_}
+use Prim.Native.Nat.{ℕ, _-_, _≤_, _*_, _/_, _%_}
+use native.Mathlib.Omega.{arith}
+use lib.Dec.{eqb, ltb}
+use lib.ListN.{length, drop, length-drop}
+use borrow.Author.Tests.{eq-eqb, eqb-true, le-ltb, ltb-false}
+use Rattle.addresses.specs.Address.{kindOf, addressOf}
+use Rattle.addresses.specs.Header.{typeOf, txAdd, rxAdd, lengthOf, allowsAdvData}
+use Rattle.addresses.specs.declared.header.Header.{Header}
+use Rattle.addresses.specs.declared.header.PduType.{PduType}
+use Rattle.addresses.specs.declared.header.PduType.the-variants.{AdvInd, AdvDirectInd, AdvNonconnInd, AdvScanInd, ScanReq, ScanRsp, ConnectReq, Unknown}
+use Rattle.channels.specs.Map.{fromRaw}
+use Rattle.octets.specs.Bytes.{part, le}
+use Rattle.octets.specs.declared.error.Error.{Error}
+use Rattle.octets.specs.declared.error.Error.the-variants.{Eof, InvalidLength}
+use Rattle.records.specs.Area.{readArea}
+use Rattle.records.specs.declared.area.Area.{Area}
+use Rattle.records.specs.declared.area.Area.the-variants as area
+use Rattle.advertising.specs.Laws.{Figure, Shaped, with-records, two-addresses, with-lldata, Accepting}
+use Rattle.advertising.specs.Pdu.{undirectedFigure, directedFigure, connectFigure, accuracyOf, requestOf, noRequest, noAddress, noData, senderOf, receiverOf, decodedAs, refusedPdu, withArea, undirected, directed, connectRequest, byType, decodeOf}
+use Rattle.advertising.specs.declared.pdu.Decoded.{Decoded}
+use Rattle.advertising.specs.declared.pdu.Outcome.the-variants.{Accepted}
+use Rattle.advertising.proofs.Figures.{field-is, behind, long, cut-figure}
+
+-- what is accepted was not refused
+not-refused : (b : Bool) (e : Error) (d : Decoded) → cond b (refusedPdu e) d .outcome ≡ Accepted → b ≡ false
+not-refused true e d ok = let z : _≡_ {A = ℕ} 0 1 = cc in absurd (omega arith)
+not-refused false e d ok = refl
+
+passed : (b : Bool) (e : Error) (d : Decoded) → cond b d (refusedPdu e) .outcome ≡ Accepted → b ≡ true
+passed true e d ok = refl
+passed false e d ok = let z : _≡_ {A = ℕ} 0 1 = cc in absurd (omega arith)
+
+-- a type with two addresses alone
+abbrev isDirected : PduType → Type 0
+isDirected ty = (ty ≡ AdvDirectInd) ⊎ (ty ≡ ScanReq)
+
+module _ (h : Header) (p : List ℕ) where
+  undirected-sound : (ty : PduType) → typeOf h ≡ ty → allowsAdvData ty ≡ true → undirected ty h p .outcome ≡ Accepted → Shaped h p (undirected ty h p)
+  unfolding undirected withArea
+  undirected-sound ty is allows ok =
+      let enough = not-refused (ltb (length p) 6) Eof (withArea ty h p (readArea (drop 6 p))) ok in
+      rw enough (go (readArea (drop 6 p)) refl (ltb-false (length p) 6 enough) (rw enough at ok))
+    where
+      go : (a : Area) → readArea (drop 6 p) ≡ a → 6 ≤ length p → withArea ty h p a .outcome ≡ Accepted → Shaped h p (withArea ty h p a)
+      go (area.Accepted n) e size ok =
+          let rest : length p - 6 ≡ length (drop 6 p) = sym (length-drop 6 p) in
+          with-records ty (part 6 p 0) (drop 6 p) n is allows (cut-figure undirectedFigure p size) e (rw rest)
+      go (area.Refused r) e size ok = let z : _≡_ {A = ℕ} 0 1 = cc in absurd (omega arith)
+
+  directed-sound : (ty : PduType) → typeOf h ≡ ty → isDirected ty → directed ty h p .outcome ≡ Accepted → Shaped h p (directed ty h p)
+  unfolding directed
+  directed-sound ty is which ok =
+      let enough = not-refused (ltb (length p) 12) Eof (decodedAs Accepted ty (senderOf h p) (receiverOf h p) noData noRequest) ok in
+      rw enough (two-addresses ty (part 6 p 0) (part 6 p 6) (drop 12 p) is which (cut-figure directedFigure p (ltb-false (length p) 12 enough)) refl)
+
+  connect-sound : typeOf h ≡ ConnectReq → connectRequest h p .outcome ≡ Accepted → Shaped h p (connectRequest h p)
+  unfolding connectRequest requestOf
+  connect-sound is ok =
+      let enough = not-refused (ltb (length p) 34) Eof (decodedAs Accepted ConnectReq (senderOf h p) (receiverOf h p) noData (requestOf p)) ok in
+      rw enough
+      (with-lldata (part 6 p 0) (part 6 p 6) (part 4 p 12) (part 3 p 16) (part 1 p 19) (part 2 p 20) (part 2 p 22) (part 2 p 24) (part 2 p 26) (part 5 p 28) (part 1 p 33) (drop 34 p) is
+      (cut-figure connectFigure p (ltb-false (length p) 34 enough))
+      refl)
+
+  by-type : (ty : PduType) → typeOf h ≡ ty → byType ty h p .outcome ≡ Accepted → Shaped h p (byType ty h p)
+  unfolding byType
+  by-type AdvInd is ok = undirected-sound AdvInd is refl ok
+  by-type AdvDirectInd is ok = directed-sound AdvDirectInd is (inl refl) ok
+  by-type AdvNonconnInd is ok = undirected-sound AdvNonconnInd is refl ok
+  by-type AdvScanInd is ok = undirected-sound AdvScanInd is refl ok
+  by-type ScanReq is ok = directed-sound ScanReq is (inr refl) ok
+  by-type ScanRsp is ok = undirected-sound ScanRsp is refl ok
+  by-type ConnectReq is ok = connect-sound is ok
+  by-type (Unknown n) is ok = let z : _≡_ {A = ℕ} 0 1 = cc in absurd (omega arith)
+
+  -- the arms of the types
+  arm-undirected : (ty : PduType) → allowsAdvData ty ≡ true → byType ty h p ≡ undirected ty h p
+  unfolding byType
+  arm-undirected AdvInd e = refl
+  arm-undirected AdvNonconnInd e = refl
+  arm-undirected AdvScanInd e = refl
+  arm-undirected ScanRsp e = refl
+  arm-undirected AdvDirectInd e = let z : _≡_ {A = ℕ} 0 1 = cc in absurd (omega arith)
+  arm-undirected ScanReq e = let z : _≡_ {A = ℕ} 0 1 = cc in absurd (omega arith)
+  arm-undirected ConnectReq e = let z : _≡_ {A = ℕ} 0 1 = cc in absurd (omega arith)
+  arm-undirected (Unknown n) e = let z : _≡_ {A = ℕ} 0 1 = cc in absurd (omega arith)
+
+  arm-directed : (ty : PduType) → isDirected ty → byType ty h p ≡ directed ty h p
+  unfolding byType
+  arm-directed ty (inl is) = rw is
+  arm-directed ty (inr is) = rw is
+
+  -- what the shapes decode to
+  undirected-is : (ty : PduType) {advA records : List ℕ} {n : ℕ} → Figure undirectedFigure (advA ∷ []) records p → readArea records ≡ area.Accepted n
+      → undirected ty h p ≡ decodedAs Accepted ty (addressOf advA (kindOf (txAdd h))) noAddress (record { start = 6; len = length records; count = n }) noRequest
+  unfolding undirected withArea
+  undirected-is ty {advA} {records} fig good =
+      let size : length p - 6 ≡ length records = omega (arith, long fig) in
+      rw (le-ltb (length p) 6 (omega (arith, long fig)), behind fig, good, size, field-is fig 0)
+
+  directed-is : (ty : PduType) {first second further : List ℕ} → Figure directedFigure (first ∷ second ∷ []) further p
+      → directed ty h p ≡ decodedAs Accepted ty (addressOf first (kindOf (txAdd h))) (addressOf second (kindOf (rxAdd h))) noData noRequest
+  unfolding directed
+  directed-is ty fig = rw (le-ltb (length p) 12 (omega (arith, long fig)), field-is fig 0, field-is fig 1)
+
+  connect-is : {initA advA aa crcInit winSize winOffset interval latency timeout chM hopSca further : List ℕ}
+      → Figure connectFigure (initA ∷ advA ∷ aa ∷ crcInit ∷ winSize ∷ winOffset ∷ interval ∷ latency ∷ timeout ∷ chM ∷ hopSca ∷ []) further p
+      → byType ConnectReq h p
+      ≡ decodedAs Accepted ConnectReq (addressOf initA (kindOf (txAdd h))) (addressOf advA (kindOf (rxAdd h))) noData (record {
+        «access_address» = le aa;
+        «crc_init» = le crcInit;
+        «win_size» = le winSize * 1250;
+        «win_offset» = le winOffset * 1250;
+        interval = le interval * 1250;
+        latency = le latency;
+        timeout = le timeout * 10000;
+        chm = fromRaw chM;
+        hop = le hopSca % 32;
+        sca = accuracyOf (le hopSca / 32);
+      })
+  unfolding byType connectRequest requestOf
+  connect-is fig =
+      let at = field-is fig in
+      rw (le-ltb (length p) 34 (omega (arith, long fig)), at 0, at 1, at 2, at 3, at 4, at 5, at 6, at 7, at 8, at 9, at 10)
+
+  complete : (d : Decoded) → lengthOf h ≡ length p → Shaped h p d → decodeOf h p ≡ d
+  unfolding decodeOf
+  complete d counts (with-records ty advA records n is allows fig good e) =
+      rw (eq-eqb (lengthOf h) (length p) counts, is) (arm-undirected ty allows ∙ undirected-is ty fig good ∙ sym e)
+  complete d counts (two-addresses ty first second further is which fig e) =
+      rw (eq-eqb (lengthOf h) (length p) counts, is) (arm-directed ty which ∙ directed-is ty fig ∙ sym e)
+  complete d counts (with-lldata initA advA aa crcInit winSize winOffset interval latency timeout chM hopSca further is fig e) =
+      rw (eq-eqb (lengthOf h) (length p) counts, is) (connect-is fig ∙ sym e)
+
+pub accepting : (h : Header) (p : List ℕ) → Accepting h p
+unfolding decodeOf
+accepting h p =
+    record {
+      sound = λ ok.
+          let same = passed (eqb (lengthOf h) (length p)) InvalidLength (byType (typeOf h) h p) ok in
+          (eqb-true (lengthOf h) (length p) same, rw same (by-type h p (typeOf h) refl (rw same at ok)));
+      complete = complete h p;
+    }

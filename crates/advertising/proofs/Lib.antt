@@ -1,0 +1,5 @@
+pub mod Accepting
+pub mod Buffers
+pub mod Building
+pub mod Figures
+pub mod Rows

@@ -1,0 +1,19 @@
+-- Document 01's rows on PDUs hold of the definitions. Computed. Assumes nothing.
+use mathlib.Core.Path.{refl}
+use Rattle.addresses.specs.Header.{pduType}
+use Rattle.records.specs.Area.{cut, reads, before, areaOf, readArea}
+use Rattle.records.specs.Record.{named, first, flagsRead, dataRead, upTo, recordRead}
+use Rattle.advertising.specs.Laws.{Rows}
+use Rattle.advertising.specs.Pdu.{withArea, undirected, byType, decodeOf}
+
+pub rows : Rows
+unfolding decodeOf byType undirected withArea pduType readArea areaOf reads before cut first recordRead dataRead flagsRead upTo named
+rows =
+    record {
+      row-42-09 = refl;
+      row-42-08 = refl;
+      row-07-06 = λ a b c d e f. refl;
+      row-07-05 = λ a b c d e f. refl;
+      row-00-05 = λ a b c d e. refl;
+      row-00-06 = λ a b c d e f. refl;
+    }

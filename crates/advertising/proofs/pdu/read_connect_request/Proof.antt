@@ -1,0 +1,42 @@
+-- `pdu::read_connect_request` meets its contract. Assumes nothing.
+use mathlib.Core.Path.{_∙_}
+use borrow.Author.Tests.{lt-ltb, le-ltb}
+use borrow.Author.Needs.{needs}
+use Rattle.advertising.specs.Pdu.{connectRequest}
+use Rattle.advertising.proofs.pdu.read_connect_request.Statement.{statement}
+use Rattle.advertising.proofs.pdu.read_connect_request.Tie as tie
+
+returns : tie.Need-returns
+unfolding connectRequest
+returns c = c .refused .ensures ∙ rw (lt-ltb _ _ (c .before .if1 .taken))
+
+returns-2 : tie.Need-returns-2
+unfolding connectRequest
+returns-2 c =
+    let second = c .before .before .before in
+    let first = second .before .before in
+    c .answered .ensures
+    ∙ rw (
+      c .before .no-data .ensures,
+      c .before .before .read-request .ensures,
+      second .address-at2 .ensures,
+      second .before .rx-add .ensures,
+      first .address-at .ensures,
+      first .before .tx-add .ensures,
+      le-ltb _ _ (first .before .before .if1 .left),
+    )
+
+pub read-connect-request-spec : {M : Type 1} → statement M
+read-connect-request-spec =
+    tie.close
+    (tie.spec
+    (λ c κs. search needs)
+    returns
+    (λ c κs. search needs)
+    (λ c κs. search needs)
+    (λ c κs. search needs)
+    (λ c κs. search needs)
+    (λ c κs. search needs)
+    (λ c κs. search needs)
+    (λ c κs. search needs)
+    returns-2)

@@ -1,0 +1,105 @@
+-- The laws of PDUs, each with the theorem of proofs/ that proves it.
+--   Accepting     Accepting.accepting    which headers and payloads are accepted, and what is read of them
+--   Building      Building.building      what is read of a PDU that was built
+--   Rows          Rows.rows              document 01's rows
+use mathlib.Core.Bool.{true}
+use mathlib.Core.List.{List, [], _∷_, _++_, map, flatten}
+use mathlib.Core.Logic.{_⊎_}
+use mathlib.Core.Path.{_≡_}
+use Prim.Native.Nat.{ℕ, _+_, _*_, _/_, _%_, _≤_}
+use lib.ListN.{length}
+use Rattle.addresses.specs.Address.{kindOf, addressOf}
+use Rattle.addresses.specs.Header.{headerOf, typeOf, txAdd, rxAdd, lengthOf, allowsAdvData}
+use Rattle.addresses.specs.declared.device_address.AddressKind.the-variants.{Public, Random}
+use Rattle.addresses.specs.declared.device_address.DeviceAddress.{DeviceAddress}
+use Rattle.addresses.specs.declared.header.Header.{Header}
+use Rattle.addresses.specs.declared.header.PduType.{PduType}
+use Rattle.addresses.specs.declared.header.PduType.the-variants.{AdvInd, AdvDirectInd, AdvNonconnInd, ScanReq, ConnectReq}
+use Rattle.channels.specs.Map.{fromRaw}
+use Rattle.octets.specs.Bytes.{le}
+use Rattle.octets.specs.declared.error.Error.the-variants.{Eof, InvalidLength, InvalidValue}
+use Rattle.records.specs.Area.{readArea, rewritten}
+use Rattle.records.specs.declared.area.Area.the-variants as area
+use Rattle.advertising.specs.Pdu.{undirectedFigure, directedFigure, connectFigure, accuracyOf, noRequest, noAddress, noData, dataIn, decodedAs, refusedPdu, decodeOf}
+use Rattle.advertising.specs.PduBuf.{builtOf, builtDirected, flagsRecord, payloadOf}
+use Rattle.advertising.specs.declared.pdu.AdvData.{AdvData}
+use Rattle.advertising.specs.declared.pdu.Decoded.{Decoded}
+use Rattle.advertising.specs.declared.pdu.Outcome.the-variants.{Accepted}
+use Rattle.advertising.specs.declared.pdu_buf.PduBuf.{PduBuf}
+
+-- a payload is these fields, of the widths of a figure, and further octets
+pub record Figure (widths : List ℕ) (fields : List (List ℕ)) (further p : List ℕ) : Type 0 where
+  pub sizes : map length fields ≡ widths
+  pub tiles : p ≡ flatten fields ++ further
+
+-- A header and a payload have the shape of a figure of the Core, drawn in specs/Pdu.antt, and say what d says.
+pub data Shaped (h : Header) (p : List ℕ) (d : Decoded) : Type 0 where
+  -- an address and records
+  with-records : (ty : PduType) (advA records : List ℕ) (n : ℕ) → typeOf h ≡ ty → allowsAdvData ty ≡ true
+      → Figure undirectedFigure (advA ∷ []) records p → readArea records ≡ area.Accepted n
+      → d ≡ decodedAs Accepted ty (addressOf advA (kindOf (txAdd h))) noAddress (record { start = 6; len = length records; count = n }) noRequest
+      → Shaped h p d
+  -- two addresses
+  two-addresses : (ty : PduType) (first second further : List ℕ) → typeOf h ≡ ty → (ty ≡ AdvDirectInd) ⊎ (ty ≡ ScanReq)
+      → Figure directedFigure (first ∷ second ∷ []) further p
+      → d ≡ decodedAs Accepted ty (addressOf first (kindOf (txAdd h))) (addressOf second (kindOf (rxAdd h))) noData noRequest
+      → Shaped h p d
+  -- two addresses and LLData
+  with-lldata : (initA advA aa crcInit winSize winOffset interval latency timeout chM hopSca further : List ℕ) → typeOf h ≡ ConnectReq
+      → Figure connectFigure (initA ∷ advA ∷ aa ∷ crcInit ∷ winSize ∷ winOffset ∷ interval ∷ latency ∷ timeout ∷ chM ∷ hopSca ∷ []) further p
+      → d ≡ decodedAs Accepted ConnectReq (addressOf initA (kindOf (txAdd h))) (addressOf advA (kindOf (rxAdd h))) noData (record {
+        «access_address» = le aa;
+        «crc_init» = le crcInit;
+        «win_size» = le winSize * 1250;
+        «win_offset» = le winOffset * 1250;
+        interval = le interval * 1250;
+        latency = le latency;
+        timeout = le timeout * 10000;
+        chm = fromRaw chM;
+        hop = le hopSca % 32;
+        sca = accuracyOf (le hopSca / 32);
+      })
+      → Shaped h p d
+
+-- A header and a payload are accepted exactly if the header counts the payload and they have a shape of the Core; what is then read is what the
+-- shape says.
+pub record Accepting (h : Header) (p : List ℕ) : Type 0 where
+  pub sound : decodeOf h p .outcome ≡ Accepted → (lengthOf h ≡ length p) × Shaped h p (decodeOf h p)
+  pub complete : (d : Decoded) → lengthOf h ≡ length p → Shaped h p d → decodeOf h p ≡ d
+
+-- a PDU of type ty from the address a was built with these records, n of them, and reads so
+pub record ReadsBack (ty : PduType) (a : DeviceAddress) (flags s : List ℕ) (n : ℕ) : Type 0 where
+  pub pdu : PduBuf
+  pub built : builtOf ty a flags s ≡ record { outcome = Accepted; pdu = pdu }
+  pub place : AdvData
+  pub reads : decodeOf (pdu .header) (payloadOf pdu) ≡ decodedAs Accepted ty a noAddress place noRequest
+  pub count : place .count ≡ n
+  -- the records are those given, with undefined Flags bits cleared
+  pub records : dataIn place (payloadOf pdu) ≡ flags ++ rewritten s
+
+-- Decoding what a builder built gives the type, the address with its kind and the records, for every address and every accepted area that fits.
+pub record Building : Type 0 where
+  pub adv : (ty : PduType) (a : DeviceAddress) (s : List ℕ) (n : ℕ) → allowsAdvData ty ≡ true → length (a .bytes) ≡ 6
+      → readArea s ≡ area.Accepted n → length s ≤ 31 → ReadsBack ty a [] s n
+  pub discoverable : (a : DeviceAddress) (s : List ℕ) (n : ℕ) → length (a .bytes) ≡ 6
+      → readArea s ≡ area.Accepted n → length s ≤ 28 → ReadsBack AdvInd a flagsRecord s (n + 1)
+  pub directed : (a b : DeviceAddress) → length (a .bytes) ≡ 6 → length (b .bytes) ≡ 6
+      → decodeOf (builtDirected a b .header) (payloadOf (builtDirected a b)) ≡ decodedAs Accepted AdvDirectInd a b noData noRequest
+
+-- Document 01's rows on PDUs: the two octets of a header, and a payload.
+abbrev pub row : ℕ → ℕ → List ℕ → Decoded
+row h0 h1 p = decodeOf (headerOf (le (h0 ∷ h1 ∷ []))) p
+
+abbrev pub nine : List ℕ
+nine = 0x01 ∷ 0x02 ∷ 0x03 ∷ 0x04 ∷ 0x05 ∷ 0xC6 ∷ 0x02 ∷ 0x01 ∷ 0x06 ∷ []
+
+pub record Rows : Type 0 where
+  pub row-42-09 : row 0x42 0x09 nine
+      ≡ decodedAs Accepted AdvNonconnInd (addressOf (0x01 ∷ 0x02 ∷ 0x03 ∷ 0x04 ∷ 0x05 ∷ 0xC6 ∷ []) Random) noAddress (record { start = 6; len = 3; count = 1 }) noRequest
+  pub row-42-08 : row 0x42 0x08 nine ≡ refusedPdu InvalidLength
+  pub row-07-06 : (a b c d e f : ℕ) → row 0x07 0x06 (a ∷ b ∷ c ∷ d ∷ e ∷ f ∷ []) ≡ refusedPdu InvalidValue
+  pub row-07-05 : (a b c d e f : ℕ) → row 0x07 0x05 (a ∷ b ∷ c ∷ d ∷ e ∷ f ∷ []) ≡ refusedPdu InvalidLength
+  pub row-00-05 : (a b c d e : ℕ) → row 0x00 0x05 (a ∷ b ∷ c ∷ d ∷ e ∷ []) ≡ refusedPdu Eof
+  pub row-00-06 : (a b c d e f : ℕ)
+      → row 0x00 0x06 (a ∷ b ∷ c ∷ d ∷ e ∷ f ∷ [])
+      ≡ decodedAs Accepted AdvInd (addressOf (a ∷ b ∷ c ∷ d ∷ e ∷ f ∷ []) Public) noAddress (record { start = 6; len = 0; count = 0 }) noRequest

@@ -1,0 +1,185 @@
+-- What a header and a payload decode to (layouts: the Core, Vol 6 Part B, 2.3.1 to 2.3.3; accepted inputs and refusals: document 01).
+--
+--     0 ADV_IND, 2 ADV_NONCONN_IND, 6 ADV_SCAN_IND        | AdvA 6  | AdvData 0-31     |
+--     4 SCAN_RSP                                          | AdvA 6  | ScanRspData 0-31 |
+--     1 ADV_DIRECT_IND                                    | AdvA 6  | TargetA 6        |
+--     3 SCAN_REQ                                          | ScanA 6 | AdvA 6           |
+--     5 CONNECT_IND                                       | InitA 6 | AdvA 6           | LLData 22 |
+--     LLData      | AA 4 | CRCInit 3 | WinSize 1 | WinOffset 2 | Interval 2 | Latency 2 | Timeout 2 | ChM 5 | Hop 5 bits, SCA 3 bits |
+--
+-- TxAdd is the kind of the first address and RxAdd that of the second. Numbers stand least significant octet first.
+--   fieldAt widths k p        == field k of a payload, where its figure has these widths in octets
+--   requestOf p               == the LLData of a connect request
+--   accuracyOf n              == the sleep clock accuracy of a code (2.3.3.1)
+--   windowEnd d               == the end of the transmit window, from the end of a request with these data
+--   senderOf h p, receiverOf h p   == the first and the second address
+--   hasReceiver ty            == a type with a second address
+--   dataIn d p                == the part of a payload where records lie
+--   decodedAs o ty s r d l    == an answer, with all that it says
+--   refusedPdu e              == the refusal e, with an empty PDU
+--   undirected, directed, connectRequest   == the answer by type, once the length agrees
+--   decodeOf h p              == the answer for a header and a payload
+--   decodedAt found s         == the same for a header that was found in s, or not, and what follows it
+use mathlib.Core.Bool.{Bool, true, false, cond}
+use mathlib.Core.List.{List, [], _∷_}
+use Prim.Native.Nat.{ℕ, _+_, _-_, _*_, _/_, _%_}
+use lib.Dec.{eqb, ltb}
+use lib.ListN.{length, getD, take, drop}
+use Rattle.channels.specs.Map.{fromRaw}
+use Rattle.octets.specs.Bytes.{has, part, le}
+use Rattle.octets.specs.Time.{later}
+use Rattle.octets.specs.declared.error.Error.{Error}
+use Rattle.octets.specs.declared.error.Error.the-variants.{Eof, InvalidLength, InvalidValue}
+use Rattle.records.specs.Area.{readArea}
+use Rattle.records.specs.declared.area.Area.{Area}
+use Rattle.records.specs.declared.area.Area.the-variants as area
+use Rattle.addresses.specs.Address.{kindOf, addressOf}
+use Rattle.addresses.specs.Header.{typeOf, txAdd, rxAdd, lengthOf}
+use Rattle.addresses.specs.declared.device_address.AddressKind.the-variants.{Public}
+use Rattle.addresses.specs.declared.device_address.DeviceAddress.{DeviceAddress}
+use Rattle.addresses.specs.declared.header.Header.{Header}
+use Rattle.addresses.specs.declared.header.HeaderRead.{HeaderRead}
+use Rattle.addresses.specs.declared.header.HeaderRead.the-variants as read
+use Rattle.addresses.specs.declared.header.PduType.{PduType}
+use Rattle.addresses.specs.declared.header.PduType.the-variants.{AdvInd, AdvDirectInd, AdvNonconnInd, AdvScanInd, ScanReq, ScanRsp, ConnectReq, Unknown}
+use Rattle.advertising.specs.declared.pdu.AdvData.{AdvData}
+use Rattle.advertising.specs.declared.pdu.ConnectRequestData.{ConnectRequestData}
+use Rattle.advertising.specs.declared.pdu.Decoded.{Decoded}
+use Rattle.advertising.specs.declared.pdu.Outcome.{Outcome}
+use Rattle.advertising.specs.declared.pdu.Outcome.the-variants.{Accepted, Refused}
+use Rattle.advertising.specs.declared.pdu.SleepClockAccuracy.{SleepClockAccuracy}
+use Rattle.advertising.specs.declared.pdu.SleepClockAccuracy.the-variants.{Ppm251To500, Ppm151To250, Ppm101To150, Ppm76To100, Ppm51To75, Ppm31To50, Ppm21To30, Ppm0To20}
+
+abbrev pub total : List ℕ → ℕ
+total [] = 0
+total (w ∷ ws) = w + total ws
+
+abbrev pub fieldAt : List ℕ → ℕ → List ℕ → List ℕ
+fieldAt widths k p = part (getD widths k 0) p (total (take k widths))
+
+-- the figures' widths: of a payload with records, without, and of a connect request
+abbrev pub undirectedFigure : List ℕ
+undirectedFigure = 6 ∷ []
+
+abbrev pub directedFigure : List ℕ
+directedFigure = 6 ∷ 6 ∷ []
+
+abbrev pub connectFigure : List ℕ
+connectFigure = 6 ∷ 6 ∷ 4 ∷ 3 ∷ 1 ∷ 2 ∷ 2 ∷ 2 ∷ 2 ∷ 5 ∷ 1 ∷ []
+
+abbrev pub accuracyOf : ℕ → SleepClockAccuracy
+accuracyOf n =
+    cond (eqb n 0) Ppm251To500
+    (cond (eqb n 1) Ppm151To250
+    (cond (eqb n 2) Ppm101To150
+    (cond (eqb n 3) Ppm76To100
+    (cond (eqb n 4) Ppm51To75
+    (cond (eqb n 5) Ppm31To50
+    (cond (eqb n 6) Ppm21To30
+    Ppm0To20))))))
+
+-- window fields and interval count 1,250 µs, the timeout 10,000 µs
+unfoldable pub requestOf : List ℕ → ConnectRequestData
+requestOf p =
+    record {
+      «access_address» = le (fieldAt connectFigure 2 p);
+      «crc_init» = le (fieldAt connectFigure 3 p);
+      «win_size» = le (fieldAt connectFigure 4 p) * 1250;
+      «win_offset» = le (fieldAt connectFigure 5 p) * 1250;
+      interval = le (fieldAt connectFigure 6 p) * 1250;
+      latency = le (fieldAt connectFigure 7 p);
+      timeout = le (fieldAt connectFigure 8 p) * 10000;
+      chm = fromRaw (fieldAt connectFigure 9 p);
+      hop = le (fieldAt connectFigure 10 p) % 32;
+      sca = accuracyOf (le (fieldAt connectFigure 10 p) / 32);
+    }
+
+-- transmitWindowDelay is 1,250 µs
+abbrev pub windowEnd : ConnectRequestData → ℕ
+windowEnd d = later (later (d .«win_offset») (d .«win_size»)) 1250
+
+abbrev pub noRequest : ConnectRequestData
+noRequest =
+    record {
+      «access_address» = 0;
+      «crc_init» = 0;
+      «win_size» = 0;
+      «win_offset» = 0;
+      interval = 0;
+      latency = 0;
+      timeout = 0;
+      chm = fromRaw (0 ∷ 0 ∷ 0 ∷ 0 ∷ 0 ∷ []);
+      hop = 0;
+      sca = Ppm251To500;
+    }
+
+abbrev pub noAddress : DeviceAddress
+noAddress = addressOf (0 ∷ 0 ∷ 0 ∷ 0 ∷ 0 ∷ 0 ∷ []) Public
+
+abbrev pub noData : AdvData
+noData = record { start = 0; len = 0; count = 0 }
+
+abbrev pub senderOf : Header → List ℕ → DeviceAddress
+senderOf h p = addressOf (fieldAt directedFigure 0 p) (kindOf (txAdd h))
+
+abbrev pub receiverOf : Header → List ℕ → DeviceAddress
+receiverOf h p = addressOf (fieldAt directedFigure 1 p) (kindOf (rxAdd h))
+
+abbrev pub hasReceiver : PduType → Bool
+hasReceiver AdvDirectInd = true
+hasReceiver ScanReq = true
+hasReceiver ConnectReq = true
+hasReceiver AdvInd = false
+hasReceiver AdvNonconnInd = false
+hasReceiver AdvScanInd = false
+hasReceiver ScanRsp = false
+hasReceiver (Unknown n) = false
+
+abbrev pub dataIn : AdvData → List ℕ → List ℕ
+dataIn d p = cond (has (d .len) p (d .start)) (part (d .len) p (d .start)) []
+
+abbrev pub decodedAs : Outcome → PduType → DeviceAddress → DeviceAddress → AdvData → ConnectRequestData → Decoded
+decodedAs outcome ty sender receiver records lldata =
+    record {
+      outcome = outcome;
+      pdu = record { ty = ty; sender = sender; receiver = receiver; «adv_data» = records; lldata = lldata };
+    }
+
+abbrev pub refusedPdu : Error → Decoded
+refusedPdu e = decodedAs (Refused e) (Unknown 0) noAddress noAddress noData noRequest
+
+-- a PDU whose record area, behind the address, reads so
+unfoldable pub withArea : PduType → Header → List ℕ → Area → Decoded
+withArea ty h p (area.Accepted n) =
+    decodedAs Accepted ty (senderOf h p) noAddress (record { start = 6; len = length p - 6; count = n }) noRequest
+withArea ty h p (area.Refused e) = refusedPdu e
+
+unfoldable pub undirected : PduType → Header → List ℕ → Decoded
+undirected ty h p = cond (ltb (length p) (total undirectedFigure)) (refusedPdu Eof) (withArea ty h p (readArea (drop (total undirectedFigure) p)))
+
+unfoldable pub directed : PduType → Header → List ℕ → Decoded
+directed ty h p =
+    cond (ltb (length p) (total directedFigure)) (refusedPdu Eof)
+    (decodedAs Accepted ty (senderOf h p) (receiverOf h p) noData noRequest)
+
+unfoldable pub connectRequest : Header → List ℕ → Decoded
+connectRequest h p =
+    cond (ltb (length p) (total connectFigure)) (refusedPdu Eof)
+    (decodedAs Accepted ConnectReq (senderOf h p) (receiverOf h p) noData (requestOf p))
+
+unfoldable pub byType : PduType → Header → List ℕ → Decoded
+byType AdvInd h p = undirected AdvInd h p
+byType AdvDirectInd h p = directed AdvDirectInd h p
+byType AdvNonconnInd h p = undirected AdvNonconnInd h p
+byType AdvScanInd h p = undirected AdvScanInd h p
+byType ScanReq h p = directed ScanReq h p
+byType ScanRsp h p = undirected ScanRsp h p
+byType ConnectReq h p = connectRequest h p
+byType (Unknown n) h p = refusedPdu InvalidValue
+
+unfoldable pub decodeOf : Header → List ℕ → Decoded
+decodeOf h p = cond (eqb (lengthOf h) (length p)) (byType (typeOf h) h p) (refusedPdu InvalidLength)
+
+abbrev pub decodedAt : HeaderRead → List ℕ → Decoded
+decodedAt (read.Header h next) s = decodeOf h (drop (next .at) s)
+decodedAt (read.Refused e) s = refusedPdu e

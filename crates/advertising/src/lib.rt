@@ -1,0 +1,3 @@
+// Packets on the advertising channels: PDUs read and built.
+pub mod pdu;
+pub mod pdu_buf;

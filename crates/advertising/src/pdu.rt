@@ -1,0 +1,459 @@
+// Advertising channel PDUs, read. Their payloads are drawn in specs/Pdu.antt.
+ghost use mathlib.Core.Path.{_≡_};
+ghost use Prim.Native.Nat.{_+_, _*_, _≤_};
+ghost use lib.ListN.{length};
+ghost use Rattle.octets.specs.Bytes.{part, le, u16Read};
+ghost use Rattle.addresses.specs.Header.{headerRead};
+ghost use Rattle.addresses.specs.Address.{kindOf, addressOf};
+ghost use Rattle.advertising.specs.Pdu.{accuracyOf, requestOf, noRequest, noAddress, noData, windowEnd, hasReceiver, dataIn, decodedAs, refusedPdu, undirected, directed, connectRequest, decodeOf, decodedAt};
+use addresses::device_address::AddressKind;
+use addresses::device_address::DeviceAddress;
+use addresses::header::Header;
+use addresses::header::HeaderRead;
+use addresses::header::PduType;
+use channels::channel_map::ChannelMap;
+use octets::bytes::ByteReader;
+use octets::bytes::u16_from_le_bytes;
+use octets::bytes::u32_from_le_bytes;
+use octets::error::Error;
+use records::area::Area;
+use records::area::read_area;
+
+// A PDU that was read. rubble's is an enum, whose variants hold addresses; here the type says which fields have a meaning.
+pub struct Pdu {
+    pub ty: PduType,
+    // The device that sends this PDU.
+    pub sender: DeviceAddress,
+    // The device that it is sent to, for a directed advertisement, a scan request and a connect request.
+    pub receiver: DeviceAddress,
+    // The records that follow the address, where the type has them.
+    pub adv_data: AdvData,
+    // Connection parameters, for a connect request.
+    pub lldata: ConnectRequestData,
+}
+
+// Where the records of a PDU lie in its payload, and how many they are.
+pub struct AdvData {
+    pub start: usize,
+    pub len: usize,
+    pub count: usize,
+}
+
+// Whether a PDU was read or built, or why not.
+pub enum Outcome {
+    Accepted,
+    Refused(Error),
+}
+
+// What reading a PDU finds. Where it is refused, the PDU is empty and has no meaning.
+pub struct Decoded {
+    pub outcome: Outcome,
+    pub pdu: Pdu,
+}
+
+impl Pdu {
+    // Reads a PDU. Order: the length, the type, then fields from the front.
+    pub fn from_header_and_payload(header: Header, payload: &[u8]) -> Decoded
+        ensures { λ r. ⌜ r ≡ decodeOf header (now (payload .entry)) ⌝ }
+    {
+        if header.payload_length() as usize != payload.len() {
+            return refused(Error::InvalidLength);
+        }
+        match header.type_() {
+            PduType::AdvInd => read_undirected(PduType::AdvInd, header, payload),
+            PduType::AdvDirectInd => read_directed(PduType::AdvDirectInd, header, payload),
+            PduType::AdvNonconnInd => read_undirected(PduType::AdvNonconnInd, header, payload),
+            PduType::AdvScanInd => read_undirected(PduType::AdvScanInd, header, payload),
+            PduType::ScanReq => read_directed(PduType::ScanReq, header, payload),
+            PduType::ScanRsp => read_undirected(PduType::ScanRsp, header, payload),
+            PduType::ConnectReq => read_connect_request(header, payload),
+            PduType::Unknown(_) => refused(Error::InvalidValue),
+        }
+    }
+
+    // The device that sends this PDU.
+    pub fn sender(self) -> DeviceAddress
+        ensures { λ r. ⌜ r ≡ self .sender ⌝ }
+    {
+        self.sender
+    }
+
+    // Whether this PDU has a fixed receiver.
+    pub fn has_receiver(self) -> bool
+        ensures { λ r. ⌜ r ≡ hasReceiver (self .ty) ⌝ }
+    {
+        let ty = self.ty;
+        match ty {
+            PduType::AdvDirectInd => true,
+            PduType::ScanReq => true,
+            PduType::ConnectReq => true,
+            PduType::AdvInd => false,
+            PduType::AdvNonconnInd => false,
+            PduType::AdvScanInd => false,
+            PduType::ScanRsp => false,
+            PduType::Unknown(_) => false,
+        }
+    }
+
+    // The intended receiver, if there is one.
+    pub fn receiver(self) -> DeviceAddress
+        ensures { λ r. ⌜ r ≡ self .receiver ⌝ }
+    {
+        self.receiver
+    }
+
+    pub fn ty(self) -> PduType
+        ensures { λ r. ⌜ r ≡ self .ty ⌝ }
+    {
+        self.ty
+    }
+
+    // The record area as a part of the payload: no octets where the payload has no such part.
+    pub fn advertising_data(self, payload: &[u8]) -> &[u8]
+        ensures { λ r. ⌜ now r ≡ dataIn (self .«adv_data») (now (payload .entry)) ⌝ }
+    {
+        let place = self.adv_data;
+        let start = place.start;
+        let len = place.len;
+        if payload.len() < start {
+            return &payload[..0];
+        }
+        if payload.len() - start < len {
+            return &payload[..0];
+        }
+        let end = start + len;
+        &payload[start..end]
+    }
+
+    // Reads header and payload from one slice. The payload is all that follows the header.
+    pub fn from_bytes(reader: ByteReader, s: &[u8]) -> Decoded
+        ensures { λ r. ⌜ r ≡ decodedAt (headerRead (u16Read (now (s .entry)) (reader .at))) (now (s .entry)) ⌝ }
+    {
+        match Header::from_bytes(reader, s) {
+            HeaderRead::Header(header, next) => {
+                let at = next.at;
+                Pdu::from_header_and_payload(header, &s[at..])
+            }
+            HeaderRead::Refused(e) => refused(e),
+        }
+    }
+}
+
+// A refusal, with an empty PDU.
+fn refused(e: Error) -> Decoded
+    ensures { λ r. ⌜ r ≡ refusedPdu e ⌝ }
+{
+    let none = PduType::Unknown(0);
+    answered(
+        Outcome::Refused(e),
+        none,
+        no_address(),
+        no_address(),
+        no_data(),
+        no_request(),
+    )
+}
+
+// Types 0, 2, 4 and 6: an address, then records.
+fn read_undirected(ty: PduType, header: Header, payload: &[u8]) -> Decoded
+    ensures { λ r. ⌜ r ≡ undirected ty header (now (payload .entry)) ⌝ }
+{
+    if payload.len() < 6 {
+        return refused(Error::Eof);
+    }
+    match read_area(&payload[6..]) {
+        Area::Accepted(count) => {
+            let adv_data = AdvData {
+                start: 6,
+                len: payload.len() - 6,
+                count,
+            };
+            let sender = address_at(header.tx_add(), payload, 0);
+            answered(
+                Outcome::Accepted,
+                ty,
+                sender,
+                no_address(),
+                adv_data,
+                no_request(),
+            )
+        }
+        Area::Refused(e) => refused(e),
+    }
+}
+
+// Types 1 and 3: two addresses.
+fn read_directed(ty: PduType, header: Header, payload: &[u8]) -> Decoded
+    ensures { λ r. ⌜ r ≡ directed ty header (now (payload .entry)) ⌝ }
+{
+    if payload.len() < 12 {
+        return refused(Error::Eof);
+    }
+    let sender = address_at(header.tx_add(), payload, 0);
+    let receiver = address_at(header.rx_add(), payload, 6);
+    answered(
+        Outcome::Accepted,
+        ty,
+        sender,
+        receiver,
+        no_data(),
+        no_request(),
+    )
+}
+
+// Type 5: two addresses, then connection parameters.
+fn read_connect_request(header: Header, payload: &[u8]) -> Decoded
+    ensures { λ r. ⌜ r ≡ connectRequest header (now (payload .entry)) ⌝ }
+{
+    if payload.len() < 34 {
+        return refused(Error::Eof);
+    }
+    let sender = address_at(header.tx_add(), payload, 0);
+    let receiver = address_at(header.rx_add(), payload, 6);
+    let lldata = read_request(payload);
+    answered(
+        Outcome::Accepted,
+        PduType::ConnectReq,
+        sender,
+        receiver,
+        no_data(),
+        lldata,
+    )
+}
+
+fn answered(
+    outcome: Outcome,
+    ty: PduType,
+    sender: DeviceAddress,
+    receiver: DeviceAddress,
+    adv_data: AdvData,
+    lldata: ConnectRequestData,
+) -> Decoded
+    ensures { λ r. ⌜ r ≡ decodedAs outcome ty sender receiver «adv_data» lldata ⌝ }
+{
+    let pdu = Pdu {
+        ty,
+        sender,
+        receiver,
+        adv_data,
+        lldata,
+    };
+    Decoded { outcome, pdu }
+}
+
+// The address of six octets, random or not.
+fn address_at(random: bool, payload: &[u8], at: usize) -> DeviceAddress
+    requires { ⌜ at + 6 ≤ length (now payload) ⌝ }
+    ensures { λ r. ⌜ r ≡ addressOf (part 6 (now (payload .entry)) at) (kindOf random) ⌝ }
+{
+    let read = ByteReader { at }.read_array6(payload);
+    let octets = read.octets;
+    DeviceAddress::new(octets, AddressKind::of(random))
+}
+
+fn no_address() -> DeviceAddress
+    ensures { λ r. ⌜ r ≡ noAddress ⌝ }
+{
+    DeviceAddress::new([0, 0, 0, 0, 0, 0], AddressKind::Public)
+}
+
+fn no_data() -> AdvData
+    ensures { λ r. ⌜ r ≡ noData ⌝ }
+{
+    AdvData {
+        start: 0,
+        len: 0,
+        count: 0,
+    }
+}
+
+// Connection parameters sent along with a connect request (`LLData`).
+pub struct ConnectRequestData {
+    access_address: u32,
+    crc_init: u32,
+    // Transmit window size in µs.
+    win_size: u32,
+    // Transmit window offset in µs.
+    win_offset: u32,
+    // Connection interval in µs.
+    interval: u32,
+    // Slave latency (number of connection events).
+    latency: u16,
+    // Connection timeout in µs.
+    timeout: u32,
+    chm: ChannelMap,
+    hop: u8,
+    sca: SleepClockAccuracy,
+}
+
+impl ConnectRequestData {
+    // The Access Address to use for data channel communication.
+    pub fn access_address(self) -> u32
+        ensures { λ r. ⌜ r ≡ self .«access_address» ⌝ }
+    {
+        self.access_address
+    }
+
+    // The initialization value for the CRC calculation.
+    pub fn crc_init(self) -> u32
+        ensures { λ r. ⌜ r ≡ self .«crc_init» ⌝ }
+    {
+        self.crc_init
+    }
+
+    // The channel map specified by the initiator.
+    pub fn channel_map(self) -> ChannelMap
+        ensures { λ r. ⌜ r ≡ self .chm ⌝ }
+    {
+        self.chm
+    }
+
+    // The channel hop distance.
+    pub fn hop(self) -> u8
+        ensures { λ r. ⌜ r ≡ self .hop ⌝ }
+    {
+        self.hop
+    }
+
+    // The end of the transmit window in µs from the end of the request, modulo 2^32 as instants are. A request that was read does not come near.
+    pub fn end_of_tx_window(self) -> u32
+        ensures { λ r. ⌜ r ≡ windowEnd self ⌝ }
+    {
+        // The Core's transmitWindowDelay is 1.25 ms.
+        let end = std::num::wrapping_add_u32(self.win_offset, self.win_size);
+        std::num::wrapping_add_u32(end, 1250)
+    }
+
+    // The size of the transmit window in µs.
+    pub fn win_size(self) -> u32
+        ensures { λ r. ⌜ r ≡ self .«win_size» ⌝ }
+    {
+        self.win_size
+    }
+
+    // The offset of the transmit window in µs.
+    pub fn win_offset(self) -> u32
+        ensures { λ r. ⌜ r ≡ self .«win_offset» ⌝ }
+    {
+        self.win_offset
+    }
+
+    // The connection event interval in µs.
+    pub fn interval(self) -> u32
+        ensures { λ r. ⌜ r ≡ self .interval ⌝ }
+    {
+        self.interval
+    }
+
+    // The slave latency (as the number of connection events).
+    pub fn slave_latency(self) -> u16
+        ensures { λ r. ⌜ r ≡ self .latency ⌝ }
+    {
+        self.latency
+    }
+
+    // The connection supervision timeout in µs.
+    pub fn supervision_timeout(self) -> u32
+        ensures { λ r. ⌜ r ≡ self .timeout ⌝ }
+    {
+        self.timeout
+    }
+
+    // The sleep clock accuracy of the initiator.
+    pub fn sca(self) -> SleepClockAccuracy
+        ensures { λ r. ⌜ r ≡ self .sca ⌝ }
+    {
+        self.sca
+    }
+}
+
+// The connection parameters of a whole connect request.
+fn read_request(payload: &[u8]) -> ConnectRequestData
+    requires { ⌜ 34 ≤ length (now payload) ⌝ }
+    ensures { λ r. ⌜ r ≡ requestOf (now (payload .entry)) ⌝ }
+{
+    let hop_and_sca = octet_at(payload, 33);
+    let raw = ByteReader { at: 28 }.read_array5(payload);
+    let octets = raw.octets;
+    ConnectRequestData {
+        access_address: u32_from_le_bytes(payload[12], payload[13], payload[14], payload[15]),
+        crc_init: u32_from_le_bytes(payload[16], payload[17], payload[18], 0),
+        win_size: micros(octet_at(payload, 19) as u16),
+        win_offset: micros(u16_at(payload, 20)),
+        interval: micros(u16_at(payload, 22)),
+        latency: u16_at(payload, 24),
+        timeout: (u16_at(payload, 26) as u32) * 10_000,
+        chm: ChannelMap::from_raw(octets),
+        hop: hop_and_sca % 32,
+        sca: SleepClockAccuracy::from_u8(hop_and_sca / 32),
+    }
+}
+
+fn no_request() -> ConnectRequestData
+    ensures { λ r. ⌜ r ≡ noRequest ⌝ }
+{
+    ConnectRequestData {
+        access_address: 0,
+        crc_init: 0,
+        win_size: 0,
+        win_offset: 0,
+        interval: 0,
+        latency: 0,
+        timeout: 0,
+        chm: ChannelMap::from_raw([0, 0, 0, 0, 0]),
+        hop: 0,
+        sca: SleepClockAccuracy::Ppm251To500,
+    }
+}
+
+// A count of 1.25 ms in µs.
+fn micros(count: u16) -> u32
+    ensures { λ r. ⌜ r ≡ count * 1250 ⌝ }
+{
+    (count as u32) * 1250
+}
+
+// The number of one octet and of two.
+fn octet_at(s: &[u8], at: usize) -> u8
+    requires { ⌜ at + 1 ≤ length (now s) ⌝ }
+    ensures { λ r. ⌜ r ≡ le (part 1 (now (s .entry)) at) ⌝ }
+{
+    s[at]
+}
+
+fn u16_at(s: &[u8], at: usize) -> u16
+    requires { ⌜ at + 2 ≤ length (now s) ⌝ }
+    ensures { λ r. ⌜ r ≡ le (part 2 (now (s .entry)) at) ⌝ }
+{
+    u16_from_le_bytes(s[at], s[at + 1])
+}
+
+// The sleep clock accuracy of the device that sends a connect request, in ppm.
+pub enum SleepClockAccuracy {
+    Ppm251To500,
+    Ppm151To250,
+    Ppm101To150,
+    Ppm76To100,
+    Ppm51To75,
+    Ppm31To50,
+    Ppm21To30,
+    Ppm0To20,
+}
+
+impl SleepClockAccuracy {
+    // The accuracy of a code of three bits.
+    fn from_u8(sca: u8) -> SleepClockAccuracy
+        ensures { λ r. ⌜ r ≡ accuracyOf sca ⌝ }
+    {
+        match sca {
+            0 => SleepClockAccuracy::Ppm251To500,
+            1 => SleepClockAccuracy::Ppm151To250,
+            2 => SleepClockAccuracy::Ppm101To150,
+            3 => SleepClockAccuracy::Ppm76To100,
+            4 => SleepClockAccuracy::Ppm51To75,
+            5 => SleepClockAccuracy::Ppm31To50,
+            6 => SleepClockAccuracy::Ppm21To30,
+            _ => SleepClockAccuracy::Ppm0To20,
+        }
+    }
+}

@@ -1,0 +1,215 @@
+// Advertising channel PDUs, built.
+ghost use mathlib.Core.Path.{_≡_};
+ghost use mathlib.Core.List.{[], _++_};
+ghost use Prim.Native.Nat.{_+_, _≤_, min};
+ghost use lib.ListN.{length, take, drop};
+ghost use Rattle.octets.specs.Bytes.{outAfter};
+ghost use Rattle.records.specs.Area.{rewrittenTo, rewrittenAfter};
+ghost use Rattle.advertising.specs.PduBuf.{padded, headerFor, refusedBuf, withRecords, builtOf, builtDirected, flagsRecord, payloadTo, payloadAfter};
+ghost use Rattle.addresses.specs.declared.header.PduType.the-variants.{AdvInd, AdvNonconnInd, AdvScanInd, ScanRsp};
+use crate::pdu::Outcome;
+use addresses::device_address::DeviceAddress;
+use addresses::header::Header;
+use addresses::header::HeaderMade;
+use addresses::header::PduType;
+use octets::bytes::ByteWriter;
+use octets::bytes::Written;
+use octets::error::Error;
+use records::ad_structure::Flags;
+use records::area::rewrite_area;
+
+// A PDU to be sent: its header, and its payload with zeros behind it.
+pub struct PduBuf {
+    header: Header,
+    payload_buf: [u8; 37],
+}
+
+// What building a PDU finds. Where it is refused, the PDU is all zeros and has no meaning.
+pub struct Built {
+    pub outcome: Outcome,
+    pub pdu: PduBuf,
+}
+
+impl PduBuf {
+    // A PDU of an address and records, which are lent encoded: all of them are read, then written again.
+    fn adv(ty: PduType, adv: DeviceAddress, adv_data: &[u8]) -> Built
+        ensures { λ r. ⌜ r ≡ builtOf ty adv [] (now («adv_data» .entry)) ⌝ }
+    {
+        let bytes = adv.raw();
+        let front = placed([0u8; 37], 0, &bytes);
+        fill(ty, adv.is_random(), front, 6, adv_data)
+    }
+
+    // A connectable undirected advertising PDU (`ADV_IND`).
+    pub fn connectable_undirected(advertiser_addr: DeviceAddress, advertiser_data: &[u8]) -> Built
+        ensures { λ r. ⌜ r ≡ builtOf AdvInd «advertiser_addr» [] (now («advertiser_data» .entry)) ⌝ }
+    {
+        PduBuf::adv(PduType::AdvInd, advertiser_addr, advertiser_data)
+    }
+
+    // A connectable directed advertising PDU (`ADV_DIRECT_IND`), which holds no records.
+    pub fn connectable_directed(
+        advertiser_addr: DeviceAddress,
+        initiator_addr: DeviceAddress,
+    ) -> PduBuf
+        ensures { λ r. ⌜ r ≡ builtDirected «advertiser_addr» «initiator_addr» ⌝ }
+    {
+        let bytes = advertiser_addr.raw();
+        let other = initiator_addr.raw();
+        let front = placed([0u8; 37], 0, &bytes);
+        let payload_buf = placed(front, 6, &other);
+        let header = header_for(
+            PduType::AdvDirectInd,
+            advertiser_addr.is_random(),
+            initiator_addr.is_random(),
+            12,
+        );
+        PduBuf {
+            header,
+            payload_buf,
+        }
+    }
+
+    // A non-connectable undirected advertising PDU (`ADV_NONCONN_IND`).
+    pub fn nonconnectable_undirected(
+        advertiser_addr: DeviceAddress,
+        advertiser_data: &[u8],
+    ) -> Built
+        ensures { λ r. ⌜ r ≡ builtOf AdvNonconnInd «advertiser_addr» [] (now («advertiser_data» .entry)) ⌝ }
+    {
+        PduBuf::adv(PduType::AdvNonconnInd, advertiser_addr, advertiser_data)
+    }
+
+    // A scannable undirected advertising PDU (`ADV_SCAN_IND`).
+    pub fn scannable_undirected(advertiser_addr: DeviceAddress, advertiser_data: &[u8]) -> Built
+        ensures { λ r. ⌜ r ≡ builtOf AdvScanInd «advertiser_addr» [] (now («advertiser_data» .entry)) ⌝ }
+    {
+        PduBuf::adv(PduType::AdvScanInd, advertiser_addr, advertiser_data)
+    }
+
+    // The PDU of a simple beacon: a non-connectable undirected one.
+    pub fn beacon(advertiser_addr: DeviceAddress, advertiser_data: &[u8]) -> Built
+        ensures { λ r. ⌜ r ≡ builtOf AdvNonconnInd «advertiser_addr» [] (now («advertiser_data» .entry)) ⌝ }
+    {
+        PduBuf::nonconnectable_undirected(advertiser_addr, advertiser_data)
+    }
+
+    // A PDU that makes this device visible for devices that want to connect: a connectable undirected one, with Flags before its records.
+    pub fn discoverable(advertiser_addr: DeviceAddress, advertiser_data: &[u8]) -> Built
+        ensures { λ r. ⌜ r ≡ builtOf AdvInd «advertiser_addr» flagsRecord (now («advertiser_data» .entry)) ⌝ }
+    {
+        let bytes = advertiser_addr.raw();
+        let front = placed([0u8; 37], 0, &bytes);
+        let flags = [2, 1, Flags::discoverable().to_u8()];
+        let front = placed(front, 6, &flags);
+        fill(
+            PduType::AdvInd,
+            advertiser_addr.is_random(),
+            front,
+            9,
+            advertiser_data,
+        )
+    }
+
+    // A scan response PDU (`SCAN_RSP`).
+    pub fn scan_response(advertiser_addr: DeviceAddress, scan_data: &[u8]) -> Built
+        ensures { λ r. ⌜ r ≡ builtOf ScanRsp «advertiser_addr» [] (now («scan_data» .entry)) ⌝ }
+    {
+        PduBuf::adv(PduType::ScanRsp, advertiser_addr, scan_data)
+    }
+
+    pub fn header(self) -> Header
+        ensures { λ r. ⌜ r ≡ self .header ⌝ }
+    {
+        self.header
+    }
+
+    // The payload, with the zeros behind it: the header counts its octets.
+    pub fn payload(self) -> [u8; 37]
+        ensures { λ r. ⌜ r ≡ self .«payload_buf» ⌝ }
+    {
+        self.payload_buf
+    }
+
+    // Copies the payload to the front of `out`, or writes nothing where that is too short.
+    pub fn write_payload(self, out: &mut [u8]) -> Written
+        ensures { λ r. ⌜ (r ≡ payloadTo self (now (out .entry))) × (now (out .exit) ≡ payloadAfter self (now (out .entry))) ⌝ }
+    {
+        let header = self.header;
+        let payload = self.payload_buf;
+        let n = at_most_37(header.payload_length());
+        ByteWriter::new().write_slice(out, &payload[..n])
+    }
+}
+
+// The octets of a payload with others in their place from `at` on, where they fit.
+fn placed(payload: [u8; 37], at: usize, octets: &[u8]) -> [u8; 37]
+    ensures { λ r. ⌜ r ≡ outAfter (now (octets .entry)) payload at ⌝ }
+{
+    let mut out = payload;
+    ByteWriter { at }.write_slice(&mut out, octets);
+    out
+}
+
+// The header of a PDU that is built.
+fn header_for(ty: PduType, tx_add: bool, rx_add: bool, length: u8) -> Header
+    requires { ⌜ (6 ≤ length) × (length ≤ 37) ⌝ }
+    ensures { λ r. ⌜ r ≡ headerFor ty «tx_add» «rx_add» length ⌝ }
+{
+    let new = Header::new(ty);
+    match new.set_payload_length(length) {
+        HeaderMade::Header(header) => header.set_tx_add(tx_add).set_rx_add(rx_add),
+        // No such length.
+        HeaderMade::Refused(_) => new,
+    }
+}
+
+// Rewrites records behind the first `start` octets.
+fn rewrite_behind(adv_data: &[u8], payload: &mut [u8], start: usize) -> Written
+    requires { ⌜ start ≤ length (now payload) ⌝ }
+    ensures { λ r. ⌜ (r ≡ rewrittenTo (now («adv_data» .entry)) (drop start (now (payload .entry)))) × (now (payload .exit) ≡ take start (now (payload .entry)) ++ rewrittenAfter (now («adv_data» .entry)) (drop start (now (payload .entry)))) ⌝ }
+{
+    rewrite_area(adv_data, &mut payload[start..])
+}
+
+// The PDU whose payload begins with the first `start` octets of `front` and goes on with records.
+fn fill(ty: PduType, random: bool, front: [u8; 37], start: usize, adv_data: &[u8]) -> Built
+    requires { ⌜ ((6 ≤ start) × (start ≤ 9)) × (front ≡ padded (take start front)) ⌝ }
+    ensures { λ r. ⌜ r ≡ withRecords ty random (take start front) (now («adv_data» .entry)) ⌝ }
+{
+    let mut payload_buf = front;
+    match rewrite_behind(adv_data, &mut payload_buf, start) {
+        Written::To(next) => {
+            let length = (start + next.at) as u8;
+            let header = header_for(ty, random, false, length);
+            let pdu = PduBuf {
+                header,
+                payload_buf,
+            };
+            Built {
+                outcome: Outcome::Accepted,
+                pdu,
+            }
+        }
+        Written::Refused(e) => no_pdu(e),
+    }
+}
+
+fn no_pdu(e: Error) -> Built
+    ensures { λ r. ⌜ r ≡ refusedBuf e ⌝ }
+{
+    let pdu = PduBuf {
+        header: Header::new(PduType::AdvInd),
+        payload_buf: [0u8; 37],
+    };
+    Built {
+        outcome: Outcome::Refused(e),
+        pdu,
+    }
+}
+
+fn at_most_37(n: u8) -> usize
+    ensures { λ r. ⌜ r ≡ min n 37 ⌝ }
+{
+    if n < 37 { n as usize } else { 37 }
+}
