@@ -1,14 +1,18 @@
--- Each setter of a header changes its own box of the figure only: `own-bits`. Assumes nothing.
+-- Each setter of a header changes its own box of the figure only: `own-bits`; and the table of types: `codes`. Assumes nothing.
 use mathlib.Core.Bool.{Bool, true, false, cond}
 use mathlib.Core.List.{List, [], _∷_}
-use mathlib.Core.Path.{_≡_, sym, ap, _∙_}
+use mathlib.Core.Path.{_≡_, refl, sym, ap, _∙_}
 use Prim.Native.Nat.{ℕ, _+_, _-_, _*_, _/_, _%_, _<_, _≤_, _^_}
 use native.Mathlib.Nat.{div-div-eq-div-mul}
 use native.Mathlib.Omega.{arith}
 use lib.ListN.{getD}
-use Rattle.addresses.specs.Header.{headerOf}
-use Rattle.addresses.specs.Laws.{boxes, OwnBits}
+use lib.Dec.{eqb}
+use borrow.Author.Tests.{eqb-true}
+use Rattle.addresses.specs.Header.{headerOf, typeCode, pduType}
+use Rattle.addresses.specs.Laws.{boxes, OwnBits, Codes}
 use Rattle.addresses.specs.declared.header.Header.{Header}
+use Rattle.addresses.specs.declared.header.PduType.{PduType}
+use Rattle.addresses.specs.declared.header.PduType.the-variants.{AdvInd, AdvDirectInd, AdvNonconnInd, AdvScanInd, ScanReq, ScanRsp, ConnectReq, Unknown}
 
 -- six boxes, one by one
 six : {a b c d e f a' b' c' d' e' f' : ℕ} → a ≡ a' → b ≡ b' → c ≡ c' → d ≡ d' → e ≡ e' → f ≡ f'
@@ -62,4 +66,26 @@ own-bits h small =
           (ap (λ (n : ℕ). n % 4) (higher _ (h .0) 256 64 above));
       len = λ n l. six (omega arith) (omega arith) (omega arith) (omega arith) (omega arith) (omega arith);
       all = λ g fits e. ap headerOf (joined (g .0) fits ∙ ap join e ∙ sym (joined (h .0) small));
+    }
+
+-- one line of the table of types
+line : (n k : ℕ) (ty rest : PduType) → typeCode ty ≡ k → typeCode rest ≡ n → typeCode (cond (eqb n k) ty rest) ≡ n
+line n k ty rest is later = go (eqb n k) refl
+  where
+    go : (b : Bool) → eqb n k ≡ b → typeCode (cond b ty rest) ≡ n
+    go true e = is ∙ sym (eqb-true n k e)
+    go false e = later
+
+pub codes : Codes
+unfolding pduType
+codes =
+    record {
+      code-0 = refl;
+      code-1 = refl;
+      code-2 = refl;
+      code-3 = refl;
+      code-4 = refl;
+      code-5 = refl;
+      code-6 = refl;
+      back = λ n. line n 0 AdvInd _ refl (line n 1 AdvDirectInd _ refl (line n 2 AdvNonconnInd _ refl (line n 3 ScanReq _ refl (line n 4 ScanRsp _ refl (line n 5 ConnectReq _ refl (line n 6 AdvScanInd (Unknown n) refl refl))))));
     }

@@ -1,12 +1,15 @@
 -- What it means that some number passes a test, and that a whitelist matches. Assumes nothing.
-use mathlib.Core.Bool.{Bool, true, false, cond, _||_}
+use mathlib.Core.Bool.{Bool, true, false, cond, not, _||_}
 use mathlib.Core.List.{List}
 use mathlib.Core.Path.{_≡_, refl, ap, _∙_}
-use Prim.Native.Nat.{ℕ, zero, suc, _/_, _<_}
+use Prim.Native.Nat.{ℕ, zero, suc, _*_, _/_, _%_, _≤_, _<_}
 use native.Mathlib.Omega.{arith}
-use lib.ListN.{length}
+use lib.ListN.{length, getD}
+use lib.Dec.{eqb, ltb}
+use borrow.Author.Tests.{eqb-true, ltb-false, not-true}
+use Rattle.octets.proofs.Sequences.{both-true}
 use Rattle.octets.specs.declared.error.Error.the-variants.{InvalidValue}
-use Rattle.addresses.specs.Filter.{any, entryAt, entryIs, isList, whitelisted}
+use Rattle.addresses.specs.Filter.{any, entryAt, badKind, entryIs, isList, whitelisted}
 use Rattle.addresses.specs.Laws.{Entry, Listed}
 use Rattle.addresses.specs.declared.device_address.DeviceAddress.{DeviceAddress}
 use Rattle.addresses.specs.declared.filter.Matches.the-variants.{Is, Refused}
@@ -52,17 +55,39 @@ any-passing p (suc n) e = go (p n) refl e (any-passing p n)
         let earlier = before (or-false (any p n) ∙ (rw last at found)) in
         record { number = earlier .number; below = omega (arith, earlier .below); passes = earlier .passes }
 
+-- a list without a bad kind
+kind-small : (list : List ℕ) (n i : ℕ) → any (badKind list) n ≡ false → i < n → getD list (7 * i) 0 ≤ 1
+kind-small list n i none h = go (ltb 1 (getD list (7 * i) 0)) refl
+  where
+    go : (b : Bool) → ltb 1 (getD list (7 * i) 0) ≡ b → getD list (7 * i) 0 ≤ 1
+    go true e =
+        let found = any-found (badKind list) n i h e in
+        let z : _≡_ {A = ℕ} 0 1 = cc in
+        absurd (omega arith)
+    go false e = ltb-false 1 (getD list (7 * i) 0) e
+
 pub listed : (list : List ℕ) (a : DeviceAddress) → Listed list a
 unfolding whitelisted any
 listed list a =
     record {
+      tested = λ good.
+          let parts = both-true (eqb (length list % 7) 0) (not (any (badKind list) (length list / 7))) good in
+          (eqb-true (length list % 7) 0 (parts .0), λ i h. kind-small list (length list / 7) i (not-true (any (badKind list) (length list / 7)) (parts .1)) h);
+      refused = λ bad. rw bad;
       sound = sound (isList list) refl;
       complete = λ good entry.
           let found = any-found (entryIs list a) (length list / 7) (entry .place) (entry .inside) (equality (entryAt list (entry .place)) a .complete (entry .is)) in
           rw (good, found);
+      other = λ good none. rw good (ap Is (nobody (any (entryIs list a) (length list / 7)) refl none));
       empty = refl;
     }
   where
+    nobody : (b : Bool) → any (entryIs list a) (length list / 7) ≡ b → (Entry list a → ⊥) → b ≡ false
+    nobody true e none =
+        let found = any-passing (entryIs list a) (length list / 7) e in
+        absurd (none (record { place = found .number; inside = found .below; is = equality (entryAt list (found .number)) a .sound (found .passes) }))
+    nobody false e none = refl
+
     sound : (b : Bool) → isList list ≡ b → cond (isList list) (Is (any (entryIs list a) (length list / 7))) (Refused InvalidValue) ≡ Is true → Entry list a
     sound true e is =
         let answer = rw e at is in

@@ -26,7 +26,7 @@ pub enum HeaderRead {
 }
 
 impl Header {
-    // A header with the payload type `ty`, its other bits 0.
+    // A header with the payload type `ty`. Of a type with a name the other bits are 0.
     pub fn new(ty: PduType) -> Header
         ensures { λ r. ⌜ r ≡ headerOf (typeCode ty) ⌝ }
     {

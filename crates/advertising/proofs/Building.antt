@@ -9,7 +9,7 @@ use native.Mathlib.Omega.{arith}
 use lib.Dec.{eqb}
 use lib.ListN.{length, getD, set, take, length-append}
 use lib.Seq.{take-at, take-length}
-use borrow.Author.Tests.{le-ltb}
+use borrow.Author.Tests.{lt-ltb, le-ltb}
 use Rattle.addresses.proofs.Boxes.{own-bits}
 use Rattle.addresses.specs.Address.{kindOf, isRandom, addressOf}
 use Rattle.addresses.specs.Header.{headerOf, typeCode, pduType, allowsAdvData, typeOf, txAdd, rxAdd, lengthOf, setTxAdd, setLength}
@@ -21,6 +21,8 @@ use Rattle.addresses.specs.declared.header.Header.{Header}
 use Rattle.addresses.specs.declared.header.PduType.{PduType}
 use Rattle.addresses.specs.declared.header.PduType.the-variants.{AdvInd, AdvDirectInd, AdvNonconnInd, AdvScanInd, ScanReq, ScanRsp, ConnectReq, Unknown}
 use Rattle.octets.proofs.Places.{enough}
+use Rattle.octets.specs.declared.error.Error.{Error}
+use Rattle.octets.specs.declared.error.Error.the-variants.{Eof}
 use Rattle.records.proofs.Accepted.{decided}
 use Rattle.records.proofs.RoundTrip.{round-trip}
 use Rattle.records.specs.Accepted.{Tiling, Verdict}
@@ -28,7 +30,7 @@ use Rattle.records.specs.Area.{readArea, rewritten}
 use Rattle.records.specs.declared.area.Area.the-variants as area
 use Rattle.advertising.specs.Laws.{Figure, with-records, two-addresses, ReadsBack, Building}
 use Rattle.advertising.specs.Pdu.{undirectedFigure, noRequest, noAddress, noData, decodedAs, decodeOf}
-use Rattle.advertising.specs.PduBuf.{padded, headerFor, bufOf, afterReading, withRecords, builtDirected, flagsRecord, payloadOf}
+use Rattle.advertising.specs.PduBuf.{padded, headerFor, bufOf, refusedBuf, afterReading, withRecords, builtOf, builtDirected, flagsRecord, payloadOf}
 use Rattle.advertising.specs.declared.pdu.AdvData.{AdvData}
 use Rattle.advertising.specs.declared.pdu.Outcome.the-variants.{Accepted}
 use Rattle.advertising.proofs.Accepting.{accepting}
@@ -156,6 +158,15 @@ directed-back a b six six' =
     (record { sizes = rw (six, six'); tiles = rw (append-nil (b .bytes), append-nil xs) })
     (λ i. decodedAs Accepted AdvDirectInd (sender i) (receiver i) noData noRequest)))
 
+refused-area : (ty : PduType) (a : DeviceAddress) (flags s : List ℕ) (e : Error) → readArea s ≡ area.Refused e → builtOf ty a flags s ≡ refusedBuf e
+unfolding withRecords afterReading
+refused-area ty a flags s e bad = rw bad
+
+refused-size : (ty : PduType) (a : DeviceAddress) (flags s : List ℕ) (n : ℕ) → readArea s ≡ area.Accepted n → length (a .bytes ++ flags) ≤ 37
+    → 37 < length (a .bytes ++ flags) + length s → builtOf ty a flags s ≡ refusedBuf Eof
+unfolding withRecords afterReading
+refused-size ty a flags s n good front long = rw (good, lt-ltb (37 - length (a .bytes ++ flags)) (length s) (omega arith))
+
 pub building : Building
 building =
     record {
@@ -163,4 +174,6 @@ building =
       discoverable = λ a s n six good fits.
           back AdvInd a flagsRecord s n (n + 1) refl six (omega arith) good (with-flags (rewritten s) n (round-trip s .area-again ∙ good));
       directed = directed-back;
+      bad-area = refused-area;
+      too-long = refused-size;
     }

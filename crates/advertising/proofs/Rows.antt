@@ -1,10 +1,10 @@
--- Document 01's rows on PDUs hold of the definitions. Computed. Assumes nothing.
+-- Document 01's rows on PDUs, and a connect request field by field, hold of the definitions. Computed. Assumes nothing.
 use mathlib.Core.Path.{refl}
 use Rattle.addresses.specs.Header.{pduType}
 use Rattle.records.specs.Area.{cut, reads, before, areaOf, readArea}
 use Rattle.records.specs.Record.{named, first, flagsRead, dataRead, upTo, recordRead}
-use Rattle.advertising.specs.Laws.{Rows}
-use Rattle.advertising.specs.Pdu.{withArea, undirected, byType, decodeOf}
+use Rattle.advertising.specs.Laws.{Rows, Example}
+use Rattle.advertising.specs.Pdu.{requestOf, withArea, undirected, connectRequest, byType, decodeOf}
 
 pub rows : Rows
 unfolding decodeOf byType undirected withArea pduType readArea areaOf reads before cut first recordRead dataRead flagsRead upTo named
@@ -17,3 +17,7 @@ rows =
       row-00-05 = λ a b c d e. refl;
       row-00-06 = λ a b c d e f. refl;
     }
+
+pub example : Example
+unfolding decodeOf byType connectRequest requestOf pduType
+example = record { connect-request = refl }

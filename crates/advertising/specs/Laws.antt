@@ -2,11 +2,12 @@
 --   Accepting     Accepting.accepting    which headers and payloads are accepted, and what is read of them
 --   Building      Building.building      what is read of a PDU that was built
 --   Rows          Rows.rows              document 01's rows
+--   Example       Rows.example           a connect request, field by field
 use mathlib.Core.Bool.{true}
 use mathlib.Core.List.{List, [], _∷_, _++_, map, flatten}
 use mathlib.Core.Logic.{_⊎_}
 use mathlib.Core.Path.{_≡_}
-use Prim.Native.Nat.{ℕ, _+_, _*_, _/_, _%_, _≤_}
+use Prim.Native.Nat.{ℕ, _+_, _*_, _/_, _%_, _≤_, _<_}
 use lib.ListN.{length}
 use Rattle.addresses.specs.Address.{kindOf, addressOf}
 use Rattle.addresses.specs.Header.{headerOf, typeOf, txAdd, rxAdd, lengthOf, allowsAdvData}
@@ -17,14 +18,16 @@ use Rattle.addresses.specs.declared.header.PduType.{PduType}
 use Rattle.addresses.specs.declared.header.PduType.the-variants.{AdvInd, AdvDirectInd, AdvNonconnInd, ScanReq, ConnectReq}
 use Rattle.channels.specs.Map.{fromRaw}
 use Rattle.octets.specs.Bytes.{le}
+use Rattle.octets.specs.declared.error.Error.{Error}
 use Rattle.octets.specs.declared.error.Error.the-variants.{Eof, InvalidLength, InvalidValue}
 use Rattle.records.specs.Area.{readArea, rewritten}
 use Rattle.records.specs.declared.area.Area.the-variants as area
 use Rattle.advertising.specs.Pdu.{undirectedFigure, directedFigure, connectFigure, accuracyOf, noRequest, noAddress, noData, dataIn, decodedAs, refusedPdu, decodeOf}
-use Rattle.advertising.specs.PduBuf.{builtOf, builtDirected, flagsRecord, payloadOf}
+use Rattle.advertising.specs.PduBuf.{refusedBuf, builtOf, builtDirected, flagsRecord, payloadOf}
 use Rattle.advertising.specs.declared.pdu.AdvData.{AdvData}
 use Rattle.advertising.specs.declared.pdu.Decoded.{Decoded}
 use Rattle.advertising.specs.declared.pdu.Outcome.the-variants.{Accepted}
+use Rattle.advertising.specs.declared.pdu.SleepClockAccuracy.the-variants.{Ppm151To250}
 use Rattle.advertising.specs.declared.pdu_buf.PduBuf.{PduBuf}
 
 -- a payload is these fields, of the widths of a figure, and further octets
@@ -32,7 +35,7 @@ pub record Figure (widths : List ℕ) (fields : List (List ℕ)) (further p : Li
   pub sizes : map length fields ≡ widths
   pub tiles : p ≡ flatten fields ++ further
 
--- A header and a payload have the shape of a figure of the Core, drawn in specs/Pdu.antt, and say what d says.
+-- A payload begins with the fields of a figure of the Core, drawn in specs/Pdu.antt, for the header's type; and both say what d says.
 pub data Shaped (h : Header) (p : List ℕ) (d : Decoded) : Type 0 where
   -- an address and records
   with-records : (ty : PduType) (advA records : List ℕ) (n : ℕ) → typeOf h ≡ ty → allowsAdvData ty ≡ true
@@ -61,8 +64,7 @@ pub data Shaped (h : Header) (p : List ℕ) (d : Decoded) : Type 0 where
       })
       → Shaped h p d
 
--- A header and a payload are accepted exactly if the header counts the payload and they have a shape of the Core; what is then read is what the
--- shape says.
+-- A header and a payload are accepted exactly if the header counts the payload and they are so shaped; what is then read is what the shape says.
 pub record Accepting (h : Header) (p : List ℕ) : Type 0 where
   pub sound : decodeOf h p .outcome ≡ Accepted → (lengthOf h ≡ length p) × Shaped h p (decodeOf h p)
   pub complete : (d : Decoded) → lengthOf h ≡ length p → Shaped h p d → decodeOf h p ≡ d
@@ -85,6 +87,11 @@ pub record Building : Type 0 where
       → readArea s ≡ area.Accepted n → length s ≤ 28 → ReadsBack AdvInd a flagsRecord s (n + 1)
   pub directed : (a b : DeviceAddress) → length (a .bytes) ≡ 6 → length (b .bytes) ≡ 6
       → decodeOf (builtDirected a b .header) (payloadOf (builtDirected a b)) ≡ decodedAs Accepted AdvDirectInd a b noData noRequest
+  -- a bad area is refused as its first bad record is, and a good one that does not fit with 1
+  pub bad-area : (ty : PduType) (a : DeviceAddress) (flags s : List ℕ) (e : Error) → readArea s ≡ area.Refused e → builtOf ty a flags s ≡ refusedBuf e
+  pub too-long : (ty : PduType) (a : DeviceAddress) (flags s : List ℕ) (n : ℕ) → readArea s ≡ area.Accepted n → length (a .bytes ++ flags) ≤ 37
+      → 37 < length (a .bytes ++ flags) + length s
+      → builtOf ty a flags s ≡ refusedBuf Eof
 
 -- Document 01's rows on PDUs: the two octets of a header, and a payload.
 abbrev pub row : ℕ → ℕ → List ℕ → Decoded
@@ -103,3 +110,28 @@ pub record Rows : Type 0 where
   pub row-00-06 : (a b c d e f : ℕ)
       → row 0x00 0x06 (a ∷ b ∷ c ∷ d ∷ e ∷ f ∷ [])
       ≡ decodedAs Accepted AdvInd (addressOf (a ∷ b ∷ c ∷ d ∷ e ∷ f ∷ []) Public) noAddress (record { start = 6; len = 0; count = 0 }) noRequest
+
+-- A connect request of the octets 00 to 21, each field by its number.
+abbrev pub counted : List ℕ
+counted =
+    0x00 ∷ 0x01 ∷ 0x02 ∷ 0x03 ∷ 0x04 ∷ 0x05 ∷ 0x06 ∷ 0x07 ∷ 0x08 ∷ 0x09 ∷ 0x0A ∷ 0x0B ∷ 0x0C ∷ 0x0D ∷ 0x0E ∷ 0x0F ∷ 0x10 ∷ 0x11 ∷ 0x12 ∷ 0x13 ∷ 0x14 ∷ 0x15
+    ∷ 0x16 ∷ 0x17 ∷ 0x18 ∷ 0x19 ∷ 0x1A ∷ 0x1B ∷ 0x1C ∷ 0x1D ∷ 0x1E ∷ 0x1F ∷ 0x20 ∷ 0x21 ∷ []
+
+pub record Example : Type 0 where
+  pub connect-request : row 0x85 0x22 counted
+      ≡ decodedAs Accepted ConnectReq
+      (addressOf (0x00 ∷ 0x01 ∷ 0x02 ∷ 0x03 ∷ 0x04 ∷ 0x05 ∷ []) Public)
+      (addressOf (0x06 ∷ 0x07 ∷ 0x08 ∷ 0x09 ∷ 0x0A ∷ 0x0B ∷ []) Random)
+      noData
+      (record {
+        «access_address» = 0x0F0E0D0C;
+        «crc_init» = 0x121110;
+        «win_size» = 23750;
+        «win_offset» = 6745000;
+        interval = 7387500;
+        latency = 6424;
+        timeout = 69380000;
+        chm = fromRaw (0x1C ∷ 0x1D ∷ 0x1E ∷ 0x1F ∷ 0x20 ∷ []);
+        hop = 1;
+        sca = Ppm151To250;
+      })

@@ -146,7 +146,7 @@ decodedAs outcome ty sender receiver records lldata =
     }
 
 abbrev pub refusedPdu : Error → Decoded
-refusedPdu e = decodedAs (Refused e) (Unknown 0) noAddress noAddress noData noRequest
+refusedPdu e = decodedAs (Refused e) (Unknown 15) noAddress noAddress noData noRequest
 
 -- a PDU whose record area, behind the address, reads so
 unfoldable pub withArea : PduType → Header → List ℕ → Area → Decoded

@@ -143,7 +143,7 @@ impl Pdu {
 fn refused(e: Error) -> Decoded
     ensures { λ r. ⌜ r ≡ refusedPdu e ⌝ }
 {
-    let none = PduType::Unknown(0);
+    let none = PduType::Unknown(15);
     answered(
         Outcome::Refused(e),
         none,
@@ -315,7 +315,7 @@ impl ConnectRequestData {
         self.hop
     }
 
-    // The end of the transmit window in µs from the end of the request, modulo 2^32 as instants are. A request that was read does not come near.
+    // The end of the transmit window in µs from the end of the request, modulo 2^32 as instants are. A request that was read stays far below that.
     pub fn end_of_tx_window(self) -> u32
         ensures { λ r. ⌜ r ≡ windowEnd self ⌝ }
     {

@@ -159,7 +159,7 @@ fn header_for(ty: PduType, tx_add: bool, rx_add: bool, length: u8) -> Header
     let new = Header::new(ty);
     match new.set_payload_length(length) {
         HeaderMade::Header(header) => header.set_tx_add(tx_add).set_rx_add(rx_add),
-        // No such length.
+        // Not reached: the length is 6 to 37.
         HeaderMade::Refused(_) => new,
     }
 }

@@ -3,6 +3,7 @@ use addresses::device_address::AddressKind;
 use addresses::device_address::DeviceAddress;
 use addresses::header::Header;
 use addresses::header::HeaderMade;
+use advertising::pdu::ConnectRequestData;
 use advertising::pdu::Decoded;
 use advertising::pdu::Outcome;
 use advertising::pdu::Pdu;
@@ -79,7 +80,10 @@ fn read(what: &[u8], header: &[u8], payload: &[u8]) {
     text(what);
     match Header::parse(header) {
         HeaderMade::Header(h) => decoded(Pdu::from_header_and_payload(h, payload)),
-        HeaderMade::Refused(e) => refusal(e),
+        HeaderMade::Refused(e) => {
+            refusal(e);
+            text(b"\n");
+        }
     }
 }
 
@@ -162,8 +166,56 @@ fn sizes() {
     );
 }
 
+// 28 octets of records and a record of length zero: the bad record comes before the size.
+fn bad_and_long() {
+    let own = DeviceAddress::new([1, 2, 3, 4, 5, 0xC6], AddressKind::Random);
+    let mut bad = [0u8; 29];
+    bad[0] = 27;
+    bad[1] = 0xFF;
+    built(
+        b"28 record octets and 00 behind Flags:",
+        PduBuf::discoverable(own, &bad),
+    );
+}
+
+// A connect request of the octets 00 to 21.
+fn connect_request() {
+    let payload =
+        b"\x00\x01\x02\x03\x04\x05\x06\x07\x08\x09\x0A\x0B\x0C\x0D\x0E\x0F\x10\x11\x12\x13\x14\x15\x16\x17\x18\x19\x1A\x1B\x1C\x1D\x1E\x1F\x20\x21";
+    read(b"connect request of 00 to 21:", b"\x85\x22", payload);
+    match Header::parse(b"\x85\x22") {
+        HeaderMade::Header(h) => {
+            let found = Pdu::from_header_and_payload(h, payload);
+            let pdu = found.pdu;
+            parameters(pdu.lldata);
+        }
+        HeaderMade::Refused(e) => refusal(e),
+    }
+    text(b"\n");
+}
+
+// Access address, CRC start, window size and offset, interval, latency, timeout, map, hop.
+fn parameters(d: ConnectRequestData) {
+    text(b"its parameters:");
+    text(b" ");
+    io::print_hex(STDOUT_FILENO, d.access_address() as u64, 8);
+    text(b" ");
+    io::print_hex(STDOUT_FILENO, d.crc_init() as u64, 6);
+    number(d.win_size() as u64);
+    number(d.win_offset() as u64);
+    number(d.interval() as u64);
+    number(d.slave_latency() as u64);
+    number(d.supervision_timeout() as u64);
+    let map = d.channel_map();
+    let raw = map.to_raw();
+    octets_of(&raw);
+    number(d.hop() as u64);
+}
+
 fn main() {
     starred();
     directed();
     sizes();
+    bad_and_long();
+    connect_request();
 }
