@@ -1,0 +1,173 @@
+-- A scanner reports a packet exactly if all checks pass: `reports`. Assumes nothing.
+use mathlib.Core.Bool.{Bool, true, false, cond, _&&_}
+use mathlib.Core.List.{List, [], _∷_}
+use mathlib.Core.Logic.{inl, inr}
+use mathlib.Core.Path.{_≡_, refl, sym, ap, _∙_}
+use Prim.Native.Nat.{ℕ, _+_}
+use native.Mathlib.Omega.{arith}
+use lib.Dec.{eqb}
+use lib.ListN.{length, take, drop}
+use lib.Seq.{take-length}
+use borrow.Author.Tests.{eq-eqb, eqb-true}
+use Rattle.octets.proofs.Places.{enough}
+use Rattle.octets.proofs.Sequences.{both-true}
+use Rattle.octets.specs.declared.error.Error.the-variants.{InvalidValue}
+use Rattle.records.specs.Area.{readArea}
+use Rattle.records.specs.declared.area.Area.the-variants as area
+use Rattle.addresses.proofs.Entries.{listed}
+use Rattle.addresses.specs.Address.{kindOf, addressOf}
+use Rattle.addresses.specs.Filter.{matchesOf}
+use Rattle.addresses.specs.Header.{bits, pduType, typeOf, txAdd}
+use Rattle.addresses.specs.declared.device_address.DeviceAddress.{DeviceAddress}
+use Rattle.addresses.specs.declared.filter.AddressFilter.{AddressFilter}
+use Rattle.addresses.specs.declared.filter.AddressFilter.the-variants.{AllowAll, Whitelist}
+use Rattle.addresses.specs.declared.filter.Matches.{Matches}
+use Rattle.addresses.specs.declared.filter.Matches.the-variants as matches
+use Rattle.addresses.specs.declared.header.Header.{Header}
+use Rattle.addresses.specs.declared.header.PduType.the-variants.{AdvNonconnInd}
+use Rattle.advertising.proofs.Accepting.{accepting}
+use Rattle.advertising.proofs.Figures.{field-is, behind, long}
+use Rattle.advertising.specs.Laws.{Shaped, with-records, two-addresses, with-lldata}
+use Rattle.advertising.specs.Pdu.{dataIn, decodeOf}
+use Rattle.advertising.specs.declared.pdu.Decoded.{Decoded}
+use Rattle.advertising.specs.declared.pdu.Outcome.{Outcome}
+use Rattle.advertising.specs.declared.pdu.Outcome.the-variants as outcome
+use Rattle.advertising.specs.declared.pdu.Pdu.{Pdu}
+use Rattle.beacon.specs.Laws as laws
+use Rattle.beacon.specs.Laws.{Lets, Checks, Reports}
+use Rattle.beacon.specs.Scanner.{isListFor, isPass, passes, isType2, isAccepted, decodes, isBeaconPacket, reportOf, unreported, scanned, reportNumber}
+use Rattle.beacon.specs.declared.beacon.BeaconScanner.{BeaconScanner}
+use Rattle.beacon.specs.declared.beacon.Report.the-variants as report
+use Rattle.beacon.specs.declared.beacon.Scanned.{Scanned}
+use Rattle.beacon.proofs.Filtering.{matches-is, told}
+
+-- an outcome that passes the test
+accepted : (o : Outcome) → isAccepted o ≡ true → o ≡ outcome.Accepted
+accepted outcome.Accepted e = refl
+accepted (outcome.Refused r) e = let z : _≡_ {A = ℕ} 0 1 = cc in absurd (omega arith)
+
+-- a filter that passes an address lets it, and the other way
+lets : (f : AddressFilter) (list : List ℕ) (a : DeviceAddress) → passes f list a ≡ true → Lets f list a
+lets AllowAll list a e = laws.all
+lets Whitelist list a e = go (matchesOf Whitelist list a) refl e
+  where
+    go : (m : Matches) → matchesOf Whitelist list a ≡ m → isPass m ≡ true → Lets Whitelist list a
+    go (matches.Is true) is ok =
+        laws.listed (told (isListFor Whitelist list) (passes Whitelist list a) true (sym (matches-is Whitelist list a) ∙ is) .0) (listed list a .sound is)
+    go (matches.Is false) is ok = let z : _≡_ {A = ℕ} 0 1 = cc in absurd (omega arith)
+    go (matches.Refused e) is ok = let z : _≡_ {A = ℕ} 0 1 = cc in absurd (omega arith)
+
+lets-list : {f : AddressFilter} {list : List ℕ} {a : DeviceAddress} → Lets f list a → isListFor f list ≡ true
+lets-list laws.all = refl
+lets-list (laws.listed is entry) = is
+
+lets-passes : {f : AddressFilter} {list : List ℕ} {a : DeviceAddress} → Lets f list a → passes f list a ≡ true
+lets-passes laws.all = refl
+lets-passes {list = list} {a = a} (laws.listed is entry) = ap isPass (listed list a .complete is entry)
+
+-- what a PDU says of a payload that is an address and records
+pub record Holds (h : Header) (p : List ℕ) (d : Pdu) : Type 0 where
+  pub sender : d .sender ≡ addressOf (take 6 p) (kindOf (txAdd h))
+  pub records : dataIn (d .«adv_data») p ≡ drop 6 p
+  pub number : readArea (drop 6 p) ≡ area.Accepted (d .«adv_data» .count)
+  pub size : length p ≡ 6 + length (drop 6 p)
+
+module _ (h : Header) (p : List ℕ) where
+  -- the type of a PDU is its header's
+  pub same-type : (d : Decoded) → Shaped h p d → typeOf h ≡ d .pdu .ty
+  same-type d (with-records ty advA records n is allows fig good e) = is ∙ ap (λ (x : Decoded). x .pdu .ty) (sym e)
+  same-type d (two-addresses ty first second further is which fig e) = is ∙ ap (λ (x : Decoded). x .pdu .ty) (sym e)
+  same-type d (with-lldata initA advA aa crcInit winSize winOffset interval latency timeout chM hopSca further is fig e) = is ∙ ap (λ (x : Decoded). x .pdu .ty) (sym e)
+
+  holds : (d : Decoded) → typeOf h ≡ AdvNonconnInd → Shaped h p d → Holds h p (d .pdu)
+  holds d type-2 (with-records ty advA records n is allows fig good e) =
+      let first : take 6 p ≡ advA = field-is fig 0 in
+      let rest : drop 6 p ≡ records = behind fig in
+      record {
+        sender = ap (λ (x : Decoded). x .pdu .sender) e ∙ ap (λ (l : List ℕ). addressOf l (kindOf (txAdd h))) (sym first);
+        records = ap (λ (x : Decoded). dataIn (x .pdu .«adv_data») p) e ∙ rw (enough (length records) p 6 (omega (arith, long fig)), rest) (take-length records);
+        number = rw rest (good ∙ ap (λ (x : Decoded). area.Accepted (x .pdu .«adv_data» .count)) (sym e));
+        size = rw rest (long fig);
+      }
+  holds d type-2 (two-addresses ty first second further is (inl which) fig e) = let z : _≡_ {A = ℕ} 0 1 = cc in absurd (omega arith)
+  holds d type-2 (two-addresses ty first second further is (inr which) fig e) = let z : _≡_ {A = ℕ} 0 1 = cc in absurd (omega arith)
+  holds d type-2 (with-lldata initA advA aa crcInit winSize winOffset interval latency timeout chM hopSca further is fig e) =
+      let z : _≡_ {A = ℕ} 0 1 = cc in absurd (omega arith)
+
+  pub holds-decoded : typeOf h ≡ AdvNonconnInd → decodeOf h p .outcome ≡ outcome.Accepted → Holds h p (decodeOf h p .pdu)
+  holds-decoded type-2 ok = holds (decodeOf h p) type-2 (accepting h p .sound ok .1)
+
+type-is : (n : ℕ) → n ≡ 2 → pduType n ≡ AdvNonconnInd
+unfolding pduType
+type-is n e = rw e
+
+module _ (s : BeaconScanner) (h : Header) (p : List ℕ) (crcOk : Bool) (list : List ℕ) where
+  abbrev f : AddressFilter
+  f = s .filter .scan
+
+  -- what is scanned, by whether there is a list and whether the checks pass
+  abbrev answer : Bool → Bool → Scanned
+  answer l t = cond l (cond t (reportOf (s .channel) (decodeOf h p .pdu)) (unreported report.Nothing (s .channel))) (unreported (report.Refused InvalidValue) (s .channel))
+
+  abbrev checked : Bool
+  checked = isBeaconPacket h p crcOk && passes f list (decodeOf h p .pdu .sender)
+
+  by-cases : scanned s h p crcOk list ≡ answer (isListFor f list) checked
+  unfolding scanned
+  by-cases = refl
+
+  reported : (l t : Bool) → answer l t .report ≡ report.Beacon → t ≡ true
+  reported true true e = refl
+  reported true false e = let z : _≡_ {A = ℕ} 0 1 = cc in absurd (omega arith)
+  reported false t e = let z : _≡_ {A = ℕ} 0 1 = cc in absurd (omega arith)
+
+  checks : checked ≡ true → Checks f h p crcOk list
+  checks e =
+      let filter = both-true (isBeaconPacket h p crcOk) (passes f list (decodeOf h p .pdu .sender)) e in
+      let crc = both-true crcOk (isType2 h && decodes h p) (filter .0) in
+      let type = both-true (isType2 h) (decodes h p) (crc .1) in
+      record {
+        crc = crc .0;
+        type-2 = eqb-true (bits 0 4 h) 2 (type .0);
+        decoding = accepted (decodeOf h p .outcome) (type .1);
+        filter = lets f list (decodeOf h p .pdu .sender) (filter .1);
+      }
+
+  passed : Checks f h p crcOk list → checked ≡ true
+  passed c = rw (c .crc, eq-eqb (bits 0 4 h) 2 (c .type-2), c .decoding) (lets-passes (c .filter))
+
+  sound : scanned s h p crcOk list .report ≡ report.Beacon → Checks f h p crcOk list
+  sound e = checks (reported (isListFor f list) checked (ap (λ (x : Scanned). x .report) (sym by-cases) ∙ e))
+
+  pub complete : Checks f h p crcOk list → scanned s h p crcOk list ≡ reportOf (s .channel) (decodeOf h p .pdu)
+  complete c = by-cases ∙ rw (lets-list (c .filter), passed c)
+
+  unchecked : (t : Bool) → checked ≡ t → (Checks f h p crcOk list → ⊥) → t ≡ false
+  unchecked true e fails = absurd (fails (checks e))
+  unchecked false e fails = refl
+
+  numbered : (l t : Bool) → reportNumber (answer l t .report) ≡ cond l 0 3
+  numbered true true = refl
+  numbered true false = refl
+  numbered false t = refl
+
+  -- what is said of a reported packet
+  module _ (e : scanned s h p crcOk list .report ≡ report.Beacon) where
+    its : Holds h p (decodeOf h p .pdu)
+    its = holds-decoded h p (type-is (bits 0 4 h) (sound e .type-2)) (sound e .decoding)
+
+    is : scanned s h p crcOk list ≡ reportOf (s .channel) (decodeOf h p .pdu)
+    is = complete (sound e)
+
+  pub reports : Reports s h p crcOk list
+  reports =
+      record {
+        sound = sound;
+        complete = complete;
+        nothing = λ l fails. by-cases ∙ rw (l, unchecked checked refl fails);
+        refused = λ l. by-cases ∙ rw l;
+        number = ap (λ (x : Scanned). reportNumber (x .report)) by-cases ∙ numbered (isListFor f list) checked;
+        sender = λ e. ap (λ (x : Scanned). x .sender) (is e) ∙ its e .sender;
+        records = λ e. ap (λ (x : Scanned). dataIn (x .«adv_data») p) (is e) ∙ its e .records;
+        number-of-records = λ e. its e .number ∙ ap (λ (x : Scanned). area.Accepted (x .«adv_data» .count)) (sym (is e));
+      }

@@ -1,0 +1,128 @@
+-- The laws of beacons and their scanner, each with the theorem of proofs/ that proves it.
+--   Reports       Reports.reports             which packets are reported, and what of them
+--   Scanning      Runs.scanning               the channels and instants of a run of calls
+--   Sends         Broadcasts.sends            what is transmitted and written
+--   Refusing      Broadcasts.refusing         which records make no beacon
+--   Broadcasting  Broadcasts.broadcasting     what is heard of a beacon that was made
+--   Row           Rows.row                    document 01's row
+use mathlib.Core.Bool.{Bool, true, false, cond}
+use mathlib.Core.List.{List, [], _∷_, _++_}
+use mathlib.Core.Path.{_≡_}
+use Prim.Native.Nat.{ℕ, zero, suc, _+_, _≤_, _<_}
+use lib.Dec.{eqb}
+use lib.ListN.{length, take, drop}
+use Rattle.octets.specs.Bytes.{le}
+use Rattle.octets.specs.Time.{later}
+use Rattle.octets.specs.declared.error.Error.{Error}
+use Rattle.octets.specs.declared.error.Error.the-variants.{Eof, InvalidValue}
+use Rattle.octets.specs.declared.time.Instant.{Instant}
+use Rattle.channels.specs.Count.{count}
+use Rattle.channels.specs.Laws.{cycles}
+use Rattle.channels.specs.Phy.{indexOf, firstChannel}
+use Rattle.channels.specs.declared.phy.AdvertisingChannel.{AdvertisingChannel}
+use Rattle.channels.specs.declared.phy.AdvertisingChannel.the-variants.{Channel37, Channel38, Channel39}
+use Rattle.records.specs.Area.{readArea, rewritten}
+use Rattle.records.specs.declared.area.Area.the-variants as area
+use Rattle.addresses.specs.Address.{kindOf, addressOf}
+use Rattle.addresses.specs.Filter.{isList}
+use Rattle.addresses.specs.Header.{headerOf, bits, txAdd}
+use Rattle.addresses.specs.Laws.{Entry}
+use Rattle.addresses.specs.declared.device_address.AddressKind.the-variants.{Random}
+use Rattle.addresses.specs.declared.device_address.DeviceAddress.{DeviceAddress}
+use Rattle.addresses.specs.declared.filter.AddressFilter.{AddressFilter}
+use Rattle.addresses.specs.declared.filter.AddressFilter.the-variants.{AllowAll, Whitelist}
+use Rattle.addresses.specs.declared.header.Header.{Header}
+use Rattle.addresses.specs.declared.header.PduType.the-variants.{AdvNonconnInd}
+use Rattle.advertising.specs.Laws.{nine}
+use Rattle.advertising.specs.Pdu.{noRequest, noAddress, dataIn, decodedAs, decodeOf}
+use Rattle.advertising.specs.PduBuf.{payloadOf, payloadAfter}
+use Rattle.advertising.specs.declared.pdu.AdvData.{AdvData}
+use Rattle.advertising.specs.declared.pdu.Outcome.the-variants as outcome
+use Rattle.beacon.specs.Scanner.{scannerOf, configured, timerUpdated, isListFor, reportOf, unreported, scanned, reportNumber}
+use Rattle.beacon.specs.Sending.{beaconOf, broadcastOf, broadcastNumber}
+use Rattle.beacon.specs.declared.beacon.Beacon.{Beacon}
+use Rattle.beacon.specs.declared.beacon.BeaconScanner.{BeaconScanner}
+use Rattle.beacon.specs.declared.beacon.Broadcast.the-variants as broadcast
+use Rattle.beacon.specs.declared.beacon.Report.the-variants as report
+use Rattle.beacon.specs.declared.beacon.Updated.{Updated}
+
+-- A filter lets an address pass: it accepts all, or some entry of its list is equal.
+pub data Lets : AddressFilter → List ℕ → DeviceAddress → Type 0 where
+  all : {list : List ℕ} {a : DeviceAddress} → Lets AllowAll list a
+  listed : {list : List ℕ} {a : DeviceAddress} → isList list ≡ true → Entry list a → Lets Whitelist list a
+
+-- Document 01's checks of the scanner: CRC, type 2, decoding, filter.
+pub record Checks (f : AddressFilter) (h : Header) (p : List ℕ) (crcOk : Bool) (list : List ℕ) : Type 0 where
+  pub crc : crcOk ≡ true
+  pub type-2 : bits 0 4 h ≡ 2
+  pub decoding : decodeOf h p .outcome ≡ outcome.Accepted
+  pub filter : Lets f list (decodeOf h p .pdu .sender)
+
+-- All passing, the sender and record area are reported; else nothing is. A filter list comes first.
+pub record Reports (s : BeaconScanner) (h : Header) (p : List ℕ) (crcOk : Bool) (list : List ℕ) : Type 0 where
+  pub sound : scanned s h p crcOk list .report ≡ report.Beacon → Checks (s .filter .scan) h p crcOk list
+  pub complete : Checks (s .filter .scan) h p crcOk list → scanned s h p crcOk list ≡ reportOf (s .channel) (decodeOf h p .pdu)
+  pub nothing : isListFor (s .filter .scan) list ≡ true → (Checks (s .filter .scan) h p crcOk list → ⊥)
+      → scanned s h p crcOk list ≡ unreported report.Nothing (s .channel)
+  pub refused : isListFor (s .filter .scan) list ≡ false → scanned s h p crcOk list ≡ unreported (report.Refused InvalidValue) (s .channel)
+  -- so a bad list is 3, whatever the packet, and nothing else is refused
+  pub number : reportNumber (scanned s h p crcOk list .report) ≡ cond (isListFor (s .filter .scan) list) 0 3
+  -- the sender is the first six octets, its kind TxAdd; the records are all that follows, with their number
+  pub sender : scanned s h p crcOk list .report ≡ report.Beacon → scanned s h p crcOk list .sender ≡ addressOf (take 6 p) (kindOf (txAdd h))
+  pub records : scanned s h p crcOk list .report ≡ report.Beacon → dataIn (scanned s h p crcOk list .«adv_data») p ≡ drop 6 p
+  pub number-of-records : scanned s h p crcOk list .report ≡ report.Beacon
+      → readArea (drop 6 p) ≡ area.Accepted (scanned s h p crcOk list .«adv_data» .count)
+
+-- what call k of a run answers: call 0 configures the scanner, the others are timer updates, each at its time
+unfoldable pub run : BeaconScanner → ℕ → (ℕ → Instant) → ℕ → Updated
+run s interval times zero = configured s (times 0) interval
+run s interval times (suc k) = timerUpdated (run s interval times k .scanner) (times (suc k))
+
+-- Scanning starts on 37 and follows the cycle; each call's next instant is its own time and the interval.
+pub record Scanning (s : BeaconScanner) (interval : ℕ) (times : ℕ → Instant) (k : ℕ) : Type 0 where
+  pub listens : run s interval times k .cmd .channel ≡ cycles k firstChannel
+  pub until : run s interval times k .cmd .«next_update» .0 ≡ later (times k .0) interval
+  pub filter : run s interval times k .scanner .filter ≡ s .filter
+  -- a packet in between keeps listening there
+  pub packet : (h : Header) (p : List ℕ) (crcOk : Bool) (list : List ℕ) → scanned (run s interval times k .scanner) h p crcOk list .channel ≡ cycles k firstChannel
+  -- any three successive calls use each channel once
+  pub once-each : (d : AdvertisingChannel) → count (λ j. eqb (indexOf (run s interval times (k + j) .cmd .channel)) (indexOf d)) 3 ≡ 1
+
+-- Sending writes the payload once, at the front, and transmits the header on 37, 38 and 39 in turn; a buffer too short for it is 1, and keeps its octets.
+pub record Sends (b : Beacon) (tx : List ℕ) : Type 0 where
+  pub sent : length (payloadOf (b .pdu)) ≤ length tx
+      → broadcastOf b tx ≡ broadcast.Transmit (b .pdu .header) (record { first = Channel37; second = Channel38; third = Channel39 })
+  pub octets : length (payloadOf (b .pdu)) ≤ length tx → payloadAfter (b .pdu) tx ≡ payloadOf (b .pdu) ++ drop (length (payloadOf (b .pdu))) tx
+  pub short : length tx < length (payloadOf (b .pdu)) → broadcastNumber (broadcastOf b tx) ≡ 1
+  pub kept : length tx < length (payloadOf (b .pdu)) → payloadAfter (b .pdu) tx ≡ tx
+
+-- A bad area makes no beacon, refused as its first bad record is; and a good one of more than 31 octets is 1.
+pub record Refusing (a : DeviceAddress) (s : List ℕ) : Type 0 where
+  pub bad-area : (e : Error) → readArea s ≡ area.Refused e → beaconOf a s .outcome ≡ outcome.Refused e
+  pub too-long : (n : ℕ) → length (a .bytes) ≡ 6 → readArea s ≡ area.Accepted n → 31 < length s → beaconOf a s .outcome ≡ outcome.Refused Eof
+
+-- A beacon of the address a and n records that fit: what it sends decodes, and a scanner that lets the address pass reports it.
+pub record Broadcasting (a : DeviceAddress) (s : List ℕ) (n : ℕ) : Type 0 where
+  pub beacon : Beacon
+  pub made : beaconOf a s ≡ record { outcome = outcome.Accepted; beacon = beacon }
+  pub place : AdvData
+  pub decoded : decodeOf (beacon .pdu .header) (payloadOf (beacon .pdu)) ≡ decodedAs outcome.Accepted AdvNonconnInd a noAddress place noRequest
+  pub number-of-records : place .count ≡ n
+  -- the records are those given, with undefined Flags bits cleared
+  pub records : dataIn place (payloadOf (beacon .pdu)) ≡ rewritten s
+  pub size : length (payloadOf (beacon .pdu)) ≡ 6 + length s
+  pub heard : (scanner : BeaconScanner) (list : List ℕ) → Lets (scanner .filter .scan) list a
+      → scanned scanner (beacon .pdu .header) (payloadOf (beacon .pdu)) true list
+      ≡ record { report = report.Beacon; sender = a; «adv_data» = place; channel = scanner .channel }
+
+-- Document 01's row 42 09, `nine` being its nine octets: CRC-good, it is reported with a random sender and one record.
+pub record Row : Type 0 where
+  pub row-42-09 : (list : List ℕ)
+      → scanned (scannerOf AllowAll) (headerOf (le (0x42 ∷ 0x09 ∷ []))) nine true list
+      ≡ record {
+        report = report.Beacon;
+        sender = addressOf (0x01 ∷ 0x02 ∷ 0x03 ∷ 0x04 ∷ 0x05 ∷ 0xC6 ∷ []) Random;
+        «adv_data» = record { start = 6; len = 3; count = 1 };
+        channel = Channel37;
+      }
+  pub records : dataIn (record { start = 6; len = 3; count = 1 }) nine ≡ 0x02 ∷ 0x01 ∷ 0x06 ∷ []

@@ -1,0 +1,107 @@
+-- What a scanner answers (document 01, beacon.rs, "AddressFilter" and "Refused calls").
+--   scannerOf f                  == a scanner with the filter f, before it is configured
+--   listening s t                == a scanner that listens on its channel from time t on, for its interval
+--   configured s t n             == what `configure` answers, timerUpdated s t what `timer_update` does
+--   isListFor f list             == the filter f has a list, or needs none
+--   passes f list a              == the filter passes the address a
+--   isType2 h, decodes h p       == a header of type 2; a header and a payload that decode without refusal
+--   isBeaconPacket h p crcOk     == the checks before the filter
+--   reportOf, unreported         == an answer that reports a PDU, and one that reports none
+--   heardOf c h p crcOk          == what is reported without a filter
+--   scanned s h p crcOk list     == what `process_adv_packet` answers
+--   reportNumber r               == document 01's number of a report, 0 where it is no refusal
+use mathlib.Core.Bool.{Bool, true, false, cond, _&&_}
+use mathlib.Core.List.{List}
+use Prim.Native.Nat.{ℕ}
+use lib.Dec.{eqb}
+use Rattle.octets.specs.Error.{numberOf}
+use Rattle.octets.specs.Time.{later}
+use Rattle.octets.specs.declared.error.Error.the-variants.{InvalidValue}
+use Rattle.octets.specs.declared.time.Instant.{Instant}
+use Rattle.channels.specs.Phy.{firstChannel, cycled}
+use Rattle.channels.specs.declared.phy.AdvertisingChannel.{AdvertisingChannel}
+use Rattle.addresses.specs.Filter.{isList, matchesOf}
+use Rattle.addresses.specs.Header.{bits}
+use Rattle.addresses.specs.declared.device_address.DeviceAddress.{DeviceAddress}
+use Rattle.addresses.specs.declared.filter.AddressFilter.{AddressFilter}
+use Rattle.addresses.specs.declared.filter.AddressFilter.the-variants.{AllowAll, Whitelist}
+use Rattle.addresses.specs.declared.filter.Matches.{Matches}
+use Rattle.addresses.specs.declared.filter.Matches.the-variants as matches
+use Rattle.addresses.specs.declared.header.Header.{Header}
+use Rattle.advertising.specs.Pdu.{noAddress, noData, decodeOf}
+use Rattle.advertising.specs.declared.pdu.Decoded.{Decoded}
+use Rattle.advertising.specs.declared.pdu.Outcome.{Outcome}
+use Rattle.advertising.specs.declared.pdu.Outcome.the-variants as outcome
+use Rattle.advertising.specs.declared.pdu.Pdu.{Pdu}
+use Rattle.beacon.specs.declared.beacon.BeaconScanner.{BeaconScanner}
+use Rattle.beacon.specs.declared.beacon.Report.{Report}
+use Rattle.beacon.specs.declared.beacon.Report.the-variants as report
+use Rattle.beacon.specs.declared.beacon.Scanned.{Scanned}
+use Rattle.beacon.specs.declared.beacon.Updated.{Updated}
+
+abbrev pub scannerOf : AddressFilter → BeaconScanner
+scannerOf f = record { filter = record { scan = f }; interval = 0; channel = firstChannel }
+
+-- the next instant is counted from the given time, modulo 2^32
+abbrev pub listening : BeaconScanner → Instant → Updated
+listening s t = record { scanner = s; cmd = record { channel = s .channel; «next_update» = record { 0 = later (t .0) (s .interval) } } }
+
+-- "Scanning starts on 37, without the device's first cycle."
+abbrev pub configured : BeaconScanner → Instant → ℕ → Updated
+configured s t interval = listening (record { filter = s .filter; interval = interval; channel = firstChannel }) t
+
+abbrev pub timerUpdated : BeaconScanner → Instant → Updated
+timerUpdated s t = listening (record { filter = s .filter; interval = s .interval; channel = cycled (s .channel) }) t
+
+-- "accept all, or a lent list"
+abbrev pub isListFor : AddressFilter → List ℕ → Bool
+isListFor AllowAll list = true
+isListFor Whitelist list = isList list
+
+abbrev pub isPass : Matches → Bool
+isPass (matches.Is b) = b
+isPass (matches.Refused e) = false
+
+abbrev pub passes : AddressFilter → List ℕ → DeviceAddress → Bool
+passes f list a = isPass (matchesOf f list a)
+
+abbrev pub isType2 : Header → Bool
+isType2 h = eqb (bits 0 4 h) 2
+
+abbrev pub isAccepted : Outcome → Bool
+isAccepted outcome.Accepted = true
+isAccepted (outcome.Refused e) = false
+
+abbrev pub decodes : Header → List ℕ → Bool
+decodes h p = isAccepted (decodeOf h p .outcome)
+
+-- "Checks of the scanner: CRC, type 2, decoding, filter."
+abbrev pub isBeaconPacket : Header → List ℕ → Bool → Bool
+isBeaconPacket h p crcOk = crcOk && (isType2 h && decodes h p)
+
+-- "the sender and record area are reported; else nothing is"
+abbrev pub reportOf : AdvertisingChannel → Pdu → Scanned
+reportOf c pdu = record { report = report.Beacon; sender = pdu .sender; «adv_data» = pdu .«adv_data»; channel = c }
+
+abbrev pub unreported : Report → AdvertisingChannel → Scanned
+unreported r c = record { report = r; sender = noAddress; «adv_data» = noData; channel = c }
+
+abbrev pub ofDecoded : AdvertisingChannel → Decoded → Scanned
+ofDecoded c d = cond (isAccepted (d .outcome)) (reportOf c (d .pdu)) (unreported report.Nothing c)
+
+unfoldable pub heardOf : AdvertisingChannel → Header → List ℕ → Bool → Scanned
+heardOf c h p crcOk = cond (isBeaconPacket h p crcOk) (reportOf c (decodeOf h p .pdu)) (unreported report.Nothing c)
+
+-- all passing, reported; a filter list comes first, and is refused 3 whatever the packet
+unfoldable pub scanned : BeaconScanner → Header → List ℕ → Bool → List ℕ → Scanned
+scanned s h p crcOk list =
+    cond (isListFor (s .filter .scan) list)
+    (cond (isBeaconPacket h p crcOk && passes (s .filter .scan) list (decodeOf h p .pdu .sender))
+    (reportOf (s .channel) (decodeOf h p .pdu))
+    (unreported report.Nothing (s .channel)))
+    (unreported (report.Refused InvalidValue) (s .channel))
+
+abbrev pub reportNumber : Report → ℕ
+reportNumber report.Beacon = 0
+reportNumber report.Nothing = 0
+reportNumber (report.Refused e) = numberOf e

@@ -1,0 +1,29 @@
+-- What making and sending a beacon answers (document 01, beacon.rs): one type 2 PDU, its payload written once, its header transmitted on 37, 38 and 39.
+use mathlib.Core.Bool.{cond}
+use mathlib.Core.List.{List, []}
+use Prim.Native.Nat.{ℕ}
+use lib.ListN.{length}
+use Rattle.octets.specs.Bytes.{has}
+use Rattle.octets.specs.Error.{numberOf}
+use Rattle.octets.specs.declared.error.Error.the-variants.{Eof}
+use Rattle.channels.specs.Phy.{ascending}
+use Rattle.addresses.specs.declared.device_address.DeviceAddress.{DeviceAddress}
+use Rattle.addresses.specs.declared.header.PduType.the-variants.{AdvNonconnInd}
+use Rattle.advertising.specs.PduBuf.{builtOf, payloadOf}
+use Rattle.beacon.specs.declared.beacon.Beacon.{Beacon}
+use Rattle.beacon.specs.declared.beacon.Broadcast.{Broadcast}
+use Rattle.beacon.specs.declared.beacon.Broadcast.the-variants as broadcast
+use Rattle.beacon.specs.declared.beacon.Made.{Made}
+
+-- the beacon of an address and records: an ADV_NONCONN_IND (the Core, Vol 6 Part B, 2.3.1.3), or why it cannot be built
+abbrev pub beaconOf : DeviceAddress → List ℕ → Made
+beaconOf a s = record { outcome = builtOf AdvNonconnInd a [] s .outcome; beacon = record { pdu = builtOf AdvNonconnInd a [] s .pdu } }
+
+-- document 01: a transmit buffer shorter than the payload is 1
+abbrev pub broadcastOf : Beacon → List ℕ → Broadcast
+broadcastOf b tx = cond (has (length (payloadOf (b .pdu))) tx 0) (broadcast.Transmit (b .pdu .header) ascending) (broadcast.Refused Eof)
+
+-- document 01's number of an answer, 0 where it is no refusal
+abbrev pub broadcastNumber : Broadcast → ℕ
+broadcastNumber (broadcast.Transmit h channels) = 0
+broadcastNumber (broadcast.Refused e) = numberOf e

@@ -1,0 +1,260 @@
+// Beacon support, without dealing with link-layer state.
+ghost use mathlib.Core.Path.{_≡_};
+ghost use Rattle.addresses.specs.declared.filter.AddressFilter.the-variants.{AllowAll};
+ghost use Rattle.advertising.specs.Pdu.{dataIn};
+ghost use Rattle.advertising.specs.PduBuf.{payloadAfter};
+ghost use Rattle.beacon.specs.Sending.{beaconOf, broadcastOf};
+ghost use Rattle.beacon.specs.Scanner.{scannerOf, listening, configured, timerUpdated, unreported, ofDecoded, heardOf, scanned};
+use addresses::device_address::AddressKind;
+use addresses::device_address::DeviceAddress;
+use addresses::filter::AddressFilter;
+use addresses::filter::Matches;
+use addresses::filter::ScanFilter;
+use addresses::header::Header;
+use advertising::pdu::AdvData;
+use advertising::pdu::Decoded;
+use advertising::pdu::Outcome;
+use advertising::pdu::Pdu;
+use advertising::pdu_buf::PduBuf;
+use channels::phy::AdvertisingChannel;
+use channels::phy::AllChannels;
+use octets::bytes::Written;
+use octets::error::Error;
+use octets::time::Instant;
+
+// A BLE beacon.
+pub struct Beacon {
+    pdu: PduBuf,
+}
+
+// What making a beacon finds. Where it is refused, the beacon is all zeros and has no meaning.
+pub struct Made {
+    pub outcome: Outcome,
+    pub beacon: Beacon,
+}
+
+// What is transmitted of a beacon: its header, on each channel in turn, with the payload that was written once. Or why nothing is.
+pub enum Broadcast {
+    Transmit(Header, AllChannels),
+    Refused(Error),
+}
+
+impl Beacon {
+    // A beacon of an address and records, which are lent encoded and must fit within a single PDU.
+    pub fn new(addr: DeviceAddress, data: &[u8]) -> Made
+        ensures { λ r. ⌜ r ≡ beaconOf addr (now («data» .entry)) ⌝ }
+    {
+        let built = PduBuf::beacon(addr, data);
+        let outcome = built.outcome;
+        let pdu = built.pdu;
+        let beacon = Beacon { pdu };
+        Made { outcome, beacon }
+    }
+
+    // Broadcasts the beacon once on every advertising channel: the payload is written to the front of `tx`, or nothing where that is too short.
+    pub fn broadcast(self, tx: &mut [u8]) -> Broadcast
+        ensures { λ r. ⌜ (r ≡ broadcastOf self (now (tx .entry))) × (now (tx .exit) ≡ payloadAfter (self .pdu) (now (tx .entry))) ⌝ }
+    {
+        let pdu = self.pdu;
+        match pdu.write_payload(tx) {
+            Written::To(_) => Broadcast::Transmit(pdu.header(), AdvertisingChannel::all()),
+            Written::Refused(e) => Broadcast::Refused(e),
+        }
+    }
+}
+
+// A passive scanner for non-connectable beacon advertisements.
+pub struct BeaconScanner {
+    filter: ScanFilter,
+    // In µs.
+    interval: u32,
+    channel: AdvertisingChannel,
+}
+
+// What the radio is to do: listen on a channel, until `timer_update` is called at the next instant.
+pub struct Cmd {
+    pub channel: AdvertisingChannel,
+    pub next_update: Instant,
+}
+
+// A scanner that listens.
+pub struct Updated {
+    pub scanner: BeaconScanner,
+    pub cmd: Cmd,
+}
+
+// Whether a packet is reported, or why the filter list is none.
+pub enum Report {
+    Beacon,
+    Nothing,
+    Refused(Error),
+}
+
+// What a packet gives: a report, with the beacon's sender and where its records lie in the payload, both blank where none is reported; and the
+// channel to keep listening on.
+pub struct Scanned {
+    pub report: Report,
+    pub sender: DeviceAddress,
+    pub adv_data: AdvData,
+    pub channel: AdvertisingChannel,
+}
+
+impl BeaconScanner {
+    // A scanner that reports beacons from any device.
+    pub fn new() -> BeaconScanner
+        ensures { λ r. ⌜ r ≡ scannerOf AllowAll ⌝ }
+    {
+        BeaconScanner::with_filter(AddressFilter::AllowAll)
+    }
+
+    // A scanner with a device filter.
+    pub fn with_filter(scan_filter: AddressFilter) -> BeaconScanner
+        ensures { λ r. ⌜ r ≡ scannerOf «scan_filter» ⌝ }
+    {
+        let filter = ScanFilter::new(scan_filter);
+        let channel = AdvertisingChannel::first();
+        BeaconScanner {
+            filter,
+            interval: 0,
+            channel,
+        }
+    }
+
+    // Configures the scanner, which begins to listen. The interval is in µs.
+    pub fn configure(self, time: Instant, interval: u32) -> Updated
+        ensures { λ r. ⌜ r ≡ configured self time interval ⌝ }
+    {
+        let filter = self.filter;
+        let channel = AdvertisingChannel::first();
+        let scanner = BeaconScanner {
+            filter,
+            interval,
+            channel,
+        };
+        scanner.listen(time)
+    }
+
+    // Switches to the next advertising channel, after the configured timer has fired.
+    pub fn timer_update(self, time: Instant) -> Updated
+        ensures { λ r. ⌜ r ≡ timerUpdated self time ⌝ }
+    {
+        let filter = self.filter;
+        let current = self.channel;
+        let channel = current.cycle();
+        let scanner = BeaconScanner {
+            filter,
+            interval: self.interval,
+            channel,
+        };
+        scanner.listen(time)
+    }
+
+    // Listens on its channel for an interval from the given time on.
+    fn listen(self, time: Instant) -> Updated
+        ensures { λ r. ⌜ r ≡ listening self time ⌝ }
+    {
+        let channel = self.channel;
+        let next_update = time.add(self.interval);
+        let cmd = Cmd {
+            channel,
+            next_update,
+        };
+        Updated { scanner: self, cmd }
+    }
+
+    // Processes a packet that was received on an advertising channel. A bad filter list is refused, whatever the packet.
+    pub fn process_adv_packet(
+        self,
+        header: Header,
+        payload: &[u8],
+        crc_ok: bool,
+        list: &[u8],
+    ) -> Scanned
+        ensures { λ r. ⌜ r ≡ scanned self header (now (payload .entry)) «crc_ok» (now (list .entry)) ⌝ }
+    {
+        let filter = self.filter;
+        let channel = self.channel;
+        // Where this is no beacon its sender is blank, and the filter only tests its list.
+        let found = heard(channel, header, payload, crc_ok);
+        let sender = found.sender;
+        match filter.should_scan(list, sender) {
+            Matches::Is(passes) => {
+                if passes {
+                    return found;
+                }
+                unreported(Report::Nothing, channel)
+            }
+            Matches::Refused(e) => unreported(Report::Refused(e), channel),
+        }
+    }
+}
+
+impl Scanned {
+    // The record area of a beacon as a part of its payload: no octets where the payload has no such part.
+    pub fn advertising_data(self, payload: &[u8]) -> &[u8]
+        ensures { λ r. ⌜ now r ≡ dataIn (self .«adv_data») (now (payload .entry)) ⌝ }
+    {
+        let place = self.adv_data;
+        let start = place.start;
+        let len = place.len;
+        if payload.len() < start {
+            return &payload[..0];
+        }
+        if payload.len() - start < len {
+            return &payload[..0];
+        }
+        let end = start + len;
+        &payload[start..end]
+    }
+}
+
+// What a packet holds for a scanner without a filter. It is decoded only where its CRC is good and its type a beacon's.
+fn heard(channel: AdvertisingChannel, header: Header, payload: &[u8], crc_ok: bool) -> Scanned
+    ensures { λ r. ⌜ r ≡ heardOf channel header (now (payload .entry)) «crc_ok» ⌝ }
+{
+    if crc_ok {
+        if header.type_().is_beacon() {
+            return of_decoded(channel, Pdu::from_header_and_payload(header, payload));
+        }
+        return unreported(Report::Nothing, channel);
+    }
+    unreported(Report::Nothing, channel)
+}
+
+fn of_decoded(channel: AdvertisingChannel, decoded: Decoded) -> Scanned
+    ensures { λ r. ⌜ r ≡ ofDecoded channel decoded ⌝ }
+{
+    let outcome = decoded.outcome;
+    match outcome {
+        Outcome::Accepted => {
+            let pdu = decoded.pdu;
+            let sender = pdu.sender;
+            let adv_data = pdu.adv_data;
+            Scanned {
+                report: Report::Beacon,
+                sender,
+                adv_data,
+                channel,
+            }
+        }
+        Outcome::Refused(_) => unreported(Report::Nothing, channel),
+    }
+}
+
+// An answer that reports no beacon.
+fn unreported(report: Report, channel: AdvertisingChannel) -> Scanned
+    ensures { λ r. ⌜ r ≡ unreported report channel ⌝ }
+{
+    let sender = DeviceAddress::new([0, 0, 0, 0, 0, 0], AddressKind::Public);
+    let adv_data = AdvData {
+        start: 0,
+        len: 0,
+        count: 0,
+    };
+    Scanned {
+        report,
+        sender,
+        adv_data,
+        channel,
+    }
+}

@@ -1,0 +1,2 @@
+// Beacons sent, and heard by a scanner.
+pub mod beacon;
