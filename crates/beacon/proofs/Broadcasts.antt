@@ -2,7 +2,7 @@
 use mathlib.Core.Bool.{true}
 use mathlib.Core.List.{List, [], _++_, append-nil}
 use mathlib.Core.Path.{_≡_, refl, sym, ap, _∙_}
-use Prim.Native.Nat.{ℕ, _+_, _≤_, _<_}
+use Prim.Native.Nat.{ℕ, _+_, _≤_}
 use native.Mathlib.Nat.{zero-add}
 use native.Mathlib.Omega.{arith}
 use lib.ListN.{length, drop}
@@ -14,7 +14,6 @@ use Rattle.addresses.proofs.Boxes.{codes}
 use Rattle.addresses.specs.Header.{typeCode, typeOf, bits}
 use Rattle.addresses.specs.declared.device_address.DeviceAddress.{DeviceAddress}
 use Rattle.addresses.specs.declared.header.Header.{Header}
-use Rattle.addresses.specs.declared.header.PduType.{PduType}
 use Rattle.addresses.specs.declared.header.PduType.the-variants.{AdvNonconnInd}
 use Rattle.advertising.proofs.Accepting.{accepting}
 use Rattle.advertising.proofs.Building.{building}
@@ -24,7 +23,7 @@ use Rattle.advertising.specs.PduBuf.{payloadOf}
 use Rattle.advertising.specs.declared.pdu.Decoded.{Decoded}
 use Rattle.advertising.specs.declared.pdu.Outcome.the-variants as outcome
 use Rattle.advertising.specs.declared.pdu_buf.Built.{Built}
-use Rattle.beacon.specs.Laws.{Lets, Sends, Refusing, Broadcasting}
+use Rattle.beacon.specs.Laws.{Sends, Refusing, Broadcasting}
 use Rattle.beacon.specs.Scanner.{reportOf}
 use Rattle.beacon.specs.declared.beacon.Beacon.{Beacon}
 use Rattle.beacon.proofs.Reports.{Holds, same-type, holds-decoded, complete}

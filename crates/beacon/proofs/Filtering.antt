@@ -14,11 +14,10 @@ use Rattle.addresses.specs.Header.{isBeacon, pduType}
 use Rattle.addresses.specs.declared.device_address.DeviceAddress.{DeviceAddress}
 use Rattle.addresses.specs.declared.filter.AddressFilter.{AddressFilter}
 use Rattle.addresses.specs.declared.filter.AddressFilter.the-variants.{AllowAll, Whitelist}
-use Rattle.addresses.specs.declared.filter.Matches.{Matches}
 use Rattle.addresses.specs.declared.filter.Matches.the-variants as matches
 use Rattle.addresses.specs.declared.header.Header.{Header}
 use Rattle.addresses.specs.declared.header.PduType.{PduType}
-use Rattle.addresses.specs.declared.header.PduType.the-variants.{AdvInd, AdvDirectInd, AdvNonconnInd, AdvScanInd, ScanReq, ScanRsp, ConnectReq, Unknown}
+use Rattle.addresses.specs.declared.header.PduType.the-variants.{AdvInd, AdvDirectInd, AdvScanInd, ScanReq, ScanRsp, ConnectReq, Unknown}
 use Rattle.advertising.specs.Pdu.{decodeOf}
 use Rattle.beacon.specs.Scanner.{isListFor, isPass, passes, isBeaconPacket, reportOf, unreported, heardOf, scanned}
 use Rattle.beacon.specs.declared.beacon.BeaconScanner.{BeaconScanner}
@@ -68,6 +67,15 @@ told-refused true q e is = let z : _≡_ {A = ℕ} 0 1 = cc in absurd (omega ari
 told-refused false q e is = (refl, cc)
 
 module _ (s : BeaconScanner) (h : Header) (p : List ℕ) (crcOk : Bool) (list : List ℕ) where
+  -- a list that is none is refused, whatever was heard
+  pub filter-refused : (w : Scanned) (e : Error) → matchesOf (s .filter .scan) list (w .sender) ≡ matches.Refused e
+      → unreported (report.Refused e) (s .channel) ≡ scanned s h p crcOk list
+  unfolding scanned
+  filter-refused w e answer =
+      let f : AddressFilter = s .filter .scan in
+      let says = told-refused (isListFor f list) (passes f list (w .sender)) e (sym (matches-is f list (w .sender)) ∙ answer) in
+      rw (says .0, ← says .1)
+
   -- the filter takes what was heard, or leaves nothing of it
   pub filtered : (w : Scanned) (b : Bool) → w ≡ heardOf (s .channel) h p crcOk → matchesOf (s .filter .scan) list (w .sender) ≡ matches.Is b
       → cond b w (unreported report.Nothing (s .channel)) ≡ scanned s h p crcOk list
@@ -91,11 +99,3 @@ module _ (s : BeaconScanner) (h : Header) (p : List ℕ) (crcOk : Bool) (list : 
           same : (b : Bool) → cond b nothing nothing ≡ nothing
           same true = refl
           same false = refl
-
-  pub filter-refused : (w : Scanned) (e : Error) → matchesOf (s .filter .scan) list (w .sender) ≡ matches.Refused e
-      → unreported (report.Refused e) (s .channel) ≡ scanned s h p crcOk list
-  unfolding scanned
-  filter-refused w e answer =
-      let f : AddressFilter = s .filter .scan in
-      let says = told-refused (isListFor f list) (passes f list (w .sender)) e (sym (matches-is f list (w .sender)) ∙ answer) in
-      rw (says .0, ← says .1)

@@ -1,15 +1,19 @@
 -- What a scanner answers (document 01, beacon.rs, "AddressFilter" and "Refused calls").
---   scannerOf f                  == a scanner with the filter f, before it is configured
---   listening s t                == a scanner that listens on its channel from time t on, for its interval
---   configured s t n             == what `configure` answers, timerUpdated s t what `timer_update` does
---   isListFor f list             == the filter f has a list, or needs none
---   passes f list a              == the filter passes the address a
---   isType2 h, decodes h p       == a header of type 2; a header and a payload that decode without refusal
---   isBeaconPacket h p crcOk     == the checks before the filter
---   reportOf, unreported         == an answer that reports a PDU, and one that reports none
---   heardOf c h p crcOk          == what is reported without a filter
---   scanned s h p crcOk list     == what `process_adv_packet` answers
---   reportNumber r               == document 01's number of a report, 0 where it is no refusal
+--   scannerOf f                 == a scanner with the filter f, before it is configured
+--   listening s t               == the scanner s, which listens on its channel from time t on for its interval
+--   configured s t interval     == what `configure` answers
+--   timerUpdated s t            == what `timer_update` answers
+--   isListFor f list            == the filter f has its list, or needs none
+--   passes f list a             == the filter f passes the address a; isPass m: an answer of a filter that says so
+--   isType2 h                   == a header of type 2
+--   decodes h p                 == a header and a payload that decode without refusal; isAccepted o: an outcome that says so
+--   isBeaconPacket h p crcOk    == all checks save the filter
+--   reportOf c pdu              == the report of a PDU, with the channel c
+--   unreported r c              == an answer that reports no PDU
+--   ofDecoded c d               == what is reported of a decoded packet, by its outcome alone
+--   heardOf c h p crcOk         == what is reported by all checks save the filter
+--   scanned s h p crcOk list    == what `process_adv_packet` answers
+--   reportNumber r              == document 01's number of a report, 0 where it is no refusal
 use mathlib.Core.Bool.{Bool, true, false, cond, _&&_}
 use mathlib.Core.List.{List}
 use Prim.Native.Nat.{ℕ}
@@ -50,10 +54,11 @@ listening s t = record { scanner = s; cmd = record { channel = s .channel; «nex
 abbrev pub configured : BeaconScanner → Instant → ℕ → Updated
 configured s t interval = listening (record { filter = s .filter; interval = interval; channel = firstChannel }) t
 
+-- the channel is cycled, the interval stays
 abbrev pub timerUpdated : BeaconScanner → Instant → Updated
 timerUpdated s t = listening (record { filter = s .filter; interval = s .interval; channel = cycled (s .channel) }) t
 
--- "accept all, or a lent list"
+-- document 01, "AddressFilter": "accept all, or a lent list"
 abbrev pub isListFor : AddressFilter → List ℕ → Bool
 isListFor AllowAll list = true
 isListFor Whitelist list = isList list
@@ -79,7 +84,7 @@ decodes h p = isAccepted (decodeOf h p .outcome)
 abbrev pub isBeaconPacket : Header → List ℕ → Bool → Bool
 isBeaconPacket h p crcOk = crcOk && (isType2 h && decodes h p)
 
--- "the sender and record area are reported; else nothing is"
+-- the sender and record area; blank where nothing is reported
 abbrev pub reportOf : AdvertisingChannel → Pdu → Scanned
 reportOf c pdu = record { report = report.Beacon; sender = pdu .sender; «adv_data» = pdu .«adv_data»; channel = c }
 
@@ -92,7 +97,7 @@ ofDecoded c d = cond (isAccepted (d .outcome)) (reportOf c (d .pdu)) (unreported
 unfoldable pub heardOf : AdvertisingChannel → Header → List ℕ → Bool → Scanned
 heardOf c h p crcOk = cond (isBeaconPacket h p crcOk) (reportOf c (decodeOf h p .pdu)) (unreported report.Nothing c)
 
--- all passing, reported; a filter list comes first, and is refused 3 whatever the packet
+-- "All passing, the sender and record area are reported; else nothing is."; the filter list comes first, and is refused 3 whatever the packet
 unfoldable pub scanned : BeaconScanner → Header → List ℕ → Bool → List ℕ → Scanned
 scanned s h p crcOk list =
     cond (isListFor (s .filter .scan) list)

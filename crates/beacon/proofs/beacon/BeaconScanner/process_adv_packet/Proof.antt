@@ -1,5 +1,5 @@
 -- `BeaconScanner::process_adv_packet` meets its contract, by what the filter answers. Assumes nothing.
-use mathlib.Core.Path.{_≡_, sym, ap, _∙_}
+use mathlib.Core.Path.{sym, ap, _∙_}
 use borrow.Author.Needs.{needs}
 use Rattle.addresses.specs.declared.filter.Matches.the-variants as matches
 use Rattle.beacon.proofs.Filtering.{filtered, filter-refused}

@@ -1,6 +1,5 @@
 -- `BeaconScanner::with_filter` meets its contract. Assumes nothing.
 use borrow.Author.Needs.{needs}
-use Rattle.channels.specs.Phy.{firstChannel}
 use Rattle.beacon.proofs.beacon.BeaconScanner.with_filter.Statement.{statement}
 use Rattle.beacon.proofs.beacon.BeaconScanner.with_filter.Tie as tie
 
