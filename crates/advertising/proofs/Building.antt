@@ -120,6 +120,7 @@ back ty a flags s n m allows six fits good again =
     record {
       pdu = bufOf ty tx false xs;
       built = rw (good, space, le-ltb (31 - length flags) (length s) (omega arith));
+      payload = payload;
       place = place;
       reads =
           rw payload

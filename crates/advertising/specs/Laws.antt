@@ -73,6 +73,8 @@ pub record Accepting (h : Header) (p : List ℕ) : Type 0 where
 pub record ReadsBack (ty : PduType) (a : DeviceAddress) (flags s : List ℕ) (n : ℕ) : Type 0 where
   pub pdu : PduBuf
   pub built : builtOf ty a flags s ≡ record { outcome = Accepted; pdu = pdu }
+  -- its octets: the address, Flags where the builder puts them, and the records
+  pub payload : payloadOf pdu ≡ (a .bytes ++ flags) ++ rewritten s
   pub place : AdvData
   pub reads : decodeOf (pdu .header) (payloadOf pdu) ≡ decodedAs Accepted ty a noAddress place noRequest
   pub count : place .count ≡ n

@@ -2,7 +2,8 @@
 --   padded xs                 == 37 octets: xs and zeros
 --   headerFor ty tx rx n      == the header of a PDU of type ty with a payload of n octets
 --   bufOf ty tx rx xs         == the PDU of type ty with the payload xs
---   refusedBuf e              == the refusal e, with a PDU of zeros
+--   emptyBuf                  == a PDU of zeros, without payload
+--   refusedBuf e              == the refusal e, with that
 --   withRecords ty tx front s == the PDU whose payload is `front` and the records of s, read and written again
 --   builtOf ty a flags s      == the PDU of the address a, the record `flags` if there is one, and the records of s
 --   builtDirected a b         == the PDU of two addresses
@@ -39,8 +40,11 @@ headerFor ty tx rx n = setRxAdd rx (setTxAdd tx (setLength n (headerOf (typeCode
 unfoldable pub bufOf : PduType → Bool → Bool → List ℕ → PduBuf
 bufOf ty tx rx xs = record { header = headerFor ty tx rx (length xs); «payload_buf» = padded xs }
 
+abbrev pub emptyBuf : PduBuf
+emptyBuf = record { header = headerOf 0; «payload_buf» = padded [] }
+
 abbrev pub refusedBuf : Error → Built
-refusedBuf e = record { outcome = Refused e; pdu = record { header = headerOf 0; «payload_buf» = padded [] } }
+refusedBuf e = record { outcome = Refused e; pdu = emptyBuf }
 
 -- a payload holds at most 37 octets
 unfoldable pub afterReading : PduType → Bool → List ℕ → List ℕ → Area → Built

@@ -5,7 +5,7 @@ ghost use Prim.Native.Nat.{_+_, _≤_, min};
 ghost use lib.ListN.{length, take, drop};
 ghost use Rattle.octets.specs.Bytes.{outAfter};
 ghost use Rattle.records.specs.Area.{rewrittenTo, rewrittenAfter};
-ghost use Rattle.advertising.specs.PduBuf.{padded, headerFor, refusedBuf, withRecords, builtOf, builtDirected, flagsRecord, payloadTo, payloadAfter};
+ghost use Rattle.advertising.specs.PduBuf.{padded, headerFor, emptyBuf, refusedBuf, withRecords, builtOf, builtDirected, flagsRecord, payloadTo, payloadAfter};
 ghost use Rattle.addresses.specs.declared.header.PduType.the-variants.{AdvInd, AdvNonconnInd, AdvScanInd, ScanRsp};
 use crate::pdu::Outcome;
 use addresses::device_address::DeviceAddress;
@@ -31,6 +31,16 @@ pub struct Built {
 }
 
 impl PduBuf {
+    // A PDU that was not built: all zeros, without payload.
+    pub fn empty() -> PduBuf
+        ensures { λ r. ⌜ r ≡ emptyBuf ⌝ }
+    {
+        PduBuf {
+            header: Header::new(PduType::AdvInd),
+            payload_buf: [0u8; 37],
+        }
+    }
+
     // A PDU of an address and records, which are lent encoded: all of them are read, then written again.
     fn adv(ty: PduType, adv: DeviceAddress, adv_data: &[u8]) -> Built
         ensures { λ r. ⌜ r ≡ builtOf ty adv [] (now («adv_data» .entry)) ⌝ }
@@ -198,13 +208,9 @@ fn fill(ty: PduType, random: bool, front: [u8; 37], start: usize, adv_data: &[u8
 fn no_pdu(e: Error) -> Built
     ensures { λ r. ⌜ r ≡ refusedBuf e ⌝ }
 {
-    let pdu = PduBuf {
-        header: Header::new(PduType::AdvInd),
-        payload_buf: [0u8; 37],
-    };
     Built {
         outcome: Outcome::Refused(e),
-        pdu,
+        pdu: PduBuf::empty(),
     }
 }
 

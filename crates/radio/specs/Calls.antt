@@ -1,0 +1,191 @@
+-- What each call answers, the device that it hands back, and what it leaves in the transmit buffer (document 01, "link/mod.rs, connection.rs" and
+-- "Refused calls").
+--   fresh own                 == a device in standby with its own address
+--   isAdvertising m, isConnected m
+--   refusal d e               == the refusal e, nothing changed
+--   advanced a                == the advertisement a after a tick: the next channel, the next instant
+--   advertised d a            == an accepted tick of a
+--   sent d a w                == a tick of a whose payload was written to the transmit buffer, or not
+--   beginning t i pdu         == the advertisement that a start sets up
+--   isFor own pdu             == the PDU has a second address, and that is `own`, kind included
+--   listens d, responds d     == the device keeps listening, or answers a scan request and keeps listening
+--   connects d end l          == the connection that a request asks for, at its first event
+--   addressed d end l ty      == a packet of type ty that is for this device
+--   heard d end pdu           == a CRC-good packet
+--   hops d                    == the next event of the connection
+--   startOf, tickOf, packetOf, eventOf, stopOf == what the five calls answer
+--   startAfter, tickAfter     == the transmit buffer after them
+use mathlib.Core.Bool.{Bool, true, false, cond, _&&_}
+use mathlib.Core.List.{List, [], _∷_}
+use Prim.Native.Nat.{ℕ, _+_}
+use Rattle.octets.specs.Time.{later}
+use Rattle.octets.specs.declared.bytes.Written.{Written}
+use Rattle.octets.specs.declared.bytes.Written.the-variants as written
+use Rattle.octets.specs.declared.error.Error.{Error}
+use Rattle.octets.specs.declared.error.Error.the-variants.{WrongMode}
+use Rattle.octets.specs.declared.time.Instant.{Instant}
+use Rattle.channels.specs.Hop.{hopped}
+use Rattle.channels.specs.Map.{fromRaw}
+use Rattle.channels.specs.Phy.{firstChannel, cycled}
+use Rattle.channels.specs.declared.connection.Hop.{Hop}
+use Rattle.channels.specs.declared.connection.Hop.the-variants as hop
+use Rattle.addresses.specs.Address.{isRandom, sameAddress}
+use Rattle.addresses.specs.declared.device_address.DeviceAddress.{DeviceAddress}
+use Rattle.addresses.specs.declared.header.Header.{Header}
+use Rattle.addresses.specs.declared.header.PduType.{PduType}
+use Rattle.addresses.specs.declared.header.PduType.the-variants.{AdvInd, AdvDirectInd, AdvNonconnInd, AdvScanInd, ScanReq, ScanRsp, ConnectReq, Unknown}
+use Rattle.advertising.specs.Pdu.{hasReceiver, decodeOf}
+use Rattle.advertising.specs.PduBuf.{headerFor, emptyBuf, builtOf, flagsRecord, payloadTo, payloadAfter}
+use Rattle.advertising.specs.declared.pdu.ConnectRequestData.{ConnectRequestData}
+use Rattle.advertising.specs.declared.pdu.Outcome.{Outcome}
+use Rattle.advertising.specs.declared.pdu.Outcome.the-variants as outcome
+use Rattle.advertising.specs.declared.pdu.Pdu.{Pdu}
+use Rattle.advertising.specs.declared.pdu_buf.Built.{Built}
+use Rattle.advertising.specs.declared.pdu_buf.PduBuf.{PduBuf}
+use Rattle.radio.specs.declared.link.Advertisement.{Advertisement}
+use Rattle.radio.specs.declared.link.Answer.{Answer}
+use Rattle.radio.specs.declared.link.Answer.the-variants.{Refused, Sent, Listen, Respond, FirstEvent, NextEvent, Stopped}
+use Rattle.radio.specs.declared.link.Called.{Called}
+use Rattle.radio.specs.declared.link.Connection.{Connection}
+use Rattle.radio.specs.declared.link.Device.{Device}
+use Rattle.radio.specs.declared.link.Mode.{Mode}
+use Rattle.radio.specs.declared.link.Mode.the-variants.{Standby, Advertising, Connected}
+
+abbrev pub isAdvertising : Mode → Bool
+isAdvertising Standby = false
+isAdvertising Advertising = true
+isAdvertising Connected = false
+
+abbrev pub isConnected : Mode → Bool
+isConnected Standby = false
+isConnected Advertising = false
+isConnected Connected = true
+
+-- the instant t
+abbrev pub instant : ℕ → Instant
+instant t = record { 0 = t }
+
+-- "A fresh device is in standby, made with its own address"
+abbrev pub fresh : DeviceAddress → Device
+fresh own =
+    record {
+      mode = Standby;
+      «dev_addr» = own;
+      adv = record { «next_adv» = instant 0; interval = 0; pdu = emptyBuf; channel = firstChannel };
+      conn = record { «channel_map» = fromRaw (0 ∷ 0 ∷ 0 ∷ 0 ∷ 0 ∷ []); hop = 0; «unmapped_channel» = 0 };
+    }
+
+abbrev pub refusal : Device → Error → Called
+refusal d e = record { answer = Refused e; device = d }
+
+-- Advertising
+
+-- "A tick cycles the channel, then .. moves the next instant on by the interval"
+abbrev pub advanced : Advertisement → Advertisement
+advanced a = record { «next_adv» = instant (later (a .«next_adv» .0) (a .interval)); interval = a .interval; pdu = a .pdu; channel = cycled (a .channel) }
+
+abbrev pub advertised : Device → Advertisement → Called
+advertised d a =
+    record {
+      answer = Sent (a .pdu .header) (advanced a .channel) (advanced a .«next_adv»);
+      device = record { mode = Advertising; «dev_addr» = d .«dev_addr»; adv = advanced a; conn = d .conn };
+    }
+
+abbrev pub sent : Device → Advertisement → Written → Called
+sent d a (written.To next) = advertised d a
+sent d a (written.Refused e) = refusal d e
+
+unfoldable pub tickOf : Device → List ℕ → Called
+tickOf d tx = cond (isAdvertising (d .mode)) (sent d (d .adv) (payloadTo (d .adv .pdu) tx)) (refusal d WrongMode)
+
+unfoldable pub tickAfter : Device → List ℕ → List ℕ
+tickAfter d tx = cond (isAdvertising (d .mode)) (payloadAfter (d .adv .pdu) tx) tx
+
+abbrev pub beginning : Instant → ℕ → PduBuf → Advertisement
+beginning time interval pdu = record { «next_adv» = time; interval = interval; pdu = pdu; channel = firstChannel }
+
+-- "Start works in any mode, builds a discoverable PDU and makes the first tick"
+abbrev pub discoverable : Device → List ℕ → Built
+discoverable d records = builtOf AdvInd (d .«dev_addr») flagsRecord records
+
+abbrev pub started : Device → Advertisement → List ℕ → Outcome → Called
+started d a tx outcome.Accepted = sent d a (payloadTo (a .pdu) tx)
+started d a tx (outcome.Refused e) = refusal d e
+
+abbrev pub startedAfter : PduBuf → List ℕ → Outcome → List ℕ
+startedAfter pdu tx outcome.Accepted = payloadAfter pdu tx
+startedAfter pdu tx (outcome.Refused e) = tx
+
+unfoldable pub startOf : Device → Instant → ℕ → List ℕ → List ℕ → Called
+startOf d time interval records tx = started d (beginning time interval (discoverable d records .pdu)) tx (discoverable d records .outcome)
+
+unfoldable pub startAfter : Device → List ℕ → List ℕ → List ℕ
+startAfter d records tx = startedAfter (discoverable d records .pdu) tx (discoverable d records .outcome)
+
+-- Packets
+
+-- "for this board if it has type 1, 3 or 5 and its second address equals the device's own"
+unfoldable pub isFor : DeviceAddress → Pdu → Bool
+isFor own pdu = hasReceiver (pdu .ty) && sameAddress (pdu .receiver) own
+
+abbrev pub listens : Device → Called
+listens d = record { answer = Listen (d .adv .channel); device = d }
+
+-- "A scan request gets a header of length 6 and writes nothing"
+abbrev pub responds : Device → Called
+responds d = record { answer = Respond (headerFor ScanRsp (isRandom (d .«dev_addr» .kind)) false 6) (d .adv .channel); device = d }
+
+-- "the first event at packet end + window offset + window size + 1,750 µs"
+abbrev pub firstEventAt : Instant → ConnectRequestData → Instant
+firstEventAt end l = instant (later (end .0) (l .«win_offset» + l .«win_size» + 1750))
+
+abbrev pub connectedAt : Device → Instant → ConnectRequestData → Hop → Called
+connectedAt d end l (hop.To unmapped channel) =
+    record {
+      answer = FirstEvent channel (firstEventAt end l) (l .«access_address») (l .«crc_init»);
+      device = record { mode = Connected; «dev_addr» = d .«dev_addr»; adv = d .adv; conn = record { «channel_map» = l .chm; hop = l .hop; «unmapped_channel» = unmapped } };
+    }
+connectedAt d end l (hop.Refused e) = refusal d e
+
+-- "Each event adds hop modulo 37, starting at 0 before the first"
+unfoldable pub connects : Device → Instant → ConnectRequestData → Called
+connects d end l = connectedAt d end l (hopped (l .chm) 0 (l .hop))
+
+-- "other types sent to us, keep listening"
+unfoldable pub addressed : Device → Instant → ConnectRequestData → PduType → Called
+addressed d end l ScanReq = responds d
+addressed d end l ConnectReq = connects d end l
+addressed d end l AdvDirectInd = listens d
+addressed d end l AdvInd = listens d
+addressed d end l AdvNonconnInd = listens d
+addressed d end l AdvScanInd = listens d
+addressed d end l ScanRsp = listens d
+addressed d end l (Unknown n) = listens d
+
+-- "bad, malformed or foreign packets .. keep listening": a malformed one has no second address
+abbrev pub heard : Device → Instant → Pdu → Called
+heard d end pdu = cond (isFor (d .«dev_addr») pdu) (addressed d end (pdu .lldata) (pdu .ty)) (listens d)
+
+unfoldable pub packetOf : Device → Instant → Header → List ℕ → Bool → Called
+packetOf d end header payload crcGood =
+    cond (isAdvertising (d .mode)) (cond crcGood (heard d end (decodeOf header payload .pdu)) (listens d)) (refusal d WrongMode)
+
+-- Events, and the stop
+
+abbrev pub hoppedTo : Device → Hop → Called
+hoppedTo d (hop.To unmapped channel) =
+    record {
+      answer = NextEvent channel;
+      device = record { mode = d .mode; «dev_addr» = d .«dev_addr»; adv = d .adv; conn = record { «channel_map» = d .conn .«channel_map»; hop = d .conn .hop; «unmapped_channel» = unmapped } };
+    }
+hoppedTo d (hop.Refused e) = refusal d e
+
+unfoldable pub hops : Device → Called
+hops d = hoppedTo d (hopped (d .conn .«channel_map») (d .conn .«unmapped_channel») (d .conn .hop))
+
+unfoldable pub eventOf : Device → Called
+eventOf d = cond (isConnected (d .mode)) (hops d) (refusal d WrongMode)
+
+-- "Stop is accepted in every mode and leads to standby"
+abbrev pub stopOf : Device → Called
+stopOf d = record { answer = Stopped; device = record { mode = Standby; «dev_addr» = d .«dev_addr»; adv = d .adv; conn = d .conn } }

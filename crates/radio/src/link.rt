@@ -1,0 +1,371 @@
+// The link layer: a device in standby, advertising or connected. It goes into each call by value and comes back beside the answer.
+ghost use mathlib.Core.Path.{_≡_};
+ghost use Rattle.advertising.specs.PduBuf.{payloadTo, payloadAfter};
+ghost use Rattle.radio.specs.Calls.{fresh, isAdvertising, isConnected, refusal, listens, responds, connects, addressed, advertised, sent, heard, hops, startOf, startAfter, tickOf, tickAfter, packetOf, eventOf, stopOf};
+use addresses::device_address::DeviceAddress;
+use addresses::header::Header;
+use addresses::header::PduType;
+use advertising::pdu::ConnectRequestData;
+use advertising::pdu::Outcome;
+use advertising::pdu::Pdu;
+use advertising::pdu_buf::PduBuf;
+use channels::channel_map::ChannelMap;
+use channels::connection::Hop;
+use channels::connection::hop_channel;
+use channels::phy::AdvertisingChannel;
+use channels::phy::DataChannel;
+use octets::bytes::Written;
+use octets::error::Error;
+use octets::time::Instant;
+
+// Which of the two states below has a meaning, if any.
+pub enum Mode {
+    // Radio silence: not listening, not transmitting anything.
+    Standby,
+    // Advertising, and ready for a connection.
+    Advertising,
+    // Connected with another device.
+    Connected,
+}
+
+// What a start sets up.
+pub struct Advertisement {
+    // When the next tick is due.
+    next_adv: Instant,
+    // Microseconds from one tick to the next.
+    interval: u32,
+    // The PDU to copy into the transmit buffer.
+    pdu: PduBuf,
+    // The channel of the last tick.
+    channel: AdvertisingChannel,
+}
+
+// What the events of a connection need.
+pub struct Connection {
+    channel_map: ChannelMap,
+    // Number of (unmapped) channels to hop between connection events.
+    hop: u8,
+    // The unmapped channel of the last event that was given.
+    unmapped_channel: u8,
+}
+
+pub struct Device {
+    mode: Mode,
+    dev_addr: DeviceAddress,
+    adv: Advertisement,
+    conn: Connection,
+}
+
+// What a call answers.
+pub enum Answer {
+    Refused(Error),
+    // Transmit this header and the transmit buffer on the channel, listen there, and tick again at `next_adv`.
+    Sent {
+        header: Header,
+        channel: AdvertisingChannel,
+        next_adv: Instant,
+    },
+    // Keep listening on the channel.
+    Listen(AdvertisingChannel),
+    // Transmit this header and the transmit buffer on the channel, then keep listening there.
+    Respond {
+        header: Header,
+        channel: AdvertisingChannel,
+    },
+    // A connection began: listen on the data channel, until `at` if nothing is heard.
+    FirstEvent {
+        channel: DataChannel,
+        at: Instant,
+        access_address: u32,
+        crc_init: u32,
+    },
+    // Listen on the data channel for the next event.
+    NextEvent(DataChannel),
+    // Turn the radio off.
+    Stopped,
+}
+
+pub struct Called {
+    pub answer: Answer,
+    pub device: Device,
+}
+
+impl Device {
+    // A device in standby.
+    pub fn new(dev_addr: DeviceAddress) -> Device
+        ensures { λ r. ⌜ r ≡ fresh «dev_addr» ⌝ }
+    {
+        Device {
+            mode: Mode::Standby,
+            dev_addr,
+            adv: Advertisement {
+                next_adv: Instant::from_raw_micros(0),
+                interval: 0,
+                pdu: PduBuf::empty(),
+                channel: AdvertisingChannel::first(),
+            },
+            conn: Connection {
+                channel_map: ChannelMap::from_raw([0, 0, 0, 0, 0]),
+                hop: 0,
+                unmapped_channel: 0,
+            },
+        }
+    }
+
+    pub fn is_advertising(self) -> bool
+        ensures { λ r. ⌜ r ≡ isAdvertising (self .mode) ⌝ }
+    {
+        let mode = self.mode;
+        match mode {
+            Mode::Standby => false,
+            Mode::Advertising => true,
+            Mode::Connected => false,
+        }
+    }
+
+    pub fn is_connected(self) -> bool
+        ensures { λ r. ⌜ r ≡ isConnected (self .mode) ⌝ }
+    {
+        let mode = self.mode;
+        match mode {
+            Mode::Standby => false,
+            Mode::Advertising => false,
+            Mode::Connected => true,
+        }
+    }
+
+    // Starts advertising with records, which are lent encoded, and makes the first tick. An accepted start ends a connection; a refused one ends nothing.
+    pub fn start_advertise(
+        self,
+        time: Instant,
+        interval: u32,
+        data: &[u8],
+        tx: &mut [u8],
+    ) -> Called
+        ensures { λ r. ⌜ (r ≡ startOf self time interval (now («data» .entry)) (now (tx .entry))) × (now (tx .exit) ≡ startAfter self (now («data» .entry)) (now (tx .entry))) ⌝ }
+    {
+        let built = PduBuf::discoverable(self.dev_addr, data);
+        let pdu = built.pdu;
+        let adv = Advertisement {
+            next_adv: time,
+            interval,
+            pdu,
+            channel: AdvertisingChannel::first(),
+        };
+        let outcome = built.outcome;
+        match outcome {
+            Outcome::Accepted => self.transmit(adv, tx),
+            Outcome::Refused(e) => self.refused(e),
+        }
+    }
+
+    // Takes a packet from the channel that it listens on.
+    pub fn process_adv_packet(
+        self,
+        rx_end: Instant,
+        header: Header,
+        payload: &[u8],
+        crc_ok: bool,
+    ) -> Called
+        ensures { λ r. ⌜ r ≡ packetOf self «rx_end» header (now (payload .entry)) «crc_ok» ⌝ }
+    {
+        if self.is_advertising() {
+            if crc_ok {
+                let decoded = Pdu::from_header_and_payload(header, payload);
+                return self.hear(rx_end, decoded.pdu);
+            }
+            return self.listen();
+        }
+        self.refused(Error::WrongMode)
+    }
+
+    // A tick: transmits on the next channel.
+    pub fn update_timer(self, tx: &mut [u8]) -> Called
+        ensures { λ r. ⌜ (r ≡ tickOf self (now (tx .entry))) × (now (tx .exit) ≡ tickAfter self (now (tx .entry))) ⌝ }
+    {
+        if self.is_advertising() {
+            return self.transmit(self.adv, tx);
+        }
+        self.refused(Error::WrongMode)
+    }
+
+    // The channel of the next connection event.
+    pub fn event(self) -> Called
+        ensures { λ r. ⌜ r ≡ eventOf self ⌝ }
+    {
+        if self.is_connected() {
+            return self.hop();
+        }
+        self.refused(Error::WrongMode)
+    }
+
+    pub fn stop(self) -> Called
+        ensures { λ r. ⌜ r ≡ stopOf self ⌝ }
+    {
+        Called {
+            answer: Answer::Stopped,
+            device: Device {
+                mode: Mode::Standby,
+                dev_addr: self.dev_addr,
+                adv: self.adv,
+                conn: self.conn,
+            },
+        }
+    }
+
+    // A refusal changes nothing.
+    fn refused(self, e: Error) -> Called
+        ensures { λ r. ⌜ r ≡ refusal self e ⌝ }
+    {
+        Called {
+            answer: Answer::Refused(e),
+            device: self,
+        }
+    }
+
+    fn listen(self) -> Called
+        ensures { λ r. ⌜ r ≡ listens self ⌝ }
+    {
+        let adv = self.adv;
+        Called {
+            answer: Answer::Listen(adv.channel),
+            device: self,
+        }
+    }
+
+    // Makes a tick of an advertisement where the transmit buffer has room for its payload.
+    fn transmit(self, adv: Advertisement, tx: &mut [u8]) -> Called
+        ensures { λ r. ⌜ (r ≡ sent self adv (payloadTo (adv .pdu) (now (tx .entry)))) × (now (tx .exit) ≡ payloadAfter (adv .pdu) (now (tx .entry))) ⌝ }
+    {
+        let pdu = adv.pdu;
+        match pdu.write_payload(tx) {
+            Written::To(_) => self.advertise(adv),
+            Written::Refused(e) => self.refused(e),
+        }
+    }
+
+    // The device after a tick of an advertisement.
+    fn advertise(self, adv: Advertisement) -> Called
+        ensures { λ r. ⌜ r ≡ advertised self adv ⌝ }
+    {
+        let pdu = adv.pdu;
+        let last = adv.channel;
+        let channel = last.cycle();
+        let due = adv.next_adv;
+        let next_adv = due.add(adv.interval);
+        Called {
+            answer: Answer::Sent {
+                header: pdu.header(),
+                channel,
+                next_adv,
+            },
+            device: Device {
+                mode: Mode::Advertising,
+                dev_addr: self.dev_addr,
+                adv: Advertisement {
+                    next_adv,
+                    interval: adv.interval,
+                    pdu,
+                    channel,
+                },
+                conn: self.conn,
+            },
+        }
+    }
+
+    // A CRC-good packet. One that was refused has no receiver.
+    fn hear(self, rx_end: Instant, pdu: Pdu) -> Called
+        ensures { λ r. ⌜ r ≡ heard self «rx_end» pdu ⌝ }
+    {
+        if pdu.has_receiver() {
+            if pdu.receiver().eq(self.dev_addr) {
+                return self.take(rx_end, pdu);
+            }
+            return self.listen();
+        }
+        self.listen()
+    }
+
+    // A packet that is addressed at us can be a scan or connect request.
+    fn take(self, rx_end: Instant, pdu: Pdu) -> Called
+        ensures { λ r. ⌜ r ≡ addressed self «rx_end» (pdu .lldata) (pdu .ty) ⌝ }
+    {
+        match pdu.ty() {
+            PduType::ScanReq => self.respond(),
+            PduType::ConnectReq => self.connect(rx_end, pdu.lldata),
+            _ => self.listen(),
+        }
+    }
+
+    // A scan response without records. The transmit buffer is left alone: its address octets are those that the last tick wrote.
+    fn respond(self) -> Called
+        ensures { λ r. ⌜ r ≡ responds self ⌝ }
+    {
+        let adv = self.adv;
+        let response = PduBuf::scan_response(self.dev_addr, &[0u8; 0]);
+        let pdu = response.pdu;
+        Called {
+            answer: Answer::Respond {
+                header: pdu.header(),
+                channel: adv.channel,
+            },
+            device: self,
+        }
+    }
+
+    // Begins the connection that a request asks for, at its first event; rubble's `Connection::create`.
+    fn connect(self, rx_end: Instant, lldata: ConnectRequestData) -> Called
+        ensures { λ r. ⌜ r ≡ connects self «rx_end» lldata ⌝ }
+    {
+        let channel_map = lldata.channel_map();
+        let hop = lldata.hop();
+        match hop_channel(channel_map, 0, hop) {
+            Hop::To { unmapped, channel } => {
+                let at = rx_end.add(lldata.end_of_tx_window()).add(500);
+                Called {
+                    answer: Answer::FirstEvent {
+                        channel,
+                        at,
+                        access_address: lldata.access_address(),
+                        crc_init: lldata.crc_init(),
+                    },
+                    device: Device {
+                        mode: Mode::Connected,
+                        dev_addr: self.dev_addr,
+                        adv: self.adv,
+                        conn: Connection {
+                            channel_map,
+                            hop,
+                            unmapped_channel: unmapped,
+                        },
+                    },
+                }
+            }
+            Hop::Refused(e) => self.refused(e),
+        }
+    }
+
+    // Hops to the next event of the connection.
+    fn hop(self) -> Called
+        ensures { λ r. ⌜ r ≡ hops self ⌝ }
+    {
+        let conn = self.conn;
+        let channel_map = conn.channel_map;
+        match hop_channel(channel_map, conn.unmapped_channel, conn.hop) {
+            Hop::To { unmapped, channel } => Called {
+                answer: Answer::NextEvent(channel),
+                device: Device {
+                    mode: self.mode,
+                    dev_addr: self.dev_addr,
+                    adv: self.adv,
+                    conn: Connection {
+                        channel_map,
+                        hop: conn.hop,
+                        unmapped_channel: unmapped,
+                    },
+                },
+            },
+            Hop::Refused(e) => self.refused(e),
+        }
+    }
+}
