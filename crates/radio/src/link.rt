@@ -135,16 +135,11 @@ impl Device {
     }
 
     // Starts advertising with records, which are lent encoded, and makes the first tick. An accepted start ends a connection; a refused one ends nothing.
-    pub fn start_advertise(
-        self,
-        time: Instant,
-        interval: u32,
-        data: &[u8],
-        tx: &mut [u8],
-    ) -> Called
+    pub fn start_advertise(self, time: Instant, interval: u32, data: &[u8], tx: &mut [u8]) -> Called
         ensures { λ r. ⌜ (r ≡ startOf self time interval (now («data» .entry)) (now (tx .entry))) × (now (tx .exit) ≡ startAfter self (now («data» .entry)) (now (tx .entry))) ⌝ }
     {
-        let built = PduBuf::discoverable(self.dev_addr, data);
+        let own = self.dev_addr;
+        let built = PduBuf::discoverable(own, data);
         let pdu = built.pdu;
         let adv = Advertisement {
             next_adv: time,
@@ -172,7 +167,8 @@ impl Device {
         if self.is_advertising() {
             if crc_ok {
                 let decoded = Pdu::from_header_and_payload(header, payload);
-                return self.hear(rx_end, decoded.pdu);
+                let pdu = decoded.pdu;
+                return self.hear(rx_end, pdu);
             }
             return self.listen();
         }
@@ -184,7 +180,8 @@ impl Device {
         ensures { λ r. ⌜ (r ≡ tickOf self (now (tx .entry))) × (now (tx .exit) ≡ tickAfter self (now (tx .entry))) ⌝ }
     {
         if self.is_advertising() {
-            return self.transmit(self.adv, tx);
+            let adv = self.adv;
+            return self.transmit(adv, tx);
         }
         self.refused(Error::WrongMode)
     }
@@ -202,13 +199,16 @@ impl Device {
     pub fn stop(self) -> Called
         ensures { λ r. ⌜ r ≡ stopOf self ⌝ }
     {
+        let dev_addr = self.dev_addr;
+        let adv = self.adv;
+        let conn = self.conn;
         Called {
             answer: Answer::Stopped,
             device: Device {
                 mode: Mode::Standby,
-                dev_addr: self.dev_addr,
-                adv: self.adv,
-                conn: self.conn,
+                dev_addr,
+                adv,
+                conn,
             },
         }
     }
@@ -227,8 +227,9 @@ impl Device {
         ensures { λ r. ⌜ r ≡ listens self ⌝ }
     {
         let adv = self.adv;
+        let channel = adv.channel;
         Called {
-            answer: Answer::Listen(adv.channel),
+            answer: Answer::Listen(channel),
             device: self,
         }
     }
@@ -253,6 +254,8 @@ impl Device {
         let channel = last.cycle();
         let due = adv.next_adv;
         let next_adv = due.add(adv.interval);
+        let dev_addr = self.dev_addr;
+        let conn = self.conn;
         Called {
             answer: Answer::Sent {
                 header: pdu.header(),
@@ -261,14 +264,14 @@ impl Device {
             },
             device: Device {
                 mode: Mode::Advertising,
-                dev_addr: self.dev_addr,
+                dev_addr,
                 adv: Advertisement {
                     next_adv,
                     interval: adv.interval,
                     pdu,
                     channel,
                 },
-                conn: self.conn,
+                conn,
             },
         }
     }
@@ -278,7 +281,8 @@ impl Device {
         ensures { λ r. ⌜ r ≡ heard self «rx_end» pdu ⌝ }
     {
         if pdu.has_receiver() {
-            if pdu.receiver().eq(self.dev_addr) {
+            let own = self.dev_addr;
+            if pdu.receiver().eq(own) {
                 return self.take(rx_end, pdu);
             }
             return self.listen();
@@ -292,7 +296,10 @@ impl Device {
     {
         match pdu.ty() {
             PduType::ScanReq => self.respond(),
-            PduType::ConnectReq => self.connect(rx_end, pdu.lldata),
+            PduType::ConnectReq => {
+                let lldata = pdu.lldata;
+                self.connect(rx_end, lldata)
+            }
             _ => self.listen(),
         }
     }
@@ -301,13 +308,15 @@ impl Device {
     fn respond(self) -> Called
         ensures { λ r. ⌜ r ≡ responds self ⌝ }
     {
+        let own = self.dev_addr;
         let adv = self.adv;
-        let response = PduBuf::scan_response(self.dev_addr, &[0u8; 0]);
+        let channel = adv.channel;
+        let response = PduBuf::scan_response(own, &[0u8; 0]);
         let pdu = response.pdu;
         Called {
             answer: Answer::Respond {
                 header: pdu.header(),
-                channel: adv.channel,
+                channel,
             },
             device: self,
         }
@@ -322,6 +331,8 @@ impl Device {
         match hop_channel(channel_map, 0, hop) {
             Hop::To { unmapped, channel } => {
                 let at = rx_end.add(lldata.end_of_tx_window()).add(500);
+                let dev_addr = self.dev_addr;
+                let adv = self.adv;
                 Called {
                     answer: Answer::FirstEvent {
                         channel,
@@ -331,8 +342,8 @@ impl Device {
                     },
                     device: Device {
                         mode: Mode::Connected,
-                        dev_addr: self.dev_addr,
-                        adv: self.adv,
+                        dev_addr,
+                        adv,
                         conn: Connection {
                             channel_map,
                             hop,
@@ -352,19 +363,24 @@ impl Device {
         let conn = self.conn;
         let channel_map = conn.channel_map;
         match hop_channel(channel_map, conn.unmapped_channel, conn.hop) {
-            Hop::To { unmapped, channel } => Called {
-                answer: Answer::NextEvent(channel),
-                device: Device {
-                    mode: self.mode,
-                    dev_addr: self.dev_addr,
-                    adv: self.adv,
-                    conn: Connection {
-                        channel_map,
-                        hop: conn.hop,
-                        unmapped_channel: unmapped,
+            Hop::To { unmapped, channel } => {
+                let mode = self.mode;
+                let dev_addr = self.dev_addr;
+                let adv = self.adv;
+                Called {
+                    answer: Answer::NextEvent(channel),
+                    device: Device {
+                        mode,
+                        dev_addr,
+                        adv,
+                        conn: Connection {
+                            channel_map,
+                            hop: conn.hop,
+                            unmapped_channel: unmapped,
+                        },
                     },
-                },
-            },
+                }
+            }
             Hop::Refused(e) => self.refused(e),
         }
     }
