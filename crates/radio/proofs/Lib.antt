@@ -1,1 +1,5 @@
 pub mod Answers
+pub mod Demand
+pub mod Packets
+pub mod Runs
+pub mod Steps

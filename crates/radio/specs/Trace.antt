@@ -1,0 +1,258 @@
+-- Lists of calls: what the list alone says of each call, what the calls give, and what is read off them (document 01, "The list of demand 3").
+--   callOf d c, octetsOf d c  == what a call answers with the device after it, and the octets of its lent buffers afterwards
+--   wellFormed h p            == "well-formed if its header and payload decode without refusal"
+--   forBoard own h p          == "for this board if it has type 1, 3 or 5 and its second address equals the device's own"
+--   asks own crcGood h p      == a CRC-good, well-formed connect request to the address `own`
+--   mapIn p, hopIn p          == the map and the hop of a connect request
+--   connects own c            == the call hands over such a request, which marks n ≥ 1 channels
+--   Reading                   == what the conditions of the table ask of the calls so far
+--   refusedBy own l c         == the number of the row of the table that refuses a call; 0 where none does
+--   readOn own l c            == the reading after the call
+--   trace own calls           == the calls from a fresh device, each with what the list says of it and what it gave
+--   deviceAfter, modeAfter    == the device at the end, and the mode that the list gives then
+--   gather role entries       == the channels of a run of ticks or of events
+--   times c k n channels      == how many of the n channels from place k on are c
+--   Strikable, Choice, left   == packets that may be struck out, any choice of them, and what is left
+use mathlib.Core.Bool.{Bool, true, false, cond, not, _&&_, _||_}
+use mathlib.Core.List.{List, [], _∷_}
+use mathlib.Core.Path.{_≡_}
+use Prim.Native.Nat.{ℕ, zero, suc, _+_, _%_}
+use lib.Dec.{eqb, ltb}
+use lib.ListN.{length, getD}
+use Rattle.octets.specs.Bytes.{le}
+use Rattle.octets.specs.Error.{numberOf}
+use Rattle.octets.specs.declared.time.Instant.{Instant}
+use Rattle.channels.specs.Count.{count}
+use Rattle.channels.specs.Map.{marks}
+use Rattle.channels.specs.Phy.{indexOf}
+use Rattle.records.specs.Area.{readArea}
+use Rattle.records.specs.declared.area.Area.{Area}
+use Rattle.records.specs.declared.area.Area.the-variants as area
+use Rattle.addresses.specs.declared.device_address.DeviceAddress.{DeviceAddress}
+use Rattle.addresses.specs.declared.header.Header.{Header}
+use Rattle.addresses.specs.declared.header.PduType.{PduType}
+use Rattle.addresses.specs.declared.header.PduType.the-variants.{AdvInd, AdvDirectInd, AdvNonconnInd, AdvScanInd, ScanReq, ScanRsp, ConnectReq, Unknown}
+use Rattle.advertising.specs.Pdu.{fieldAt, connectFigure, decodeOf}
+use Rattle.advertising.specs.declared.pdu.Outcome.{Outcome}
+use Rattle.advertising.specs.declared.pdu.Outcome.the-variants as outcome
+use Rattle.radio.specs.Calls.{fresh, isAdvertising, isConnected, isFor, startOf, startAfter, tickOf, tickAfter, packetOf, eventOf, stopOf}
+use Rattle.radio.specs.declared.link.Answer.{Answer}
+use Rattle.radio.specs.declared.link.Answer.the-variants.{Refused, Sent, Listen, Respond, FirstEvent, NextEvent, Stopped}
+use Rattle.radio.specs.declared.link.Called.{Called}
+use Rattle.radio.specs.declared.link.Device.{Device}
+use Rattle.radio.specs.declared.link.Mode.{Mode}
+use Rattle.radio.specs.declared.link.Mode.the-variants.{Standby, Advertising, Connected}
+
+-- a call with all its arguments but the device, the octets of its lent buffers included
+pub data Call : Type 0 where
+  start : (time : Instant) (interval : ℕ) (records tx : List ℕ) → Call
+  tick : (tx : List ℕ) → Call
+  packet : (end : Instant) (header : Header) (payload : List ℕ) (crcGood : Bool) → Call
+  event : Call
+  stop : Call
+
+-- What the calls give
+
+abbrev pub callOf : Device → Call → Called
+callOf d (start time interval records tx) = startOf d time interval records tx
+callOf d (tick tx) = tickOf d tx
+callOf d (packet end header payload crcGood) = packetOf d end header payload crcGood
+callOf d event = eventOf d
+callOf d stop = stopOf d
+
+abbrev pub octetsOf : Device → Call → List (List ℕ)
+octetsOf d (start time interval records tx) = records ∷ startAfter d records tx ∷ []
+octetsOf d (tick tx) = tickAfter d tx ∷ []
+octetsOf d (packet end header payload crcGood) = payload ∷ []
+octetsOf d event = []
+octetsOf d stop = []
+
+-- What the list alone says
+
+abbrev pub isAccepted : Outcome → Bool
+isAccepted outcome.Accepted = true
+isAccepted (outcome.Refused e) = false
+
+abbrev pub isConnectRequest : PduType → Bool
+isConnectRequest ConnectReq = true
+isConnectRequest AdvInd = false
+isConnectRequest AdvDirectInd = false
+isConnectRequest AdvNonconnInd = false
+isConnectRequest AdvScanInd = false
+isConnectRequest ScanReq = false
+isConnectRequest ScanRsp = false
+isConnectRequest (Unknown n) = false
+
+abbrev pub wellFormed : Header → List ℕ → Bool
+wellFormed h p = isAccepted (decodeOf h p .outcome)
+
+abbrev pub forBoard : DeviceAddress → Header → List ℕ → Bool
+forBoard own h p = isFor own (decodeOf h p .pdu)
+
+unfoldable pub asks : DeviceAddress → Bool → Header → List ℕ → Bool
+asks own crcGood h p = crcGood && (wellFormed h p && (forBoard own h p && isConnectRequest (decodeOf h p .pdu .ty)))
+
+-- ChM, and the low 5 bits of the octet of Hop and SCA
+abbrev pub mapIn : List ℕ → List ℕ
+mapIn p = fieldAt connectFigure 9 p
+
+abbrev pub hopIn : List ℕ → ℕ
+hopIn p = le (fieldAt connectFigure 10 p) % 32
+
+unfoldable pub connects : DeviceAddress → Call → Bool
+connects own (start time interval records tx) = false
+connects own (tick tx) = false
+connects own (packet end header payload crcGood) = asks own crcGood header payload && ltb 0 (marks (mapIn payload))
+connects own event = false
+connects own stop = false
+
+-- the mode, and how many octets the payload has that the last accepted start set up
+pub record Reading : Type 0 where
+  pub mode : Mode
+  pub payload : ℕ
+
+abbrev pub unread : Reading
+unread = record { mode = Standby; payload = 0 }
+
+-- n where a condition holds, and the first of two numbers that is not 0
+abbrev pub when : Bool → ℕ → ℕ
+when b n = cond b n 0
+
+abbrev pub firstOf : ℕ → ℕ → ℕ
+firstOf zero m = m
+firstOf (suc n) m = suc n
+
+abbrev pub areaNumber : Area → ℕ
+areaNumber (area.Accepted n) = 0
+areaNumber (area.Refused e) = numberOf e
+
+-- bad records; more than 28 octets; a payload of 9 octets and the records' that the transmit buffer has no room for
+unfoldable pub startNumber : List ℕ → List ℕ → ℕ
+startNumber records tx = firstOf (areaNumber (readArea records)) (when (ltb 28 (length records) || ltb (length tx) (9 + length records)) 1)
+
+unfoldable pub refusedBy : DeviceAddress → Reading → Call → ℕ
+refusedBy own l (start time interval records tx) = startNumber records tx
+refusedBy own l (tick tx) = firstOf (when (not (isAdvertising (l .mode))) 5) (when (ltb (length tx) (l .payload)) 1)
+refusedBy own l (packet end header payload crcGood) =
+    firstOf (when (not (isAdvertising (l .mode))) 5) (when (asks own crcGood header payload && eqb (marks (mapIn payload)) 0) 6)
+refusedBy own l event = when (not (isConnected (l .mode))) 5
+refusedBy own l stop = 0
+
+-- advertising after an accepted start, connected after a connect request while advertising, standby after a stop
+unfoldable pub readOn : DeviceAddress → Reading → Call → Reading
+readOn own l (start time interval records tx) = cond (eqb (startNumber records tx) 0) (record { mode = Advertising; payload = 9 + length records }) l
+readOn own l (tick tx) = l
+readOn own l (packet end header payload crcGood) =
+    cond (isAdvertising (l .mode) && connects own (packet end header payload crcGood)) (record { mode = Connected; payload = l .payload }) l
+readOn own l event = l
+readOn own l stop = record { mode = Standby; payload = l .payload }
+
+-- The trace of a list
+
+-- a call in its list: the mode and the number of the table, as the list says, then the call, all that it returned, and its octets afterwards
+pub record Entry : Type 0 where
+  pub mode : Mode
+  pub number : ℕ
+  pub call : Call
+  pub result : Called
+  pub octets : List (List ℕ)
+
+abbrev pub entry : DeviceAddress → Reading → Device → Call → Entry
+entry own l d c = record { mode = l .mode; number = refusedBy own l c; call = c; result = callOf d c; octets = octetsOf d c }
+
+abbrev pub accepted : Entry → Bool
+accepted e = eqb (e .number) 0
+
+-- "Each call gets the device that the one before returned"
+abbrev pub traceFrom : DeviceAddress → Reading → Device → List Call → List Entry
+traceFrom own l d [] = []
+traceFrom own l d (c ∷ cs) = entry own l d c ∷ traceFrom own (readOn own l c) (callOf d c .device) cs
+
+unfoldable pub trace : DeviceAddress → List Call → List Entry
+trace own calls = traceFrom own unread (fresh own) calls
+
+abbrev pub deviceFrom : Device → List Call → Device
+deviceFrom d [] = d
+deviceFrom d (c ∷ cs) = deviceFrom (callOf d c .device) cs
+
+unfoldable pub deviceAfter : DeviceAddress → List Call → Device
+deviceAfter own calls = deviceFrom (fresh own) calls
+
+abbrev pub readFrom : DeviceAddress → Reading → List Call → Reading
+readFrom own l [] = l
+readFrom own l (c ∷ cs) = readFrom own (readOn own l c) cs
+
+unfoldable pub modeAfter : DeviceAddress → List Call → Mode
+modeAfter own calls = readFrom own unread calls .mode
+
+-- P holds at each entry, with the entries that follow it
+pub data AtEach (P : Entry → List Entry → Type 0) : List Entry → Type 0 where
+  none : AtEach P []
+  here : {e : Entry} {later : List Entry} → P e later → AtEach P later → AtEach P (e ∷ later)
+
+-- Channels used
+
+-- the channel that an answer transmits on or gives for an event; 0 where it does neither
+abbrev pub channelIn : Answer → ℕ
+channelIn (Refused e) = 0
+channelIn (Sent header channel next) = indexOf channel
+channelIn (Listen channel) = 0
+channelIn (Respond header channel) = indexOf channel
+channelIn (FirstEvent channel at access crc) = channel .index
+channelIn (NextEvent channel) = channel .index
+channelIn Stopped = 0
+
+-- what an entry is to a run of ticks or of events: its end, one of the run, or neither
+pub data Role : Type 0 where
+  ends : Role
+  uses : Role
+  passes : Role
+
+abbrev pub gathered : Role → ℕ → List ℕ → List ℕ
+gathered ends channel rest = []
+gathered uses channel rest = channel ∷ rest
+gathered passes channel rest = rest
+
+abbrev pub gather : (Bool → Call → Role) → List Entry → List ℕ
+gather role [] = []
+gather role (e ∷ later) = gathered (role (accepted e) (e .call)) (channelIn (e .result .answer)) (gather role later)
+
+-- the accepted ticks up to the next accepted start
+unfoldable pub tickRole : Bool → Call → Role
+tickRole ok (start time interval records tx) = cond ok ends passes
+tickRole ok (tick tx) = cond ok uses passes
+tickRole ok (packet end header payload crcGood) = passes
+tickRole ok event = passes
+tickRole ok stop = passes
+
+-- the accepted events up to a stop or an accepted start
+unfoldable pub eventRole : Bool → Call → Role
+eventRole ok (start time interval records tx) = cond ok ends passes
+eventRole ok (tick tx) = passes
+eventRole ok (packet end header payload crcGood) = passes
+eventRole ok event = cond ok uses passes
+eventRole ok stop = ends
+
+abbrev pub times : ℕ → ℕ → ℕ → List ℕ → ℕ
+times c k n channels = count (λ j. eqb (getD channels (k + j) 0) c) n
+
+-- Striking out
+
+pub data Strikable (own : DeviceAddress) : Call → Type 0 where
+  crcBad : {end : Instant} {header : Header} {payload : List ℕ} → Strikable own (packet end header payload false)
+  malformed : {end : Instant} {header : Header} {payload : List ℕ} {crcGood : Bool} → wellFormed header payload ≡ false → Strikable own (packet end header payload crcGood)
+  foreign : {end : Instant} {header : Header} {payload : List ℕ} {crcGood : Bool} → forBoard own header payload ≡ false → Strikable own (packet end header payload crcGood)
+
+-- any choice of strikable packets of a list
+pub data Choice (own : DeviceAddress) : List Call → Type 0 where
+  none : Choice own []
+  keep : {c : Call} {cs : List Call} → Choice own cs → Choice own (c ∷ cs)
+  strike : {c : Call} {cs : List Call} → Strikable own c → Choice own cs → Choice own (c ∷ cs)
+
+-- what is left of a list, one element for each call, where the chosen are struck out
+abbrev pub left : {A : Type 0} {own : DeviceAddress} {cs : List Call} → Choice own cs → List A → List A
+left none xs = xs
+left (keep ch) [] = []
+left (keep ch) (x ∷ xs) = x ∷ left ch xs
+left (strike s ch) [] = []
+left (strike s ch) (x ∷ xs) = left ch xs
