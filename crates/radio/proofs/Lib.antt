@@ -1,5 +1,7 @@
 pub mod Answers
 pub mod Demand
+pub mod Example
 pub mod Packets
 pub mod Runs
 pub mod Steps
+pub mod Words

@@ -87,7 +87,7 @@ pub data Happens (d : Device) : Call → Called → Type 0 where
   stays : (c : Call) {answer : Answer} → Stays d c answer → Happens d c (record { answer = answer; device = d })
 
 -- a refusal has a number
-no-zero : (e : Error) → eqb (numberOf e) 0 ≡ false
+pub no-zero : (e : Error) → eqb (numberOf e) 0 ≡ false
 no-zero Eof = refl
 no-zero InvalidLength = refl
 no-zero InvalidValue = refl
