@@ -4,4 +4,5 @@ pub mod Example
 pub mod Packets
 pub mod Runs
 pub mod Steps
+pub mod Table
 pub mod Words
