@@ -33,18 +33,18 @@ copied xs ys out at mid end {out₁} {l} wrote starts ends h e =
 after-own : (c : tie.After-slice-known2)
     → let a = c .before .before .before .before .before .before .before .args in
     let at = a .at in
-    let n = 1 + length (a .own .now) + length (a .«data» .now) in
+    let n = a .len in
     putMid (at + 2) (at + 2 + length (a .own .now) - (at + 2)) (set (set (a .out .now) at n) (at + 1) (a .ty)) (c .before .before .copy .last .1 .0) ≡ written (n ∷ a .ty ∷ a .own .now) (a .out .now) at
 after-own c =
     let entry = c .before .before .before .before .before .before .before in
     let a = entry .args in
     let h : a .at + 2 + length (a .own .now) ≤ length (a .out .now) = omega (arith, entry .pre .0) in
-    copied (_ ∷ a .ty ∷ []) (a .own .now) (a .out .now) (a .at) (a .at + 2) _ (stored _ (a .ty) (a .out .now) (a .at) (omega arith)) refl refl h (c .before .before .copy .ensures .1)
+    copied (a .len ∷ a .ty ∷ []) (a .own .now) (a .out .now) (a .at) (a .at + 2) _ (stored (a .len) (a .ty) (a .out .now) (a .at) (omega arith)) refl refl h (c .before .before .copy .ensures .1)
 
 data-in : tie.Need-part-copy-end-2
 data-in c =
     let a = c .before .before .before .before .before .before .before .args in
-    let head = (1 + length (a .own .now) + length (a .«data» .now)) ∷ a .ty ∷ a .own .now in
+    let head = a .len ∷ a .ty ∷ a .own .now in
     let h : a .at + length head ≤ length (a .out .now) = omega arith in
     rw (after-own c) (omega (arith, written-keeps head (a .out .now) (a .at) h .as-long))
 
@@ -52,19 +52,20 @@ data-in c =
 after-data : (c : tie.After-slice-known3)
     → let a = c .before .before .before .before .before .before .before .before .before .before .before .args in
     let at = a .at in
-    let n = 1 + length (a .own .now) + length (a .«data» .now) in
+    let n = a .len in
     let mid = at + 2 + length (a .own .now) in
     let out₁ = putMid (at + 2) (mid - (at + 2)) (set (set (a .out .now) at n) (at + 1) (a .ty)) (c .before .before .before .before .before .before .copy .last .1 .0) in
     putMid mid (mid + length (a .«data» .now) - mid) out₁ (c .before .before .copy2 .last .1 .0) ≡ written (recordOf (a .ty) (a .own .now ++ a .«data» .now)) (a .out .now) at
 unfolding recordOf
 after-data c =
     let at-own = c .before .before .before .before in
-    let a = at-own .before .before .before .before .before .before .before .args in
-    let head = (1 + length (a .own .now) + length (a .«data» .now)) ∷ a .ty ∷ a .own .now in
+    let entry = at-own .before .before .before .before .before .before .before in
+    let a = entry .args in
+    let head = a .len ∷ a .ty ∷ a .own .now in
     let mid = a .at + 2 + length (a .own .now) in
     let starts : mid ≡ a .at + length head = omega arith in
     let h : mid + length (a .«data» .now) ≤ length (a .out .now) = omega arith in
-    let size : 1 + length (a .own .now) + length (a .«data» .now) ≡ suc (length (a .own .now ++ a .«data» .now)) = rw length-append (omega arith) in
+    let size : a .len ≡ suc (length (a .own .now ++ a .«data» .now)) = rw (entry .pre .1, length-append) (omega arith) in
     copied head (a .«data» .now) (a .out .now) (a .at) mid (mid + length (a .«data» .now)) (after-own at-own) starts refl h (c .before .before .copy2 .ensures .1)
     ∙ ap (λ (n : ℕ). written (n ∷ a .ty ∷ (a .own .now ++ a .«data» .now)) (a .out .now) (a .at)) size
 
@@ -80,9 +81,6 @@ pub put-raw-spec : {M : Type 1} → statement M
 put-raw-spec =
     tie.close
     (tie.spec
-    (λ c. omega arith)
-    (λ c. omega arith)
-    (λ c. omega arith)
     (λ c. omega arith)
     (λ c. omega arith)
     (λ c. omega arith)

@@ -1,6 +1,6 @@
 -- `records::ad_structure::write_raw` meets its contract: its tests are those of `spaceFor`.
 -- Assumes nothing.
-use mathlib.Core.Path.{_≡_}
+use mathlib.Core.Path.{_≡_, refl}
 use mathlib.Core.List.{List, _++_}
 use Prim.Native.Nat.{ℕ, suc, _+_, _≤_}
 use native.Mathlib.Omega.{arith}
@@ -60,7 +60,8 @@ write-raw-spec =
     no-space
     (λ c. search needs)
     too-long
-    (λ c κs. (omega arith, omega arith))
+    (λ c. omega arith)
+    (λ c κs. (omega arith, refl))
     (λ c. omega arith)
     (λ c. omega arith)
     (λ c. search needs)
