@@ -4,11 +4,11 @@
 --   spaceFor d out at     == whether a record with data d may be written at position `at` of out
 --   mayWrite a s out at   == whether the record a may, whose lent part lies in s
 use mathlib.Core.Path.{_≡_}
-use Prim.Native.Nat.{ℕ, _+_}
+use Prim.Native.Nat.{ℕ, _+_, _%_, _<_}
 use mathlib.Core.Bool.{Bool, cond}
 use mathlib.Core.List.{List, [], _∷_, _++_}
 use lib.ListN.{length, take}
-use lib.Dec.{ltb}
+use lib.Dec.{ltb, leb, eqb}
 use Rattle.octets.specs.declared.error.Error.the-variants.{Eof, InvalidValue, RecordLength}
 use Rattle.octets.specs.declared.uuid.UuidKind.{UuidKind}
 use Rattle.octets.specs.declared.uuid.UuidKind.the-variants.{Uuid16, Uuid32, Uuid128}
@@ -20,8 +20,6 @@ use Rattle.records.specs.declared.ad_structure.AdStructure.{AdStructure}
 use Rattle.records.specs.declared.ad_structure.AdStructure.the-variants.{Flags, ServiceUuids16, ServiceUuids32, ServiceUuids128, ServiceData16, CompleteLocalName, ShortenedLocalName, ManufacturerSpecificData, Unknown}
 use Rattle.records.specs.declared.ad_structure.Checked.{Checked}
 use Rattle.records.specs.declared.ad_structure.Checked.the-variants.{Fine}
-use Rattle.records.specs.declared.ad_structure.Content.{Content}
-use Rattle.records.specs.declared.ad_structure.Content.the-variants.{Any, Uuids, Name}
 use Rattle.records.specs.declared.ad_structure.Outline.{Outline}
 use Rattle.records.specs.Record.{recordOf, named, wholeUuids}
 use Rattle.records.specs.Types.{flagsType, incomplete16Type, complete16Type, incomplete32Type, complete32Type, incomplete128Type, complete128Type, shortenedNameType, completeNameType, serviceDataType, manufacturerType}
@@ -37,10 +35,8 @@ listCheck k d = cond (wholeUuids k d) Fine (Checked.Refused Eof)
 abbrev pub nameCheck : List ℕ → Checked
 nameCheck d = cond (isUtf8 d) Fine (Checked.Refused InvalidValue)
 
-abbrev pub contentCheck : Content → List ℕ → Checked
-contentCheck Any d = Fine
-contentCheck (Uuids k) d = listCheck k d
-contentCheck Name d = nameCheck d
+abbrev pub noCheck : List ℕ → Checked
+noCheck d = Fine
 
 -- type octet; octets of its own, before the lent part; where that lies; what it must be
 pub record Shape : Type 0 where
@@ -48,21 +44,21 @@ pub record Shape : Type 0 where
   pub own : List ℕ
   pub start : ℕ
   pub len : ℕ
-  pub content : Content
+  pub check : List ℕ → Checked
 
-abbrev pub shape : ℕ → List ℕ → ℕ → ℕ → Content → Shape
-shape type own start len content = record { type = type; own = own; start = start; len = len; content = content }
+abbrev pub shape : ℕ → List ℕ → ℕ → ℕ → (List ℕ → Checked) → Shape
+shape type own start len check = record { type = type; own = own; start = start; len = len; check = check }
 
 abbrev pub shapeOf : AdStructure → Shape
-shapeOf (Flags f) = shape flagsType (named (f .bits) ∷ []) 0 0 Any
-shapeOf (ServiceUuids16 complete start len) = shape (listType Uuid16 complete) [] start len (Uuids Uuid16)
-shapeOf (ServiceUuids32 complete start len) = shape (listType Uuid32 complete) [] start len (Uuids Uuid32)
-shapeOf (ServiceUuids128 complete start len) = shape (listType Uuid128 complete) [] start len (Uuids Uuid128)
-shapeOf (ServiceData16 uuid start len) = shape serviceDataType (leBytes 2 uuid) start len Any
-shapeOf (CompleteLocalName start len) = shape completeNameType [] start len Name
-shapeOf (ShortenedLocalName start len) = shape shortenedNameType [] start len Name
-shapeOf (ManufacturerSpecificData company start len) = shape manufacturerType (leBytes 2 (company .0)) start len Any
-shapeOf (Unknown ty start len) = shape ty [] start len Any
+shapeOf (Flags f) = shape flagsType (named (f .bits) ∷ []) 0 0 noCheck
+shapeOf (ServiceUuids16 complete start len) = shape (listType Uuid16 complete) [] start len (listCheck Uuid16)
+shapeOf (ServiceUuids32 complete start len) = shape (listType Uuid32 complete) [] start len (listCheck Uuid32)
+shapeOf (ServiceUuids128 complete start len) = shape (listType Uuid128 complete) [] start len (listCheck Uuid128)
+shapeOf (ServiceData16 uuid start len) = shape serviceDataType (leBytes 2 uuid) start len noCheck
+shapeOf (CompleteLocalName start len) = shape completeNameType [] start len nameCheck
+shapeOf (ShortenedLocalName start len) = shape shortenedNameType [] start len nameCheck
+shapeOf (ManufacturerSpecificData company start len) = shape manufacturerType (leBytes 2 (company .0)) start len noCheck
+shapeOf (Unknown ty start len) = shape ty [] start len noCheck
 
 abbrev pub typeOf : AdStructure → ℕ
 typeOf a = shapeOf a .type
@@ -77,11 +73,14 @@ abbrev pub lenOf : AdStructure → ℕ
 lenOf a = shapeOf a .len
 
 abbrev pub checkOf : AdStructure → List ℕ → Checked
-checkOf a d = contentCheck (shapeOf a .content) d
+checkOf a d = shapeOf a .check d
 
--- the octets of its own that an outline holds
+-- the octets of its own that an outline writes, and its check of the lent part d
 abbrev pub ownIn : Outline → List ℕ
-ownIn o = take (o .held) (o .own)
+ownIn o = take (o .held) (leBytes 2 (o .own))
+
+abbrev pub lentCheck : Bool → ℕ → List ℕ → Checked
+lentCheck name unit d = cond name (nameCheck d) (cond (eqb (length d % unit) 0) Fine (Checked.Refused Eof))
 
 -- an outline says what the row says
 pub record IsOutline (a : AdStructure) (o : Outline) : Type 0 where
@@ -90,15 +89,18 @@ pub record IsOutline (a : AdStructure) (o : Outline) : Type 0 where
   pub many : o .held ≡ length (ownOf a)
   pub start : o .start ≡ startOf a
   pub len : o .len ≡ lenOf a
-  pub content : o .content ≡ shapeOf a .content
+  pub check : (d : List ℕ) → lentCheck (o .name) (o .unit) d ≡ checkOf a d
+  pub units : 0 < o .unit
 
 unfoldable pub dataOf : AdStructure → List ℕ → List ℕ
 dataOf a s = ownOf a ++ part (lenOf a) s (startOf a)
 
--- length and type take two octets more; the length octet counts the type too
+-- n octets of data, at position `at` of so many: length and type take two octets more; the length octet counts the type too
+abbrev pub spaceIn : ℕ → ℕ → ℕ → Checked
+spaceIn n size at = cond (leb (at + (n + 2)) size) (cond (ltb 255 (n + 1)) (Checked.Refused RecordLength) Fine) (Checked.Refused Eof)
+
 abbrev pub spaceFor : List ℕ → List ℕ → ℕ → Checked
-spaceFor d out at =
-    cond (has (length d + 2) out at) (cond (ltb 255 (length d + 1)) (Checked.Refused RecordLength) Fine) (Checked.Refused Eof)
+spaceFor d out at = spaceIn (length d) (length out) at
 
 abbrev pub andThen : Checked → Checked → Checked
 andThen Fine later = later
@@ -117,19 +119,12 @@ abbrev pub leaves : Checked → List ℕ → List ℕ → ℕ → List ℕ
 leaves Fine xs out at = written xs out at
 leaves (Checked.Refused e) xs out at = out
 
--- of a type with data
-unfoldable pub rawTo : ℕ → List ℕ → List ℕ → ℕ → Written
-rawTo ty d out at = answer (spaceFor d out at) (recordOf ty d) at
-
-unfoldable pub rawAfter : ℕ → List ℕ → List ℕ → ℕ → List ℕ
-rawAfter ty d out at = leaves (spaceFor d out at) (recordOf ty d) out at
-
 -- of a record with this outline, whose lent part is d
 unfoldable pub lentTo : Outline → List ℕ → List ℕ → ℕ → Written
-lentTo o d out at = answer (andThen (contentCheck (o .content) d) (spaceFor (ownIn o ++ d) out at)) (recordOf (o .ty) (ownIn o ++ d)) at
+lentTo o d out at = answer (andThen (lentCheck (o .name) (o .unit) d) (spaceFor (ownIn o ++ d) out at)) (recordOf (o .ty) (ownIn o ++ d)) at
 
 unfoldable pub lentAfter : Outline → List ℕ → List ℕ → ℕ → List ℕ
-lentAfter o d out at = leaves (andThen (contentCheck (o .content) d) (spaceFor (ownIn o ++ d) out at)) (recordOf (o .ty) (ownIn o ++ d)) out at
+lentAfter o d out at = leaves (andThen (lentCheck (o .name) (o .unit) d) (spaceFor (ownIn o ++ d) out at)) (recordOf (o .ty) (ownIn o ++ d)) out at
 
 -- of a record
 unfoldable pub octetsOf : AdStructure → List ℕ → List ℕ

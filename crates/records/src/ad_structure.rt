@@ -8,7 +8,7 @@ ghost use lib.ListN.{length, getD, drop};
 ghost use Rattle.octets.specs.Bytes.{written};
 ghost use Rattle.records.specs.Record.{recordOf, named, bit, uuidList, flagsRead, uuidsRead, localName, nameRead, pairKind, pairRead, dataRead, kindRead, first, recordRead, knownRead, recordAt};
 ghost use Rattle.records.specs.Uuids.{uuid16At};
-ghost use Rattle.records.specs.Write.{IsOutline, contentCheck, rawTo, rawAfter, lentTo, lentAfter, writtenTo, writtenAfter};
+ghost use Rattle.records.specs.Write.{IsOutline, lentCheck, spaceIn, andThen, lentTo, lentAfter, writtenTo, writtenAfter};
 use octets::bytes::ByteReader;
 use octets::bytes::ByteWriter;
 use octets::bytes::Written;
@@ -91,24 +91,18 @@ enum Checked {
     Refused(Error),
 }
 
-// What lent data must be.
-enum Content {
-    Any,
-    // Whole UUIDs of a kind.
-    Uuids(UuidKind),
-    // UTF-8.
-    Name,
-}
-
-// A record's type, the octets that it holds itself, and where its lent data lie and what they must be.
+// What is written of a record.
 struct Outline {
     ty: u8,
-    own: [u8; 2],
-    // How many of `own` count.
+    // What the record holds itself, least significant octet first, and how many octets of that are written.
+    own: u16,
     held: usize,
+    // Where its lent data lie.
     start: usize,
     len: usize,
-    content: Content,
+    // These must be UTF-8, or whole units of so many octets.
+    name: bool,
+    unit: usize,
 }
 
 impl AdStructure {
@@ -118,11 +112,12 @@ impl AdStructure {
         match self {
             AdStructure::Flags(flags) => Outline {
                 ty: Type::FLAGS,
-                own: [flags.to_u8(), 0],
+                own: flags.to_u8() as u16,
                 held: 1,
                 start: 0,
                 len: 0,
-                content: Content::Any,
+                name: false,
+                unit: 1,
             },
             AdStructure::ServiceUuids16 {
                 complete,
@@ -134,11 +129,12 @@ impl AdStructure {
                     Type::COMPLETE_LIST_OF_16BIT_SERVICE_UUIDS,
                     Type::INCOMPLETE_LIST_OF_16BIT_SERVICE_UUIDS,
                 ),
-                own: [0, 0],
+                own: 0,
                 held: 0,
                 start,
                 len,
-                content: Content::Uuids(UuidKind::Uuid16),
+                name: false,
+                unit: 2,
             },
             AdStructure::ServiceUuids32 {
                 complete,
@@ -150,11 +146,12 @@ impl AdStructure {
                     Type::COMPLETE_LIST_OF_32BIT_SERVICE_UUIDS,
                     Type::INCOMPLETE_LIST_OF_32BIT_SERVICE_UUIDS,
                 ),
-                own: [0, 0],
+                own: 0,
                 held: 0,
                 start,
                 len,
-                content: Content::Uuids(UuidKind::Uuid32),
+                name: false,
+                unit: 4,
             },
             AdStructure::ServiceUuids128 {
                 complete,
@@ -166,35 +163,39 @@ impl AdStructure {
                     Type::COMPLETE_LIST_OF_128BIT_SERVICE_UUIDS,
                     Type::INCOMPLETE_LIST_OF_128BIT_SERVICE_UUIDS,
                 ),
-                own: [0, 0],
+                own: 0,
                 held: 0,
                 start,
                 len,
-                content: Content::Uuids(UuidKind::Uuid128),
+                name: false,
+                unit: 16,
             },
             AdStructure::ServiceData16 { uuid, start, len } => Outline {
                 ty: Type::SERVICE_DATA_16BIT_UUID,
-                own: u16_to_le_bytes(uuid),
+                own: uuid,
                 held: 2,
                 start,
                 len,
-                content: Content::Any,
+                name: false,
+                unit: 1,
             },
             AdStructure::CompleteLocalName { start, len } => Outline {
                 ty: Type::COMPLETE_LOCAL_NAME,
-                own: [0, 0],
+                own: 0,
                 held: 0,
                 start,
                 len,
-                content: Content::Name,
+                name: true,
+                unit: 1,
             },
             AdStructure::ShortenedLocalName { start, len } => Outline {
                 ty: Type::SHORTENED_LOCAL_NAME,
-                own: [0, 0],
+                own: 0,
                 held: 0,
                 start,
                 len,
-                content: Content::Name,
+                name: true,
+                unit: 1,
             },
             AdStructure::ManufacturerSpecificData {
                 company_identifier,
@@ -202,19 +203,21 @@ impl AdStructure {
                 len,
             } => Outline {
                 ty: Type::MANUFACTURER_SPECIFIC_DATA,
-                own: u16_to_le_bytes(company_identifier.as_u16()),
+                own: company_identifier.as_u16(),
                 held: 2,
                 start,
                 len,
-                content: Content::Any,
+                name: false,
+                unit: 1,
             },
             AdStructure::Unknown { ty, start, len } => Outline {
                 ty,
-                own: [0, 0],
+                own: 0,
                 held: 0,
                 start,
                 len,
-                content: Content::Any,
+                name: false,
+                unit: 1,
             },
         }
     }
@@ -226,25 +229,38 @@ fn either(first: bool, a: u8, b: u8) -> u8
     if first { a } else { b }
 }
 
-// Refuses a list that is not whole UUIDs, and a name that is not UTF-8.
-fn check(content: Content, data: &[u8]) -> Checked
-    ensures { λ r. ⌜ r ≡ contentCheck content (now («data» .entry)) ⌝ }
+// Whether `len` octets of data may be written at position `at` of `size` octets, with a length and a type before them.
+fn space_for(len: usize, at: usize, size: usize) -> Checked
+    requires { ⌜ len + 2 < 2 ^ 64 ⌝ }
+    ensures { λ r. ⌜ r ≡ spaceIn len size at ⌝ }
 {
-    match content {
-        Content::Any => Checked::Fine,
-        Content::Uuids(kind) => {
-            if data.len() % kind.size() == 0 {
-                return Checked::Fine;
-            }
-            Checked::Refused(Error::Eof)
-        }
-        Content::Name => {
-            if is_utf8(data) {
-                return Checked::Fine;
-            }
-            Checked::Refused(Error::InvalidValue)
-        }
+    if size < at {
+        return Checked::Refused(Error::Eof);
     }
+    if size - at < len + 2 {
+        return Checked::Refused(Error::Eof);
+    }
+    if 255 < len + 1 {
+        return Checked::Refused(Error::RecordLength);
+    }
+    Checked::Fine
+}
+
+// Refuses a name that is not UTF-8 and data that are not whole units, then too little space and a record that is too long.
+fn may_write(name: bool, unit: usize, data: &[u8], len: usize, at: usize, size: usize) -> Checked
+    requires { ⌜ (0 < unit) × (len + 2 < 2 ^ 64) ⌝ }
+    ensures { λ r. ⌜ r ≡ andThen (lentCheck name unit (now («data» .entry))) (spaceIn len size at) ⌝ }
+{
+    if name {
+        if is_utf8(data) {
+            return space_for(len, at, size);
+        }
+        return Checked::Refused(Error::InvalidValue);
+    }
+    if data.len() % unit == 0 {
+        return space_for(len, at, size);
+    }
+    Checked::Refused(Error::Eof)
 }
 
 // Writes length, type, a record's own octets and its data at position `at`.
@@ -261,35 +277,20 @@ fn put_raw(len: u8, ty: u8, own: &[u8], data: &[u8], at: usize, out: &mut [u8])
     bytes::copy(data, &mut out[mid..end]);
 }
 
-// Writes a record of a type, where there is space and the length octet can hold its length.
-fn write_raw(ty: u8, own: &[u8], data: &[u8], writer: ByteWriter, out: &mut [u8]) -> Written
-    requires { ⌜ length (now own) ≤ 2 ⌝ }
-    ensures { λ r. ⌜ (r ≡ rawTo ty (now (own .entry) ++ now («data» .entry)) (now (out .entry)) (writer .at)) × (now (out .exit) ≡ rawAfter ty (now (own .entry) ++ now («data» .entry)) (now (out .entry)) (writer .at)) ⌝ }
-{
-    let at = writer.at;
-    let len = 1 + own.len() + data.len();
-    if writer.space_left(out) < 1 + len {
-        return Written::Refused(Error::Eof);
-    }
-    if 255 < len {
-        return Written::Refused(Error::RecordLength);
-    }
-    put_raw(len as u8, ty, own, data, at, out);
-    Written::To(ByteWriter { at: at + 1 + len })
-}
-
 // Writes a record whose lent data are given, where these may be written.
 fn write_lent(outline: Outline, data: &[u8], writer: ByteWriter, out: &mut [u8]) -> Written
-    requires { ⌜ outline .held ≤ 2 ⌝ }
+    requires { ⌜ (outline .held ≤ 2) × (0 < outline .unit) ⌝ }
     ensures { λ r. ⌜ (r ≡ lentTo outline (now («data» .entry)) (now (out .entry)) (writer .at)) × (now (out .exit) ≡ lentAfter outline (now («data» .entry)) (now (out .entry)) (writer .at)) ⌝ }
 {
-    let content = outline.content;
-    if let Checked::Refused(e) = check(content, data) {
+    let at = writer.at;
+    let held = outline.held;
+    let len = held + data.len();
+    if let Checked::Refused(e) = may_write(outline.name, outline.unit, data, len, at, out.len()) {
         return Written::Refused(e);
     }
-    let own = outline.own;
-    let n = outline.held;
-    write_raw(outline.ty, &own[..n], data, writer, out)
+    let own = u16_to_le_bytes(outline.own);
+    put_raw((len + 1) as u8, outline.ty, &own[..held], data, at, out);
+    Written::To(ByteWriter { at: at + 2 + len })
 }
 
 // Writes a record whose data lies in s.

@@ -1,54 +1,109 @@
--- `records::ad_structure::write_lent` meets its contract: the check comes before the space.
+-- `records::ad_structure::write_lent` meets its contract: where all checks pass, the record is put.
 -- Assumes nothing.
-use mathlib.Core.Path.{_≡_, refl, sym, _∙_}
+use mathlib.Core.Path.{_≡_, refl, sym, ap, _∙_}
+use mathlib.Core.Bool.{Bool, true, false, cond}
 use mathlib.Core.List.{List, _++_}
-use Prim.Native.Nat.{ℕ, _≤_}
+use Prim.Native.Nat.{ℕ, suc, _+_, _≤_}
 use native.Mathlib.Omega.{arith}
-use lib.ListN.{length, length-take}
+use lib.ListN.{length, take, length-append, length-take}
+use lib.Dec.{leb, ltb}
 use borrow.Author.Needs.{needs}
-use Rattle.octets.specs.declared.bytes.Written.{Written}
+use borrow.Author.Tests.{leb-true, ltb-false}
+use Rattle.octets.specs.declared.bytes.Written.the-variants.{To}
+use Rattle.octets.specs.declared.error.Error.the-variants.{Eof, RecordLength}
+use Rattle.octets.specs.Bytes.{written}
+use Rattle.records.specs.declared.ad_structure.Checked.{Checked}
 use Rattle.records.specs.declared.ad_structure.Checked.the-variants.{Fine}
 use Rattle.records.specs.declared.ad_structure.Outline.{Outline}
-use Rattle.records.specs.Write.{ownIn, contentCheck, rawTo, rawAfter, lentTo, lentAfter}
+use Rattle.records.specs.Record.{recordOf}
+use Rattle.records.specs.Write.{ownIn, lentCheck, spaceIn, spaceFor, andThen, answer, leaves, lentTo, lentAfter}
 use Rattle.records.proofs.ad_structure.write_lent.Statement.{statement}
 use Rattle.records.proofs.ad_structure.write_lent.Tie as tie
+
+own-size : (o : Outline) (d : List ℕ) → o .held ≤ 2 → length (ownIn o ++ d) ≡ o .held + length d
+own-size o d short = simp (length-append, length-take) (omega arith)
 
 refused : tie.Need-returns
 unfolding lentTo lentAfter
 refused c =
-    let why = sym (c .before .before .before .check .ensures) ∙ c .before .e .given .1 in
-    rw why (refl, refl)
+    let a = c .before .before .before .before .before .before .args in
+    let o = a .outline in
+    let d = a .«data» .now in
+    let why : andThen (lentCheck (o .name) (o .unit) d) (spaceIn (o .held + length d) (length (a .out .now)) (a .writer .at)) ≡ Checked.Refused (c .before .e .given .0 .0) = sym (c .before .before .before .may-write .ensures) ∙ c .before .e .given .1 in
+    let size : length (ownIn o ++ d) ≡ o .held + length d = own-size o d (c .before .before .before .before .before .before .pre .0) in
+    rw (size, why) (refl, refl)
 
-good-data : (o : Outline) (d out : List ℕ) (at : ℕ) {r : Written} {l : List ℕ} → Fine ≡ contentCheck (o .content) d
-    → (r ≡ rawTo (o .ty) (ownIn o ++ d) out at) × (l ≡ rawAfter (o .ty) (ownIn o ++ d) out at) → (r ≡ lentTo o d out at) × (l ≡ lentAfter o d out at)
-unfolding lentTo lentAfter rawTo rawAfter
-good-data o d out at fine wrote = rw (← fine) wrote
+-- what may be written has space, and a length octet holds its length
+room : (check : Checked) (n size at : ℕ) → Fine ≡ andThen check (spaceIn n size at) → (at + (n + 2) ≤ size) × (n + 1 ≤ 255)
+room check n size at = go check (leb (at + (n + 2)) size) (ltb 255 (n + 1)) refl refl
+  where
+    go : (check : Checked) (fits long : Bool) → leb (at + (n + 2)) size ≡ fits → ltb 255 (n + 1) ≡ long
+        → Fine ≡ andThen check (cond fits (cond long (Checked.Refused RecordLength) Fine) (Checked.Refused Eof)) → (at + (n + 2) ≤ size) × (n + 1 ≤ 255)
+    go (Checked.Refused k) fits long f l e = absurd (let z : _≡_ {A = ℕ} 0 1 = cc in omega arith)
+    go Fine false long f l e = absurd (let z : _≡_ {A = ℕ} 0 1 = cc in omega arith)
+    go Fine true true f l e = absurd (let z : _≡_ {A = ℕ} 0 1 = cc in omega arith)
+    go Fine true false f l e = (leb-true _ _ f, ltb-false _ _ l)
 
-held-in : tie.Need-array-share-prefix-own
-held-in c =
-    let two : length (c .before .before .before .before .before .before .args .outline .own) ≡ 2 = search needs in
-    omega arith
+told : (c : tie.After-enum-told)
+    → let a = c .before .before .before .before .before .args in
+    Fine ≡ andThen (lentCheck (a .outline .name) (a .outline .unit) (a .«data» .now)) (spaceIn (a .outline .held + length (a .«data» .now)) (length (a .out .now)) (a .writer .at))
+told c = sym (c .enum-told .given .1) ∙ c .before .before .may-write .ensures
 
-held-long : tie.Need-slice-aggregate-write-raw
-held-long c =
-    let two : length (c .before .before .before .before .before .before .before .args .outline .own) ≡ 2 = search needs in
+space : (c : tie.After-enum-told)
+    → let a = c .before .before .before .before .before .args in
+    (a .writer .at + (a .outline .held + length (a .«data» .now) + 2) ≤ length (a .out .now)) × (a .outline .held + length (a .«data» .now) + 1 ≤ 255)
+space c =
+    let a = c .before .before .before .before .before .args in
+    room (lentCheck (a .outline .name) (a .outline .unit) (a .«data» .now)) _ _ _ (told c)
+
+own-long : tie.Need-slice-aggregate-put-raw
+own-long c =
+    let two : length (c .before .u16-to-le-bytes .result) ≡ 2 = search needs in
     sym (simp length-take (omega arith))
 
-written : tie.Need-returns-2
-written c =
-    let told = c .before .before .before .before .before .before in
-    good-data _ _ _ _ (sym (told .enum-told .given .1) ∙ told .before .before .check .ensures) (c .before .before .write-raw .ensures)
+own-fits : tie.Need-put-raw-requires
+own-fits c κs =
+    let two : length (c .before .before .u16-to-le-bytes .result) ≡ 2 = search needs in
+    let fits = space (c .before .before .before) .0 in
+    (simp length-take (omega (arith, fits)), simp length-take (omega arith))
+
+-- a record that may be written, and was put
+put : (check : Checked) (ty : ℕ) (own d out : List ℕ) (at n end : ℕ) {own₁ l : List ℕ} → length (own ++ d) ≡ n → end ≡ at + 2 + n → Fine ≡ andThen check (spaceIn n (length out) at)
+    → own₁ ≡ own → l ≡ written (recordOf ty (own₁ ++ d)) out at
+    → let may = andThen check (spaceFor (own ++ d) out at) in
+    (To (record { at = end }) ≡ answer may (recordOf ty (own ++ d)) at) × (l ≡ leaves may (recordOf ty (own ++ d)) out at)
+unfolding recordOf
+put check ty own d out at n end size ends fine is e =
+    let next : end ≡ at + suc (suc (length (own ++ d))) = omega arith in
+    let may : Fine ≡ andThen check (spaceFor (own ++ d) out at) = rw size fine in
+    rw (← may) (ap (λ (next : ℕ). To (record { at = next })) next, e ∙ ap (λ (o : List ℕ). written (recordOf ty (o ++ d)) out at) is)
+
+done : tie.Need-returns-2
+unfolding lentTo lentAfter
+done c =
+    let at-own = c .before .before .before .before .before in
+    let entry = at-own .before .before .before .before .before .before in
+    let a = entry .args in
+    let o = a .outline in
+    let size : length (ownIn o ++ a .«data» .now) ≡ o .held + length (a .«data» .now) = own-size o (a .«data» .now) (entry .pre .0) in
+    put (lentCheck (o .name) (o .unit) (a .«data» .now)) (o .ty) (ownIn o) (a .«data» .now) (a .out .now) (a .writer .at) _ _ size refl (told (at-own .before)) (ap (take (o .held)) (at-own .u16-to-le-bytes .ensures)) (c .before .before .put-raw .ensures)
 
 pub write-lent-spec : {M : Type 1} → statement M
 write-lent-spec =
     tie.close
     (tie.spec
+    (λ c. search needs)
     (λ c κs. search needs)
     (λ c. search needs)
     refused
     (λ c. search needs)
-    held-in
-    held-long
-    (λ c κs. simp length-take (omega arith))
+    (λ c κs. search needs)
     (λ c. search needs)
-    written)
+    (λ c. let short = space (c .before) .1 in omega (arith, short))
+    (λ c. search needs)
+    own-long
+    own-fits
+    (λ c. let fits = space (c .before .before .before .before .before .before) .0 in omega (arith, fits))
+    (λ c. let fits = space (c .before .before .before .before .before .before) .0 in omega (arith, fits))
+    (λ c. search needs)
+    done)

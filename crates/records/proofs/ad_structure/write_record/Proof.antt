@@ -10,7 +10,7 @@ use borrow.Author.Needs.{needs}
 use borrow.Author.Tests.{leb-true}
 use Rattle.octets.specs.declared.error.Error.the-variants.{Eof}
 use Rattle.octets.specs.declared.bytes.Written.{Written}
-use Rattle.octets.specs.Bytes.{has}
+use Rattle.octets.specs.Bytes.{has, part}
 use Rattle.records.specs.declared.ad_structure.AdStructure.{AdStructure}
 use Rattle.records.specs.declared.ad_structure.AdStructure.the-variants as ad
 use Rattle.records.specs.declared.ad_structure.Outline.{Outline}
@@ -44,7 +44,7 @@ lent : (a : AdStructure) (s out : List ℕ) (at : ℕ) {o : Outline} {r : Writte
 unfolding writtenTo writtenAfter mayWrite lentTo lentAfter octetsOf dataOf
 lent a s out at {o} is there wrote =
     let size : o .start + o .len - o .start ≡ o .len = omega arith in
-    rw (← is .type, ← is .own, ← is .start, ← is .len, ← is .content, there) (rw size at wrote)
+    rw (← is .type, ← is .own, ← is .start, ← is .len, ← is .check (part (o .len) s (o .start)), there) (rw size at wrote)
 
 fits : (c : tie.Then1)
     → let o = c .before .before .outline .result in
@@ -59,6 +59,11 @@ written c =
 refused : tie.Need-returns-2
 refused c = no-data _ _ _ _ (c .before .before .outline .ensures) (sym (c .before .has-octets .ensures) ∙ c .if1 .left)
 
+short : tie.Need-write-lent-requires
+short c κs =
+    let outline = c .before .before .before .before .outline in
+    (rw (outline .ensures .many) (own-short (c .before .before .before .before .before .before .before .args .ad)), outline .ensures .units)
+
 pub write-record-spec : {M : Type 1} → statement M
 write-record-spec =
     tie.close
@@ -69,7 +74,7 @@ write-record-spec =
     (λ c. omega arith)
     (λ c. omega arith)
     (λ c. omega (arith, fits c))
-    (λ c κs. rw (c .before .before .before .before .outline .ensures .many) (own-short (c .before .before .before .before .before .before .before .args .ad)))
+    short
     (λ c. search needs)
     written
     refused)
