@@ -403,7 +403,7 @@ fn read_sized(s: &[u8], at: usize, len: usize) -> Read
     if len == 0 {
         return Read::Refused(Error::InvalidLength);
     }
-    if s.len() - at <= len {
+    if s.len() - at - 1 < len {
         return Read::Refused(Error::Eof);
     }
     let start = at + 2;

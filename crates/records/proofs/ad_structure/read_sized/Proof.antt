@@ -42,7 +42,7 @@ within s at n is more fits =
     let end : at + suc n ≡ at + 1 + n = omega arith in
     simp (front s at (omega arith), ← is, ne-eqb _ _ more, whole, le-ltb n n (omega arith), getD-take, drop-one-take, getD-drop, drop-drop, type-at, data-at, data-long, end)
 
-room : (size at n : ℕ) → at < size → n < size - at → at + 1 + n ≤ size
+room : (size at n : ℕ) → at < size → n ≤ size - at - 1 → at + 1 + n ≤ size
 room size at n within fits = omega arith
 
 answered : (c : tie.After-read-data)
@@ -66,6 +66,7 @@ read-sized-spec =
     tie.close
     (tie.spec
     zero-length
+    (λ c. omega arith)
     (λ c. omega arith)
     too-few
     (λ c. omega arith)

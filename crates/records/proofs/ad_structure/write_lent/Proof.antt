@@ -9,7 +9,9 @@ use lib.ListN.{length, take, length-append, length-take}
 use lib.Dec.{leb, ltb}
 use borrow.Author.Needs.{needs}
 use borrow.Author.Tests.{leb-true, ltb-false}
+use Rattle.octets.specs.declared.bytes.Written.{Written}
 use Rattle.octets.specs.declared.bytes.Written.the-variants.{To}
+use Rattle.octets.specs.declared.error.Error.{Error}
 use Rattle.octets.specs.declared.error.Error.the-variants.{Eof, RecordLength}
 use Rattle.octets.specs.Bytes.{written}
 use Rattle.records.specs.declared.ad_structure.Checked.{Checked}
@@ -23,15 +25,19 @@ use Rattle.records.proofs.ad_structure.write_lent.Tie as tie
 own-size : (o : Outline) (d : List ℕ) → o .held ≤ 2 → length (ownIn o ++ d) ≡ o .held + length d
 own-size o d short = simp (length-append, length-take) (omega arith)
 
+-- a record that may not be written
+not-put : (check : Checked) (xs d out : List ℕ) (at n : ℕ) {may : Checked} {e : Error} → length d ≡ n → may ≡ andThen check (spaceIn n (length out) at) → may ≡ Checked.Refused e
+    → (Written.Refused e ≡ answer (andThen check (spaceFor d out at)) xs at) × (out ≡ leaves (andThen check (spaceFor d out at)) xs out at)
+not-put check xs d out at n size is why = rw (size, ← is, why) (refl, refl)
+
 refused : tie.Need-returns
 unfolding lentTo lentAfter
 refused c =
-    let a = c .before .before .before .before .before .before .args in
+    let entry = c .before .before .before .before .before .before in
+    let a = entry .args in
     let o = a .outline in
     let d = a .«data» .now in
-    let why : andThen (lentCheck (o .name) (o .unit) d) (spaceIn (o .held + length d) (length (a .out .now)) (a .writer .at)) ≡ Checked.Refused (c .before .e .given .0 .0) = sym (c .before .before .before .may-write .ensures) ∙ c .before .e .given .1 in
-    let size : length (ownIn o ++ d) ≡ o .held + length d = own-size o d (c .before .before .before .before .before .before .pre .0) in
-    rw (size, why) (refl, refl)
+    not-put (lentCheck (o .name) (o .unit) d) (recordOf (o .ty) (ownIn o ++ d)) (ownIn o ++ d) (a .out .now) (a .writer .at) (o .held + length d) (own-size o d (entry .pre .0)) (c .before .before .before .may-write .ensures) (c .before .e .given .1)
 
 -- what may be written has space, and a length octet holds its length
 room : (check : Checked) (n size at : ℕ) → Fine ≡ andThen check (spaceIn n size at) → (at + (n + 2) ≤ size) × (n + 1 ≤ 255)
