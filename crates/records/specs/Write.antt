@@ -1,6 +1,7 @@
 -- What writing one record answers, and what the octets then hold (type octets: Assigned Numbers, 2.3; refusals and their order: document 01).
 --   shapeOf a             == the row of the table of kinds
 --   dataOf a s            == the data, whose lent part lies in s
+--   IsOutline a o         == the outline o, which the code writes by, holds what that row says
 --   spaceFor d out at     == whether a record with data d may be written at position `at` of out
 --   mayWrite a s out at   == whether the record a may, whose lent part lies in s
 use mathlib.Core.Path.{_≡_}
@@ -95,7 +96,7 @@ pub record IsOutline (a : AdStructure) (o : Outline) : Type 0 where
 unfoldable pub dataOf : AdStructure → List ℕ → List ℕ
 dataOf a s = ownOf a ++ part (lenOf a) s (startOf a)
 
--- n octets of data, at position `at` of so many: length and type take two octets more; the length octet counts the type too
+-- n octets of data at position `at` of `size` octets: length and type take two octets more; the length octet counts the type too
 abbrev pub spaceIn : ℕ → ℕ → ℕ → Checked
 spaceIn n size at = cond (leb (at + (n + 2)) size) (cond (ltb 255 (n + 1)) (Checked.Refused RecordLength) Fine) (Checked.Refused Eof)
 
