@@ -14,10 +14,10 @@ too-few : tie.Need-returns-2
 too-few c = let a = c .before .before .args in rw (lt-leb (a .at + (a .len + 2)) (a .size) (omega arith))
 
 too-long : tie.Need-returns-3
-too-long c = let a = c .before .before .before .args in rw (le-leb (a .at + (a .len + 2)) (a .size) (omega arith), lt-ltb 255 (a .len + 1) (c .if3 .taken))
+too-long c = let a = c .before .before .before .args in rw (le-leb (a .at + (a .len + 2)) (a .size) (omega arith), lt-ltb 255 (a .len + 1) (omega arith))
 
 fine : tie.Need-returns-4
-fine c = let a = c .before .before .before .args in rw (le-leb (a .at + (a .len + 2)) (a .size) (omega arith), le-ltb 255 (a .len + 1) (c .if3 .left))
+fine c = let a = c .before .before .before .args in rw (le-leb (a .at + (a .len + 2)) (a .size) (omega arith), le-ltb 255 (a .len + 1) (omega arith))
 
 pub space-for-spec : {M : Type 1} → statement M
 space-for-spec = tie.close (tie.spec past-the-end (λ c. search needs) too-few (λ c. search needs) too-long fine)
