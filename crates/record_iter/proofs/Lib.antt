@@ -1,1 +1,2 @@
 pub mod TakenApart
+pub mod Through
