@@ -16,8 +16,8 @@ use Rattle.records.specs.declared.area.Area.the-variants.{Accepted}
 use Rattle.records.specs.Record.{recordRead, first, recordAt}
 use Rattle.records.specs.Area.{cut, records, reads, before, areaOf, readArea}
 use Rattle.records.proofs.Cuts.{Sized, sized, here, at-here, Step, stepped, ended}
-use Rattle.record_iter.specs.Iter.{after, front}
-use Rattle.record_iter.specs.Laws.{nextOf, restOf, movedBy, answerAt, IsRecord, answer, Through, Stopped, Counted, GoesThrough}
+use Rattle.record_iter.specs.Iter.{after}
+use Rattle.record_iter.specs.Laws.{nextOf, restOf, movedBy, answerAt, IsRecord, answer, Through, Counted, GoesThrough}
 use Rattle.record_iter.specs.declared.Records.{Records}
 
 -- ---- the answers of a list of records that read so, and what the area is
