@@ -4,12 +4,15 @@
 --   answerAt rs k           == answer k of going through records that read as rs: a refusal or the end stays
 --   Through area n last     == the first n answers are records, and the one after them is `last`
 --   GoesThrough area        == the law
+--   Rows r                  == document 01's rows `02 01 86` and `01 03`, one after the other
 use mathlib.Core.Path.{_≡_}
+use mathlib.Core.Bool.{true}
 use Prim.Native.Nat.{ℕ, zero, suc, _<_}
 use mathlib.Core.List.{List, [], _∷_}
 use lib.ListN.{drop}
 use denote.Ref.{RefT, now}
 use Rattle.octets.specs.declared.error.Error.{Error}
+use Rattle.records.specs.declared.ad_structure.AdStructure.the-variants.{Flags, ServiceUuids16}
 use Rattle.records.specs.declared.ad_structure.Read.{Read}
 use Rattle.records.specs.declared.ad_structure.Read.the-variants.{Record, End}
 use Rattle.records.specs.declared.area.Area.{Area}
@@ -64,3 +67,14 @@ pub record GoesThrough (area : RefT (List ℕ)) : Type 0 where
   pub counted : Counted area (readArea (now area))
   -- what is left behind k records is the records from k on
   pub left : (k : ℕ) → ((j : ℕ) → j < k → IsRecord (answer area j)) → records (restOf (movedBy k (front area))) ≡ drop k (records (now area))
+
+-- the two rows as an area, lent where r lies
+abbrev pub twoRows : RefT (List ℕ) → RefT (List ℕ)
+twoRows r = record { ptr = r .ptr; name = r .name; now = 0x02 ∷ 0x01 ∷ 0x86 ∷ 0x01 ∷ 0x03 ∷ [] }
+
+pub record Rows (r : RefT (List ℕ)) : Type 0 where
+  pub flags : answer (twoRows r) 0 ≡ Record (Flags (record { bits = 0x06 })) 3
+  pub left : restOf (movedBy 1 (front (twoRows r))) ≡ 0x01 ∷ 0x03 ∷ []
+  pub list : answer (twoRows r) 1 ≡ Record (ServiceUuids16 true 5 0) 5
+  pub end : answer (twoRows r) 2 ≡ End
+  pub stays : answer (twoRows r) 3 ≡ End

@@ -1,5 +1,5 @@
-// The record iterator: a struct that holds the lent records and a position in them, and thin functions over it. Each takes the struct apart and
-// calls a function on the slice and the position. `new` and `moved` alone make one, so it stands where a record begins, ends or is refused.
+// The record iterator: a struct that holds the lent records and a position in them, and thin functions over it. Each takes the struct apart
+// and calls a function on the slice and the position. `new` and `moved` alone make one: it stands at the front of its area or behind a record.
 ghost use mathlib.Core.Path.{_≡_};
 ghost use Rattle.records.specs.Record.{recordAt};
 ghost use Rattle.records.specs.Area.{readArea};
@@ -73,7 +73,7 @@ impl<'a> Records<'a> {
     }
 }
 
-// Reads a whole area through the iterator: what `read_area` finds. For callers that hold no iterator.
+// Reads a whole area through the iterator, as `read_area` does: its callers hold no iterator.
 pub fn read_through(area: &[u8]) -> Area
     ensures { λ r. ⌜ r ≡ readArea (now (area .entry)) ⌝ }
 {
