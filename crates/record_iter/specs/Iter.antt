@@ -1,4 +1,4 @@
--- The record iterator: a lent slice and a position in it.
+-- The record iterator: a lent slice and a position in it (document 01: "a struct that holds the lent records").
 --   positionAfter s at    == the position after the record at `at` of s, or `at` where no record is read
 --   front area            == the iterator at the front of an area
 --   onward it             == the iterator past the record at its position
