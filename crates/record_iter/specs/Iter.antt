@@ -2,11 +2,10 @@
 --   positionAfter s at    == the position after the record at `at` of s, or `at` where no record is read
 --   front area            == the iterator at the front of an area
 --   onward it             == the iterator past the record at its position
---   IsRest s at r         == r is the part of s from position `at` to its end
-use mathlib.Core.Path.{_≡_}
+--   restPlace s at        == the place of the part of s from position `at` on
 use Prim.Native.Nat.{ℕ, _+_, min}
 use mathlib.Core.List.{List}
-use lib.ListN.{length, drop}
+use lib.ListN.{length}
 use denote.Ref.{RefT, now}
 use Rattle.records.specs.declared.ad_structure.Read.{Read}
 use Rattle.records.specs.declared.ad_structure.Read.the-variants.{Record, End}
@@ -28,7 +27,6 @@ front area = record { records = area; at = 0 }
 abbrev pub onward : Records → Records
 onward it = record { records = it .records; at = positionAfter (now (it .records)) (it .at) }
 
--- where it points tells it from equal octets elsewhere; past the end of s it is empty and lies at the end
-pub record IsRest (s : RefT (List ℕ)) (at : ℕ) (r : RefT (List ℕ)) : Type 0 where
-  pub place : r .ptr ≡ (s .ptr .0, min at (length (now s)) + s .ptr .1)
-  pub octets : now r ≡ drop at (now s)
+-- it tells that part from equal octets elsewhere; past the end of s the part is empty and lies at the end
+abbrev pub restPlace : RefT (List ℕ) → ℕ → ℕ × ℕ
+restPlace s at = (s .ptr .0, min at (length (now s)) + s .ptr .1)

@@ -1,9 +1,10 @@
 // The record iterator: a struct that holds the lent records and a position in them, and thin functions over it. Each takes the struct apart
 // and calls a function on the slice and the position. `new` and `moved` alone make one: it stands at the front of its area or behind a record.
 ghost use mathlib.Core.Path.{_≡_};
+ghost use lib.ListN.{drop};
 ghost use Rattle.records.specs.Record.{recordAt};
 ghost use Rattle.records.specs.Area.{readArea};
-ghost use Rattle.record_iter.specs.Iter.{positionAfter, IsRest, front, onward};
+ghost use Rattle.record_iter.specs.Iter.{positionAfter, restPlace, front, onward};
 use records::ad_structure::Read;
 use records::ad_structure::read_record;
 use records::area::Area;
@@ -26,7 +27,7 @@ fn position_after(s: &[u8], at: usize) -> usize
 
 // The octets of s from position `at` on, none where `at` lies past the end.
 fn rest_from(s: &[u8], at: usize) -> &[u8]
-    ensures { λ r. ⌜ IsRest (s .entry) at r ⌝ }
+    ensures { λ r. ⌜ (r .ptr ≡ restPlace (s .entry) at) × (now r ≡ drop at (now (s .entry))) ⌝ }
 {
     if at < s.len() {
         &s[at..]
@@ -67,7 +68,7 @@ impl<'a> Records<'a> {
 
     // The octets from the iterator's position on.
     pub fn into_rest(self) -> &'a [u8]
-        ensures { λ r. ⌜ IsRest (self .entry .records) (self .entry .at) r ⌝ }
+        ensures { λ r. ⌜ (r .ptr ≡ restPlace (self .entry .records) (self .entry .at)) × (now r ≡ drop (self .entry .at) (now (self .entry .records))) ⌝ }
     {
         rest_from(self.records, self.at)
     }

@@ -14,7 +14,7 @@ use Rattle.record_iter.proofs.rest_from.Tie as tie
 inside : tie.Need-returns
 inside c =
     let a = c .before .before .args in
-    record { place = ap (λ (i : ℕ). (a .s .ptr .0, i + a .s .ptr .1)) (omega arith); octets = part-to-end (a .s .now) (a .at) }
+    (ap (λ (i : ℕ). (a .s .ptr .0, i + a .s .ptr .1)) (omega arith), part-to-end (a .s .now) (a .at))
 
 none-behind : (s : List ℕ) (at : ℕ) → length s ≤ at → drop (length s) s ≡ drop at s
 none-behind s at h = drop-length s ∙ sym (drop-of-length-le s h)
@@ -22,10 +22,7 @@ none-behind s at h = drop-length s ∙ sym (drop-of-length-le s h)
 behind : tie.Need-returns-2
 behind c =
     let a = c .before .before .args in
-    record {
-      place = ap (λ (i : ℕ). (a .s .ptr .0, i + a .s .ptr .1)) (omega arith);
-      octets = part-to-end (a .s .now) (length (a .s .now)) ∙ none-behind (a .s .now) (a .at) (omega arith);
-    }
+    (ap (λ (i : ℕ). (a .s .ptr .0, i + a .s .ptr .1)) (omega arith), part-to-end (a .s .now) (length (a .s .now)) ∙ none-behind (a .s .now) (a .at) (omega arith))
 
 pub rest-from-spec : {M : Type 1} → statement M
 rest-from-spec =
