@@ -14,7 +14,7 @@ use Rattle.addresses.specs.declared.header.Header.{Header}
 use Rattle.advertising.specs.Pdu.{hasReceiver, decodeOf}
 use Rattle.radio.specs.Calls.{fresh, isAdvertising, isFor, listens, refusal, addressed, packetOf}
 use Rattle.radio.specs.Demand.{payloadIn, RefusedAt, TicksFrom, BeginsAt, EventsFrom, Demand3}
-use Rattle.radio.specs.Trace.{Call, start, tick, packet, event, stop, callOf, isAccepted, wellFormed, forBoard, Reading, unread, readOn, Entry, entry, traceFrom, trace, deviceFrom, deviceAfter, readFrom, modeAfter, AtEach, none, here, gather, tickRole, eventRole, Strikable, crcBad, malformed, foreign, Choice, keep, strike, left}
+use Rattle.radio.specs.Trace.{Call, start, tick, packet, event, stop, callOf, wellFormed, forBoard, Reading, unread, readOn, Entry, entry, traceFrom, trace, deviceFrom, deviceAfter, readFrom, modeAfter, AtEach, none, here, gather, tickRole, eventRole, Strikable, crcBad, malformed, foreign, Choice, keep, strike, left}
 use Rattle.radio.specs.declared.link.Called.{Called}
 use Rattle.radio.specs.declared.link.Device.{Device}
 use Rattle.radio.specs.declared.link.Mode.{Mode}

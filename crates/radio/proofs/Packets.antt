@@ -14,10 +14,10 @@ use Rattle.addresses.specs.Header.{typeOf, lengthOf}
 use Rattle.addresses.specs.declared.header.Header.{Header}
 use Rattle.addresses.specs.declared.header.PduType.{PduType}
 use Rattle.addresses.specs.declared.header.PduType.the-variants.{AdvInd, AdvDirectInd, AdvNonconnInd, AdvScanInd, ScanReq, ScanRsp, ConnectReq, Unknown}
-use Rattle.advertising.specs.Pdu.{requestOf, senderOf, receiverOf, hasReceiver, noAddress, noData, noRequest, decodedAs, refusedPdu, withArea, undirected, directed, connectRequest, byType, decodeOf}
+use Rattle.advertising.specs.Pdu.{requestOf, senderOf, receiverOf, hasReceiver, noData, noRequest, isAccepted, decodedAs, refusedPdu, withArea, undirected, directed, connectRequest, byType, decodeOf}
 use Rattle.advertising.specs.declared.pdu.Decoded.{Decoded}
 use Rattle.advertising.specs.declared.pdu.Outcome.the-variants.{Accepted}
-use Rattle.radio.specs.Trace.{isAccepted, isConnectRequest}
+use Rattle.radio.specs.Trace.{isConnectRequest}
 
 -- a packet with a second address was not refused; one that was not refused has the header's type and, where that has one, the second address of its
 -- payload; and a connect request holds the data of its payload

@@ -36,7 +36,7 @@ use Rattle.advertising.specs.declared.pdu.Pdu.{Pdu}
 use Rattle.advertising.specs.declared.pdu_buf.PduBuf.{PduBuf}
 use Rattle.radio.specs.Calls.{isAdvertising, isConnected, refusal, advertised, sent, beginning, isFor, listens, connectedAt, hoppedTo, connects as connection, addressed, heard, hops, startOf, tickOf, packetOf, eventOf, stopOf}
 use Rattle.radio.specs.Demand.{isStart, numberIn, isFirstEvent}
-use Rattle.radio.specs.Trace.{Call, start, tick, packet, event, stop, callOf, isConnectRequest, isAccepted, wellFormed, asks, mapIn, hopIn, connects, Reading, firstOf, startNumber, refusedBy, readOn, Role, passes, tickRole, eventRole}
+use Rattle.radio.specs.Trace.{Call, start, tick, packet, event, stop, callOf, isConnectRequest, asks, mapIn, hopIn, connects, Reading, firstOf, startNumber, refusedBy, readOn, Role, passes, tickRole, eventRole}
 use Rattle.radio.specs.declared.link.Answer.{Answer}
 use Rattle.radio.specs.declared.link.Called.{Called}
 use Rattle.radio.specs.declared.link.Connection.{Connection}

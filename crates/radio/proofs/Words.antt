@@ -29,9 +29,10 @@ use Rattle.addresses.specs.declared.device_address.DeviceAddress.{DeviceAddress
 use Rattle.addresses.specs.declared.header.Header.{Header}
 use Rattle.addresses.specs.declared.header.PduType.{PduType}
 use Rattle.addresses.specs.declared.header.PduType.the-variants.{AdvInd, AdvDirectInd, AdvNonconnInd, AdvScanInd, ScanReq, ScanRsp, ConnectReq, Unknown}
+use Rattle.advertising.proofs.Accepting.{is-accepted}
 use Rattle.advertising.proofs.Building.{building}
 use Rattle.advertising.specs.Laws.{ReadsBack}
-use Rattle.advertising.specs.Pdu.{hasReceiver, receiverOf, decodeOf}
+use Rattle.advertising.specs.Pdu.{hasReceiver, decodeOf}
 use Rattle.advertising.specs.PduBuf.{flagsRecord, payloadOf, payloadTo, payloadAfter}
 use Rattle.advertising.specs.declared.pdu.ConnectRequestData.{ConnectRequestData}
 use Rattle.advertising.specs.declared.pdu.Outcome.{Outcome}
@@ -40,7 +41,7 @@ use Rattle.advertising.specs.declared.pdu_buf.Built.{Built}
 use Rattle.radio.specs.Calls.{isAdvertising, isConnected, refusal, sent, beginning, discoverable, started, startedAfter, isFor, listens, connectedAt, connects, addressed, hoppedTo, hops, startOf, startAfter, tickOf, tickAfter, packetOf, eventOf, stopOf}
 use Rattle.radio.specs.Demand.{numberIn}
 use Rattle.radio.specs.Laws.{ForBoard, Words, Refusing, Transmits, Response}
-use Rattle.radio.specs.Trace.{Call, start, tick, packet, event, stop, callOf, isAccepted, wellFormed, forBoard}
+use Rattle.radio.specs.Trace.{Call, start, tick, packet, event, stop, callOf, wellFormed, forBoard}
 use Rattle.radio.specs.declared.link.Advertisement.{Advertisement}
 use Rattle.radio.specs.declared.link.Answer.{Answer}
 use Rattle.radio.specs.declared.link.Answer.the-variants.{Refused, Sent, Listen, Respond, FirstEvent, NextEvent, Stopped}
@@ -48,10 +49,6 @@ use Rattle.radio.specs.declared.link.Called.{Called}
 use Rattle.radio.specs.declared.link.Device.{Device}
 use Rattle.radio.proofs.Packets.{Known, known}
 use Rattle.radio.proofs.Steps.{no-zero}
-
-is-accepted : (o : Outcome) → isAccepted o ≡ true → o ≡ outcome.Accepted
-is-accepted outcome.Accepted e = refl
-is-accepted (outcome.Refused x) e = absurd (false≢true e)
 
 -- the types with a second address, by their codes
 receiver-code : (ty : PduType) → hasReceiver ty ≡ true → (typeCode ty ≡ 1) ⊎ ((typeCode ty ≡ 3) ⊎ (typeCode ty ≡ 5))

@@ -32,9 +32,7 @@ use Rattle.addresses.specs.declared.device_address.DeviceAddress.{DeviceAddress
 use Rattle.addresses.specs.declared.header.Header.{Header}
 use Rattle.addresses.specs.declared.header.PduType.{PduType}
 use Rattle.addresses.specs.declared.header.PduType.the-variants.{AdvInd, AdvDirectInd, AdvNonconnInd, AdvScanInd, ScanReq, ScanRsp, ConnectReq, Unknown}
-use Rattle.advertising.specs.Pdu.{fieldAt, connectFigure, decodeOf}
-use Rattle.advertising.specs.declared.pdu.Outcome.{Outcome}
-use Rattle.advertising.specs.declared.pdu.Outcome.the-variants as outcome
+use Rattle.advertising.specs.Pdu.{fieldAt, connectFigure, isAccepted, decodeOf}
 use Rattle.radio.specs.Calls.{fresh, isAdvertising, isConnected, isFor, startOf, startAfter, tickOf, tickAfter, packetOf, eventOf, stopOf}
 use Rattle.radio.specs.declared.link.Answer.{Answer}
 use Rattle.radio.specs.declared.link.Answer.the-variants.{Refused, Sent, Listen, Respond, FirstEvent, NextEvent, Stopped}
@@ -68,10 +66,6 @@ octetsOf d event = []
 octetsOf d stop = []
 
 -- What the list alone says
-
-abbrev pub isAccepted : Outcome → Bool
-isAccepted outcome.Accepted = true
-isAccepted (outcome.Refused e) = false
 
 abbrev pub isConnectRequest : PduType → Bool
 isConnectRequest ConnectReq = true
