@@ -26,7 +26,7 @@ use Rattle.advertising.specs.PduBuf.{headerFor, flagsRecord, payloadOf}
 use Rattle.advertising.specs.declared.pdu.Outcome.the-variants as outcome
 use Rattle.radio.specs.Calls.{instant, fresh}
 use Rattle.radio.specs.Demand.{numberIn}
-use Rattle.radio.specs.Trace.{Call, start, tick, packet, event, stop, callOf, octetsOf, wellFormed, forBoard, Entry, trace, channelIn, times}
+use Rattle.radio.specs.Trace.{Call, start, tick, packet, event, stop, callOf, octetsOf, wellFormed, forBoard, Entry, trace, times}
 use Rattle.radio.specs.declared.link.Answer.the-variants.{Refused}
 use Rattle.radio.specs.declared.link.Device.{Device}
 use Rattle.radio.specs.declared.link.Mode.the-variants.{Standby, Advertising}
