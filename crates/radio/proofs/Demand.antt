@@ -82,10 +82,14 @@ module _ (d : Device) (end : Instant) (h : Header) (p : List ℕ) where
   unfolding packetOf
   unheard-same crcGood e = listened (isAdvertising (d .mode)) crcGood (forBoard (d .«dev_addr») h p) (addressed d end (decodeOf h p .pdu .lldata) (decodeOf h p .pdu .ty)) e
 
+pub not-ours : {own : DeviceAddress} {end : Instant} {h : Header} {p : List ℕ} {crcGood : Bool} → Strikable own (packet end h p crcGood)
+    → (crcGood && forBoard own h p) ≡ false
+not-ours crcBad = refl
+not-ours {own} {h = h} {p = p} (malformed bad) = simp (not-for own h p bad, and-false)
+not-ours (foreign e) = simp (e, and-false)
+
 struck-same : (d : Device) (c : Call) → Strikable (d .«dev_addr») c → callOf d c .device ≡ d
-struck-same d (packet end h p false) crcBad = unheard-same d end h p false refl
-struck-same d (packet end h p crcGood) (malformed bad) = unheard-same d end h p crcGood (simp (not-for (d .«dev_addr») h p bad, and-false))
-struck-same d (packet end h p crcGood) (foreign e) = unheard-same d end h p crcGood (simp (e, and-false))
+struck-same d (packet end h p crcGood) s = unheard-same d end h p crcGood (not-ours s)
 
 module _ (own : DeviceAddress) where
   others-same : (d : Device) {cs : List Call} (ch : Choice own cs) → Ours own d → traced d (left ch cs) ≡ left ch (traced d cs)

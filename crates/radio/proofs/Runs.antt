@@ -134,9 +134,10 @@ module _ (own : DeviceAddress) (time : Instant) (interval : ℕ) (records : List
   tick-moves k {d} at (ticks tx m ok wrote) =
       let payload : payloadOf (d .adv .pdu) ≡ (own .bytes ++ flagsRecord) ++ rewritten records =
       ap (λ (a : Advertisement). payloadOf (a .pdu)) at ∙ (ap payloadOf (pdu-at k) ∙ made .payload) in
-      rw ok
-      (record { answer = ap (λ (a : Advertisement). advertised d a .answer) at ∙ answer-at k d; octets = ap (λ (l : List ℕ). l ∷ []) (rw (← payload) wrote) },
-      ap advanced at)
+      rw ok (
+        record { answer = ap (λ (a : Advertisement). advertised d a .answer) at ∙ answer-at k d; octets = ap (λ (l : List ℕ). l ∷ []) (rw (← payload) wrote) },
+        ap advanced at,
+      )
   tick-moves k at (begins end header payload crcGood u channel m e ok some there low) = at
   tick-moves k at (hopping u channel m there low ok) = at
   tick-moves k at stops = at
@@ -163,9 +164,10 @@ pub ticks-from : {d : Device} {c : Call} {r : Called} → Happens d c r → Soun
     → (cs : List Call) → TicksOf (d .«dev_addr») c (entryOf d c r ∷ gather tickRole (traced (r .device) cs))
 ticks-from {d} (starts time interval records tx pdu ok made wrote) sound a cs =
     let own = d .«dev_addr» in
-    ticks-of own time interval records pdu made _
-    (record { answer = answer-at own time interval records pdu made 0 d; octets = ap (λ (l : List ℕ). records ∷ l ∷ []) (rw (← made .payload) wrote) },
-    tick-run own time interval records pdu made (advertised d (beginning time interval pdu) .device) cs sound 1 refl)
+    ticks-of own time interval records pdu made _ (
+      record { answer = answer-at own time interval records pdu made 0 d; octets = ap (λ (l : List ℕ). records ∷ l ∷ []) (rw (← made .payload) wrote) },
+      tick-run own time interval records pdu made (advertised d (beginning time interval pdu) .device) cs sound 1 refl,
+    )
 ticks-from (ticks tx m ok wrote) sound a cs = tt
 ticks-from (begins end header payload crcGood u channel m e ok some there low) sound a cs = tt
 ticks-from (hopping u channel m there low ok) sound a cs = tt

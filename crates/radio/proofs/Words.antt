@@ -1,21 +1,24 @@
--- What the words of demand 3 mean, and what calls leave in buffers: `words`, `refusing`, `transmits`, `response`. Assumes nothing.
+-- What the words of demand 3 mean, and what calls leave in buffers: `words`, `refusing`, `transmits`, `hearing`. Assumes nothing.
 use mathlib.Core.Bool.{Bool, true, false, cond, _&&_, false≢true}
 use mathlib.Core.List.{List, [], _∷_, _++_}
 use mathlib.Core.Logic.{_⊎_, inl, inr, ⊎-elim}
 use mathlib.Core.Path.{_≡_, refl, sym, ap, _∙_}
-use Prim.Native.Nat.{ℕ, _+_, _≤_, _<_}
+use Prim.Native.Nat.{ℕ, _+_, _*_, _%_, _≤_, _<_}
 use native.Mathlib.Nat.{zero-add}
 use native.Mathlib.Omega.{arith}
 use lib.Dec.{ltb}
 use lib.ListN.{length, drop, length-append}
-use borrow.Author.Tests.{eq-eqb, ltb-true, ltb-false}
+use borrow.Author.Tests.{eq-eqb, lt-ltb, ltb-true, ltb-false}
 use Rattle.octets.proofs.Sequences.{both-true}
-use Rattle.octets.specs.Bytes.{has}
+use Rattle.octets.specs.Bytes.{part, le, has}
 use Rattle.octets.specs.Error.{numberOf}
+use Rattle.octets.specs.Time.{later}
 use Rattle.octets.specs.declared.error.Error.{Error}
 use Rattle.octets.specs.declared.error.Error.the-variants.{Eof, WrongMode}
 use Rattle.octets.specs.declared.time.Instant.{Instant}
-use Rattle.channels.specs.Hop.{hopped}
+use Rattle.channels.proofs.Events.{run}
+use Rattle.channels.specs.Hop.{unmapped, eventChannel, before, hopped}
+use Rattle.channels.specs.Map.{marks, fromRaw}
 use Rattle.channels.specs.declared.connection.Hop.{Hop}
 use Rattle.channels.specs.declared.connection.Hop.the-variants as hop
 use Rattle.records.specs.Area.{readArea, rewritten}
@@ -23,8 +26,10 @@ use Rattle.records.specs.declared.area.Area.{Area}
 use Rattle.records.specs.declared.area.Area.the-variants as area
 use Rattle.addresses.proofs.Addresses.{equality}
 use Rattle.addresses.proofs.Boxes.{codes}
-use Rattle.addresses.specs.Address.{kindOf, addressOf, sameAddress}
-use Rattle.addresses.specs.Header.{typeCode, pduType, typeOf, bits, rxAdd}
+use Rattle.addresses.specs.Address.{kindNumber, kindOf, isRandom, addressOf, sameAddress}
+use Rattle.addresses.specs.Header.{headerOf, typeCode, pduType, typeOf, bits}
+use Rattle.addresses.specs.declared.device_address.AddressKind.{AddressKind}
+use Rattle.addresses.specs.declared.device_address.AddressKind.the-variants.{Public, Random}
 use Rattle.addresses.specs.declared.device_address.DeviceAddress.{DeviceAddress}
 use Rattle.addresses.specs.declared.header.Header.{Header}
 use Rattle.addresses.specs.declared.header.PduType.{PduType}
@@ -32,23 +37,26 @@ use Rattle.addresses.specs.declared.header.PduType.the-variants.{AdvInd, AdvDir
 use Rattle.advertising.proofs.Accepting.{is-accepted}
 use Rattle.advertising.proofs.Building.{building}
 use Rattle.advertising.specs.Laws.{ReadsBack}
-use Rattle.advertising.specs.Pdu.{hasReceiver, decodeOf}
-use Rattle.advertising.specs.PduBuf.{flagsRecord, payloadOf, payloadTo, payloadAfter}
+use Rattle.advertising.specs.Pdu.{requestOf, hasReceiver, decodeOf}
+use Rattle.advertising.specs.PduBuf.{headerFor, flagsRecord, payloadOf, payloadTo, payloadAfter}
 use Rattle.advertising.specs.declared.pdu.ConnectRequestData.{ConnectRequestData}
 use Rattle.advertising.specs.declared.pdu.Outcome.{Outcome}
 use Rattle.advertising.specs.declared.pdu.Outcome.the-variants as outcome
 use Rattle.advertising.specs.declared.pdu_buf.Built.{Built}
-use Rattle.radio.specs.Calls.{isAdvertising, isConnected, refusal, sent, beginning, discoverable, started, startedAfter, isFor, listens, connectedAt, connects, addressed, hoppedTo, hops, startOf, startAfter, tickOf, tickAfter, packetOf, eventOf, stopOf}
+use Rattle.radio.specs.Calls.{instant, isAdvertising, isConnected, refusal, sent, beginning, discoverable, started, startedAfter, isFor, listens, heard, connectedAt, connects, addressed, hoppedTo, hops, startOf, startAfter, tickOf, tickAfter, packetOf, eventOf, stopOf}
 use Rattle.radio.specs.Demand.{numberIn}
-use Rattle.radio.specs.Laws.{ForBoard, Words, Refusing, Transmits, Response}
-use Rattle.radio.specs.Trace.{Call, start, tick, packet, event, stop, callOf, wellFormed, forBoard}
+use Rattle.radio.specs.Laws.{ForBoard, Requests, Words, Refusing, Transmits, Hearing}
+use Rattle.radio.specs.Trace.{Call, start, tick, packet, event, stop, callOf, isConnectRequest, wellFormed, forBoard, asks, mapIn, hopIn, connects as connection, Strikable}
 use Rattle.radio.specs.declared.link.Advertisement.{Advertisement}
 use Rattle.radio.specs.declared.link.Answer.{Answer}
 use Rattle.radio.specs.declared.link.Answer.the-variants.{Refused, Sent, Listen, Respond, FirstEvent, NextEvent, Stopped}
 use Rattle.radio.specs.declared.link.Called.{Called}
 use Rattle.radio.specs.declared.link.Device.{Device}
+use Rattle.radio.specs.declared.link.Mode.{Mode}
+use Rattle.radio.specs.declared.link.Mode.the-variants.{Advertising}
 use Rattle.radio.proofs.Packets.{Known, known}
 use Rattle.radio.proofs.Steps.{no-zero}
+use Rattle.radio.proofs.Demand.{not-ours}
 
 -- the types with a second address, by their codes
 receiver-code : (ty : PduType) → hasReceiver ty ≡ true → (typeCode ty ≡ 1) ⊎ ((typeCode ty ≡ 3) ⊎ (typeCode ty ≡ 5))
@@ -91,6 +99,40 @@ module _ (own : DeviceAddress) (h : Header) (p : List ℕ) where
       let same : sameAddress (d .pdu .receiver) own ≡ true = equality (d .pdu .receiver) own .complete (k .second (f .good) has-one ∙ f .second) in
       rw (has-one, same)
 
+  type-5 : (ty : PduType) → isConnectRequest ty ≡ true → typeCode ty ≡ 5
+  type-5 ConnectReq e = refl
+  type-5 AdvInd e = absurd (false≢true e)
+  type-5 AdvDirectInd e = absurd (false≢true e)
+  type-5 AdvNonconnInd e = absurd (false≢true e)
+  type-5 AdvScanInd e = absurd (false≢true e)
+  type-5 ScanReq e = absurd (false≢true e)
+  type-5 ScanRsp e = absurd (false≢true e)
+  type-5 (Unknown n) e = absurd (false≢true e)
+
+  request : (end : Instant) (crcGood : Bool) → connection own (packet end h p crcGood) ≡ true → Requests own h p crcGood
+  unfolding connection asks
+  request end crcGood e =
+      let d = decodeOf h p in
+      let asked = both-true _ _ e in
+      let crc = both-true crcGood _ (asked .0) in
+      let good = both-true (wellFormed h p) _ (crc .1) in
+      let ours = both-true (forBoard own h p) _ (good .1) in
+      record {
+        crc = crc .0;
+        good = good .0;
+        type = sym (codes .back (bits 0 4 h)) ∙ (ap typeCode (sym (known h p .type (good .0))) ∙ type-5 (d .pdu .ty) (ours .1));
+        second = for-board (ours .0) .second;
+        some = ltb-true 0 (marks (mapIn p)) (asked .1);
+      }
+
+  request-if : (end : Instant) (crcGood : Bool) → Requests own h p crcGood → connection own (packet end h p crcGood) ≡ true
+  unfolding connection asks
+  request-if end crcGood r =
+      let ours : forBoard own h p ≡ true = for-board-if (record { good = r .good; type = inr (inr (r .type)); second = r .second }) in
+      let ty : decodeOf h p .pdu .ty ≡ ConnectReq = known h p .type (r .good) ∙ (ap pduType (r .type) ∙ codes .code-5) in
+      let asks-one : isConnectRequest (decodeOf h p .pdu .ty) ≡ true = ap isConnectRequest ty in
+      rw (r .crc, r .good, ours, asks-one, lt-ltb 0 (marks (mapIn p)) (r .some))
+
   pub words : Words own h p
   words =
       record {
@@ -100,6 +142,10 @@ module _ (own : DeviceAddress) (h : Header) (p : List ℕ) where
         well-formed-if = λ e. rw e;
         for-board = for-board;
         for-board-if = for-board-if;
+        request = request;
+        request-if = request-if;
+        map = refl;
+        hop = refl;
       }
 
 abbrev isRefusal : Answer → Bool
@@ -242,6 +288,68 @@ module _ (d : Device) (tx : List ℕ) where
             ap (λ (l : List ℕ). records ∷ l ∷ []) (started-writes six time interval records (readArea records) refl (ltb 28 (length records)) refl is);
       }
 
-pub response : (random : Bool) → Response random
-response true = record { type = refl; tx = refl; rx = refl; len = refl }
-response false = record { type = refl; tx = refl; rx = refl; len = refl }
+module _ (d : Device) (end : Instant) (h : Header) (p : List ℕ) (crcGood : Bool) (on : d .mode ≡ Advertising) where
+  abbrev own : DeviceAddress
+  own = d .«dev_addr»
+
+  unheard : (crcGood && forBoard own h p) ≡ false → packetOf d end h p crcGood ≡ listens d
+  unfolding packetOf
+  unheard e = go crcGood (forBoard own h p) e
+    where
+      go : (crc ours : Bool) → (crc && ours) ≡ false
+          → cond (isAdvertising (d .mode)) (cond crc (cond ours (addressed d end (decodeOf h p .pdu .lldata) (decodeOf h p .pdu .ty)) (listens d)) (listens d)) (refusal d WrongMode) ≡ listens d
+      go false ours e = ap (λ (m : Mode). cond (isAdvertising m) (listens d) (refusal d WrongMode)) on
+      go true false e = ap (λ (m : Mode). cond (isAdvertising m) (listens d) (refusal d WrongMode)) on
+      go true true e = absurd (false≢true (sym e))
+
+  bad : Strikable own (packet end h p crcGood) → packetOf d end h p crcGood ≡ listens d
+  bad s = unheard (not-ours s)
+
+  -- a good packet for this board, by its type
+  taken : crcGood ≡ true → ForBoard own h p → (ty : PduType) → decodeOf h p .pdu .ty ≡ ty
+      → packetOf d end h p crcGood ≡ addressed d end (decodeOf h p .pdu .lldata) ty
+  unfolding packetOf
+  taken crc ours ty is =
+      ap (λ (m : Mode). cond (isAdvertising m) (cond crcGood (heard d end (decodeOf h p .pdu)) (listens d)) (refusal d WrongMode)) on
+      ∙ (ap (λ (b : Bool). cond b (heard d end (decodeOf h p .pdu)) (listens d)) crc
+      ∙ (ap (λ (b : Bool). cond b (addressed d end (decodeOf h p .pdu .lldata) (decodeOf h p .pdu .ty)) (listens d)) (for-board-if own h p ours)
+      ∙ ap (addressed d end (decodeOf h p .pdu .lldata)) is))
+
+  typed : ForBoard own h p → (ty : PduType) → pduType (bits 0 4 h) ≡ ty → decodeOf h p .pdu .ty ≡ ty
+  typed ours ty is = known h p .type (ours .good) ∙ is
+
+  response : (k : AddressKind) → headerFor ScanRsp (isRandom k) false 6 ≡ headerOf (0x0604 + 64 * kindNumber k)
+  response Public = refl
+  response Random = refl
+
+  five-bits : hopIn p % 32 ≡ hopIn p
+  five-bits = omega arith
+
+  -- the first hop of a request is event 0
+  first-hop : 1 ≤ marks (mapIn p) → hopped (fromRaw (mapIn p)) 0 (hopIn p) ≡ hop.To (unmapped (hopIn p) 1) (record { index = eventChannel (mapIn p) (hopIn p) 0 })
+  unfolding before
+  first-hop some = run (mapIn p) (hopIn p) 0 some ∙ ap (λ (x : ℕ). hop.To (unmapped x 1) (record { index = eventChannel (mapIn p) x 0 })) five-bits
+
+  requested : Requests own h p crcGood
+      → packetOf d end h p crcGood .answer
+      ≡ FirstEvent (record { index = eventChannel (part 5 p 28) (le (part 1 p 33) % 32) 0 })
+      (instant (later (end .0) (le (part 2 p 20) * 1250 + le (part 1 p 19) * 1250 + 1750))) (le (part 4 p 12)) (le (part 3 p 16))
+  unfolding addressed connects requestOf
+  requested r =
+      let ours : ForBoard own h p = record { good = r .good; type = inr (inr (r .type)); second = r .second } in
+      let is : decodeOf h p .pdu .ty ≡ ConnectReq = typed ours ConnectReq (ap pduType (r .type) ∙ codes .code-5) in
+      ap (λ (x : Called). x .answer) (taken (r .crc) ours ConnectReq is)
+      ∙ (ap (λ (l : ConnectRequestData). connects d end l .answer) (known h p .request (ap isConnectRequest is))
+      ∙ ap (λ (x : Hop). connectedAt d end (requestOf p) x .answer) (first-hop (r .some)))
+
+pub hearing : (d : Device) (end : Instant) (h : Header) (p : List ℕ) (crcGood : Bool) → Hearing d end h p crcGood
+unfolding addressed
+hearing d end h p crcGood =
+    record {
+      bad = bad d end h p crcGood;
+      other = λ on crc ours is. taken d end h p crcGood on crc ours AdvDirectInd (typed d end h p crcGood on ours AdvDirectInd (ap pduType is ∙ codes .code-1));
+      scan = λ on crc ours is.
+          taken d end h p crcGood on crc ours ScanReq (typed d end h p crcGood on ours ScanReq (ap pduType is ∙ codes .code-3))
+          ∙ ap (λ (x : Header). record { answer = Respond x (d .adv .channel); device = d }) (response d end h p crcGood on (d .«dev_addr» .kind));
+      request = requested d end h p crcGood;
+    }
