@@ -8,7 +8,6 @@ use lib.Dec.{eqb}
 use lib.ListN.{length}
 use Rattle.octets.specs.declared.error.Error.the-variants.{WrongMode}
 use Rattle.octets.specs.declared.time.Instant.{Instant}
-use Rattle.addresses.specs.Address.{sameAddress}
 use Rattle.addresses.specs.declared.device_address.DeviceAddress.{DeviceAddress}
 use Rattle.addresses.specs.declared.header.Header.{Header}
 use Rattle.advertising.specs.Pdu.{hasReceiver, decodeOf}
@@ -66,8 +65,8 @@ not-for : (own : DeviceAddress) (h : Header) (p : List ℕ) → wellFormed h p �
 unfolding isFor
 not-for own h p bad = go (hasReceiver (decodeOf h p .pdu .ty)) refl
   where
-    go : (b : Bool) → hasReceiver (decodeOf h p .pdu .ty) ≡ b → (b && sameAddress (decodeOf h p .pdu .receiver) own) ≡ false
-    go false e = refl
+    go : (b : Bool) → hasReceiver (decodeOf h p .pdu .ty) ≡ b → forBoard own h p ≡ false
+    go false e = rw e
     go true e = absurd (false≢true (sym bad ∙ known h p .good e))
 
 module _ (d : Device) (end : Instant) (h : Header) (p : List ℕ) where
