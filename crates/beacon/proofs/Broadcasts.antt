@@ -1,31 +1,41 @@
--- What is sent of a beacon, and heard of it: `sends`, `refusing`, `broadcasting`. Assumes nothing.
-use mathlib.Core.Bool.{true}
+-- What is sent of a beacon, and heard of it: `sends`, `refusing`, `broadcasting`, `sendable`. Assumes nothing.
+use mathlib.Core.Bool.{Bool, true, false, cond}
 use mathlib.Core.List.{List, [], _++_, append-nil}
-use mathlib.Core.Path.{_≡_, refl, sym, ap, _∙_}
+use mathlib.Core.Path.{_≡_, refl, sym, ap, subst, _∙_}
 use Prim.Native.Nat.{ℕ, _+_, _≤_}
 use native.Mathlib.Nat.{zero-add}
 use native.Mathlib.Omega.{arith}
-use lib.ListN.{length, drop}
+use lib.Dec.{ltb}
+use lib.ListN.{length, take, length-append}
+use borrow.Author.Tests.{ltb-true, ltb-false}
 use Rattle.octets.proofs.Places.{enough, too-few}
+use Rattle.octets.specs.declared.error.Error.{Error}
+use Rattle.octets.specs.declared.error.Error.the-variants.{Eof}
 use Rattle.records.proofs.RoundTrip.{round-trip}
-use Rattle.records.specs.Area.{readArea, rewritten}
+use Rattle.records.specs.Area.{cut, reads, areaOf, readArea, rewritten}
+use Rattle.records.specs.declared.area.Area.{Area}
 use Rattle.records.specs.declared.area.Area.the-variants as area
 use Rattle.addresses.proofs.Boxes.{codes}
-use Rattle.addresses.specs.Header.{typeCode, typeOf, bits}
+use Rattle.addresses.specs.Address.{kindOf, isRandom, addressOf}
+use Rattle.addresses.specs.Header.{typeCode, typeOf, txAdd, bits}
 use Rattle.addresses.specs.declared.device_address.DeviceAddress.{DeviceAddress}
 use Rattle.addresses.specs.declared.header.Header.{Header}
 use Rattle.addresses.specs.declared.header.PduType.the-variants.{AdvNonconnInd}
 use Rattle.advertising.proofs.Accepting.{accepting}
 use Rattle.advertising.proofs.Building.{building}
 use Rattle.advertising.specs.Laws.{ReadsBack}
-use Rattle.advertising.specs.Pdu.{dataIn, decodeOf}
-use Rattle.advertising.specs.PduBuf.{payloadOf}
+use Rattle.advertising.specs.Pdu.{noRequest, noAddress, isAccepted, decodedAs, decodeOf}
+use Rattle.advertising.specs.PduBuf.{headerFor, payloadOf}
+use Rattle.advertising.specs.declared.pdu.AdvData.{AdvData}
 use Rattle.advertising.specs.declared.pdu.Decoded.{Decoded}
 use Rattle.advertising.specs.declared.pdu.Outcome.the-variants as outcome
 use Rattle.advertising.specs.declared.pdu_buf.Built.{Built}
-use Rattle.beacon.specs.Laws.{Sends, Refusing, Broadcasting}
+use Rattle.advertising.specs.declared.pdu_buf.PduBuf.{PduBuf}
+use Rattle.beacon.specs.Laws.{Sends, Refusing, Broadcasting, Sendable}
 use Rattle.beacon.specs.Scanner.{reportOf}
+use Rattle.beacon.specs.Sending.{beaconPdu, beaconOf}
 use Rattle.beacon.specs.declared.beacon.Beacon.{Beacon}
+use Rattle.beacon.specs.declared.beacon.Made.{Made}
 use Rattle.beacon.proofs.Reports.{Holds, same-type, holds-decoded, complete}
 
 pub sends : (b : Beacon) (tx : List ℕ) → Sends b tx
@@ -51,25 +61,75 @@ refusing a s =
 code-of : (h : Header) → typeOf h ≡ AdvNonconnInd → bits 0 4 h ≡ 2
 code-of h is = sym (codes .back (bits 0 4 h)) ∙ ap typeCode is
 
+-- what decodes to a beacon's PDU has its type
+type-of : (h : Header) (p : List ℕ) (a : DeviceAddress) (place : AdvData)
+    → decodeOf h p ≡ decodedAs outcome.Accepted AdvNonconnInd a noAddress place noRequest → typeOf h ≡ AdvNonconnInd
+type-of h p a place reads =
+    same-type h p (decodeOf h p) (accepting h p .sound (ap (λ (d : Decoded). d .outcome) reads) .1) ∙ ap (λ (d : Decoded). d .pdu .ty) reads
+
 pub broadcasting : (a : DeviceAddress) (s : List ℕ) (n : ℕ) → length (a .bytes) ≡ 6 → readArea s ≡ area.Accepted n → length s ≤ 31 → Broadcasting a s n
 broadcasting a s n six good fits =
     let back : ReadsBack AdvNonconnInd a [] s n = building .adv AdvNonconnInd a s n refl six good fits in
     let h : Header = back .pdu .header in
     let p : List ℕ = payloadOf (back .pdu) in
     let ok : decodeOf h p .outcome ≡ outcome.Accepted = ap (λ (d : Decoded). d .outcome) (back .reads) in
-    let type-2 : typeOf h ≡ AdvNonconnInd = same-type h p (decodeOf h p) (accepting h p .sound ok .1) ∙ ap (λ (d : Decoded). d .pdu .ty) (back .reads) in
-    let its : Holds h p (decodeOf h p .pdu) = holds-decoded h p type-2 ok in
-    let records : drop 6 p ≡ rewritten s = sym (its .records) ∙ ap (λ (d : Decoded). dataIn (d .pdu .«adv_data») p) (back .reads) ∙ back .records in
     let sender : decodeOf h p .pdu .sender ≡ a = ap (λ (d : Decoded). d .pdu .sender) (back .reads) in
+    let as-long : length (rewritten s) ≡ length s = round-trip s .as-long in
+    let size : length ((a .bytes ++ []) ++ rewritten s) ≡ 6 + length s = simp length-append (omega arith) in
     record {
       beacon = record { pdu = back .pdu };
-      made = λ i. record { outcome = back .built i .outcome; beacon = record { pdu = back .built i .pdu } };
+      made = rw (back .built);
+      header = back .header ∙ ap (λ (k : ℕ). headerFor AdvNonconnInd (isRandom (a .kind)) false (6 + k)) (zero-add (length s));
       place = back .place;
       decoded = back .reads;
       number-of-records = back .count;
       records = back .records;
-      size = its .size ∙ ap (λ (l : List ℕ). 6 + length l) records ∙ ap (λ (k : ℕ). 6 + k) (round-trip s .as-long);
+      size = ap length (back .payload) ∙ size;
       heard = λ scanner list passes.
-          complete scanner h p true list (record { crc = refl; type-2 = code-of h type-2; decoding = ok; filter = rw sender passes })
+          complete scanner h p true list
+          (record { crc = refl; type-2 = code-of h (type-of h p a (back .place) (back .reads)); decoding = ok; filter = rw sender passes })
           ∙ ap (λ (d : Decoded). reportOf (scanner .channel) (d .pdu)) (back .reads);
     }
+
+-- what can be sent of a beacon: type 2, from the address
+record Sent (a : DeviceAddress) (b : Beacon) : Type 0 where
+  type-2 : bits 0 4 (b .pdu .header) ≡ 2
+  sender : addressOf (take 6 (payloadOf (b .pdu))) (kindOf (txAdd (b .pdu .header))) ≡ a
+
+sent : (a : DeviceAddress) (s : List ℕ) (n : ℕ) → Broadcasting a s n → Sent a (beaconOf a s .beacon)
+sent a s n b =
+    let h : Header = b .beacon .pdu .header in
+    let p : List ℕ = payloadOf (b .beacon .pdu) in
+    let type : typeOf h ≡ AdvNonconnInd = type-of h p a (b .place) (b .decoded) in
+    let its : Holds h p (decodeOf h p .pdu) = holds-decoded h p type (ap (λ (d : Decoded). d .outcome) (b .decoded)) in
+    let is : Sent a (b .beacon) = record { type-2 = code-of h type; sender = sym (its .sender) ∙ ap (λ (d : Decoded). d .pdu .sender) (b .decoded) } in
+    subst (Sent a) (ap (λ (m : Made). m .beacon) (sym (b .made))) is
+
+no-records : readArea [] ≡ area.Accepted 0
+unfolding readArea areaOf reads cut
+no-records = refl
+
+cond-same : (b : Bool) (pdu : PduBuf) → cond b pdu pdu ≡ pdu
+cond-same true pdu = refl
+cond-same false pdu = refl
+
+module _ (a : DeviceAddress) (s : List ℕ) where
+  beacon-refused : (e : Error) → beaconOf a s .outcome ≡ outcome.Refused e → beaconOf a s .beacon ≡ beaconOf a [] .beacon
+  beacon-refused e refusal = rw (refusal, cond-same (isAccepted (beaconPdu a [] .outcome)) (beaconPdu a [] .pdu))
+
+  beacon-sends : length (a .bytes) ≡ 6 → Sent a (beaconOf a s .beacon)
+  beacon-sends six = by-area (readArea s) refl
+    where
+      refused : (e : Error) → beaconOf a s .outcome ≡ outcome.Refused e → Sent a (beaconOf a s .beacon)
+      refused e refusal = subst (Sent a) (sym (beacon-refused e refusal)) (sent a [] 0 (broadcasting a [] 0 six no-records (omega arith)))
+
+      by-size : (n : ℕ) → readArea s ≡ area.Accepted n → (t : Bool) → ltb 31 (length s) ≡ t → Sent a (beaconOf a s .beacon)
+      by-size n good true much = refused Eof (refusing a s .too-long n six good (ltb-true 31 (length s) much))
+      by-size n good false few = sent a s n (broadcasting a s n six good (ltb-false 31 (length s) few))
+
+      by-area : (r : Area) → readArea s ≡ r → Sent a (beaconOf a s .beacon)
+      by-area (area.Refused e) bad = refused e (refusing a s .bad-area e bad)
+      by-area (area.Accepted n) good = by-size n good (ltb 31 (length s)) refl
+
+  pub sendable : Sendable a s
+  sendable = record { refused = beacon-refused; type-2 = λ six. beacon-sends six .type-2; sender = λ six. beacon-sends six .sender }

@@ -4,6 +4,7 @@
 --   Sends         Broadcasts.sends            what is transmitted and written
 --   Refusing      Broadcasts.refusing         which records make no beacon
 --   Broadcasting  Broadcasts.broadcasting     what is heard of a beacon that was made
+--   Sendable      Broadcasts.sendable         what can be sent whatever the records, after a refusal too
 --   Row           Rows.row                    document 01's row
 use mathlib.Core.Bool.{Bool, true, false, cond}
 use mathlib.Core.List.{List, [], _∷_, _++_}
@@ -23,7 +24,7 @@ use Rattle.channels.specs.declared.phy.AdvertisingChannel.{AdvertisingChannel}
 use Rattle.channels.specs.declared.phy.AdvertisingChannel.the-variants.{Channel37, Channel38, Channel39}
 use Rattle.records.specs.Area.{readArea, rewritten}
 use Rattle.records.specs.declared.area.Area.the-variants as area
-use Rattle.addresses.specs.Address.{kindOf, addressOf}
+use Rattle.addresses.specs.Address.{kindOf, isRandom, addressOf}
 use Rattle.addresses.specs.Filter.{isList}
 use Rattle.addresses.specs.Header.{headerOf, bits, txAdd}
 use Rattle.addresses.specs.Laws.{Entry}
@@ -35,7 +36,7 @@ use Rattle.addresses.specs.declared.header.Header.{Header}
 use Rattle.addresses.specs.declared.header.PduType.the-variants.{AdvNonconnInd}
 use Rattle.advertising.specs.Laws.{nine}
 use Rattle.advertising.specs.Pdu.{noRequest, noAddress, dataIn, decodedAs, decodeOf}
-use Rattle.advertising.specs.PduBuf.{payloadOf, payloadAfter}
+use Rattle.advertising.specs.PduBuf.{headerFor, payloadOf, payloadAfter}
 use Rattle.advertising.specs.declared.pdu.AdvData.{AdvData}
 use Rattle.advertising.specs.declared.pdu.Outcome.the-variants as outcome
 use Rattle.beacon.specs.Scanner.{scannerOf, configured, timerUpdated, isListFor, reportOf, unreported, scanned, reportNumber}
@@ -105,6 +106,8 @@ pub record Refusing (a : DeviceAddress) (s : List ℕ) : Type 0 where
 pub record Broadcasting (a : DeviceAddress) (s : List ℕ) (n : ℕ) : Type 0 where
   pub beacon : Beacon
   pub made : beaconOf a s ≡ record { outcome = outcome.Accepted; beacon = beacon }
+  -- type 2, TxAdd the address's kind, no RxAdd and no reserved bit
+  pub header : beacon .pdu .header ≡ headerFor AdvNonconnInd (isRandom (a .kind)) false (6 + length s)
   pub place : AdvData
   pub decoded : decodeOf (beacon .pdu .header) (payloadOf (beacon .pdu)) ≡ decodedAs outcome.Accepted AdvNonconnInd a noAddress place noRequest
   pub number-of-records : place .count ≡ n
@@ -114,6 +117,14 @@ pub record Broadcasting (a : DeviceAddress) (s : List ℕ) (n : ℕ) : Type 0 wh
   pub heard : (scanner : BeaconScanner) (list : List ℕ) → Lets (scanner .filter .scan) list a
       → scanned scanner (beacon .pdu .header) (payloadOf (beacon .pdu)) true list
       ≡ record { report = report.Beacon; sender = a; «adv_data» = place; channel = scanner .channel }
+
+-- "Sending a beacon writes one type 2 PDU's payload": whatever the records, what can be sent has type 2 and the address as its sender.
+pub record Sendable (a : DeviceAddress) (s : List ℕ) : Type 0 where
+  -- after a refusal it is the beacon without records
+  pub refused : (e : Error) → beaconOf a s .outcome ≡ outcome.Refused e → beaconOf a s .beacon ≡ beaconOf a [] .beacon
+  pub type-2 : length (a .bytes) ≡ 6 → bits 0 4 (beaconOf a s .beacon .pdu .header) ≡ 2
+  pub sender : length (a .bytes) ≡ 6
+      → addressOf (take 6 (payloadOf (beaconOf a s .beacon .pdu))) (kindOf (txAdd (beaconOf a s .beacon .pdu .header))) ≡ a
 
 -- Document 01's row 42 09, `nine` being its nine octets: CRC-good, it is reported with a random sender and one record.
 pub record Row : Type 0 where

@@ -27,7 +27,7 @@ pub struct Beacon {
     pdu: PduBuf,
 }
 
-// What making a beacon finds. Where it is refused, the beacon is all zeros and has no meaning.
+// What making a beacon finds. Where it is refused, the beacon is the address's without records.
 pub struct Made {
     pub outcome: Outcome,
     pub beacon: Beacon,
@@ -46,9 +46,19 @@ impl Beacon {
     {
         let built = PduBuf::beacon(addr, data);
         let outcome = built.outcome;
-        let pdu = built.pdu;
-        let beacon = Beacon { pdu };
-        Made { outcome, beacon }
+        match outcome {
+            Outcome::Accepted => {
+                let pdu = built.pdu;
+                let beacon = Beacon { pdu };
+                Made { outcome, beacon }
+            }
+            Outcome::Refused(_) => {
+                let bare = PduBuf::beacon(addr, &[0u8; 0]);
+                let pdu = bare.pdu;
+                let beacon = Beacon { pdu };
+                Made { outcome, beacon }
+            }
+        }
     }
 
     // Broadcasts the beacon once on every advertising channel: the payload is written to the front of `tx`, or nothing where that is too short.
