@@ -1,29 +1,29 @@
 -- `beacon::heard` meets its contract: the checks in their order. Assumes nothing.
-use mathlib.Core.Bool.{Bool, true, false}
-use mathlib.Core.Path.{_≡_, sym, _∙_}
+use mathlib.Core.Bool.{Bool}
+use mathlib.Core.Path.{_≡_, sym, ap, _∙_}
 use borrow.Author.Needs.{needs}
 use Rattle.addresses.specs.Header.{isBeacon, bits, typeOf}
 use Rattle.addresses.specs.declared.header.Header.{Header}
+use Rattle.addresses.specs.declared.header.PduType.{PduType}
 use Rattle.beacon.specs.Scanner.{isType2, heardOf}
 use Rattle.beacon.proofs.Filtering.{beacon-type}
 use Rattle.beacon.proofs.beacon.heard.Statement.{statement}
 use Rattle.beacon.proofs.beacon.heard.Tie as tie
 
 -- the code's test of the type
-type-2 : (h : Header) {b : Bool} → isBeacon (typeOf h) ≡ b → isType2 h ≡ b
-type-2 h test = sym (beacon-type (bits 0 4 h)) ∙ test
+type-2 : (h : Header) {ty : PduType} {b t : Bool} → ty ≡ typeOf h → b ≡ t → b ≡ isBeacon ty → isType2 h ≡ t
+type-2 h is came test = sym (beacon-type (bits 0 4 h)) ∙ sym (ap isBeacon is) ∙ sym test ∙ came
 
 returns : tie.Need-returns
 unfolding heardOf
 returns c =
     let type = c .before .before .before in
     let a = type .before .before .before .before .args in
-    let is-beacon : isBeacon (typeOf (a .header)) ≡ true = cc (type .before .type- .ensures) in
     c .of-decoded .ensures
     ∙ rw (
       c .before .from-header-and-payload .ensures,
       type .before .before .if1 .taken,
-      type-2 (a .header) is-beacon,
+      type-2 (a .header) (type .before .type- .ensures) (c .before .before .if2 .taken) (search needs),
     )
 
 returns-2 : tie.Need-returns-2
@@ -31,11 +31,10 @@ unfolding heardOf
 returns-2 c =
     let type = c .before .before in
     let a = type .before .before .before .before .args in
-    let no-beacon : isBeacon (typeOf (a .header)) ≡ false = cc (type .before .type- .ensures) in
     c .unreported .ensures
     ∙ rw (
       type .before .before .if1 .taken,
-      type-2 (a .header) no-beacon,
+      type-2 (a .header) (type .before .type- .ensures) (c .before .if2 .left) (search needs),
     )
 
 returns-3 : tie.Need-returns-3
