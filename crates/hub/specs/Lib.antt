@@ -1,0 +1,4 @@
+pub mod Item
+pub mod Line
+pub mod Log
+pub mod Reads
