@@ -8,7 +8,7 @@ ghost use Rattle.addresses.specs.Address.{kindNumber};
 ghost use Rattle.columns.specs.Column.{column};
 ghost use Rattle.hub.specs.Item.{wholeSize};
 ghost use Rattle.hub.specs.Line.{reportLine, line, reportsIn, lineSize, lastSize, roomFor};
-ghost use Rattle.hub.specs.Log.{heardIn, scannerAfter, leftOver, lastLine, fresh, linesOf, restOf, isStuck, loggedOf, turnOf, Counted, isReady, takenIn, restAfter, linesAfter};
+ghost use Rattle.hub.specs.Log.{start, heardIn, scannerAfter, leftOver, lastLine, fresh, linesOf, restOf, isStuck, loggedOf, turnOf, Counted, isReady, takenIn, restAfter, linesAfter};
 use addresses::device_address::DeviceAddress;
 use addresses::header::Header;
 use addresses::header::HeaderMade;
@@ -158,7 +158,7 @@ fn log_item(number: usize, scanner: BeaconScanner, item: &[u8], out: &mut [u8], 
 
 // The input has ticks and no times.
 fn start() -> Instant
-    ensures { λ r. ⌜ r .0 ≡ 0 ⌝ }
+    ensures { λ r. ⌜ r ≡ start ⌝ }
 {
     Instant::from_raw_micros(0)
 }
@@ -260,7 +260,7 @@ fn keep(buf: &mut [u8], from: usize, end: usize)
 }
 
 // `take_in` where all is ready.
-fn turn(hub: Hub, buf: &mut [u8], filled: usize, out: &mut [u8]) -> Turn
+fn take_turn(hub: Hub, buf: &mut [u8], filled: usize, out: &mut [u8]) -> Turn
     requires { ⌜ Counted hub × ((filled ≤ length (now buf)) × (roomFor filled ≤ length (now out))) ⌝ }
     ensures { λ r. ⌜ (r ≡ turnOf hub (take filled (now (buf .entry)))) × ((now (buf .exit) ≡ restOf hub (take filled (now (buf .entry))) ++ drop (r .kept) (now (buf .entry))) × (now (out .exit) ≡ linesOf hub (take filled (now (buf .entry))) ++ drop (r .written) (now (out .entry)))) ⌝ }
 {
@@ -331,7 +331,7 @@ impl Hub {
         ensures { λ r. ⌜ (r ≡ takenIn self (now (buf .entry)) filled (now (out .entry))) × ((now (buf .exit) ≡ restAfter self (now (buf .entry)) filled (now (out .entry))) × (now (out .exit) ≡ linesAfter self (now (buf .entry)) filled (now (out .entry)))) ⌝ }
     {
         if self.is_ready(filled, buf.len(), out.len()) {
-            return TakenIn::Turn(turn(self, buf, filled, out));
+            return TakenIn::Turn(take_turn(self, buf, filled, out));
         }
         TakenIn::Refused
     }
