@@ -1,3 +1,4 @@
 pub mod Items
 pub mod Pieces
 pub mod Reports
+pub mod AnyReads

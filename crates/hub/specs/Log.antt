@@ -122,14 +122,19 @@ Counted h = (h .items ≤ 999999) × (h .reports ≤ h .items)
 abbrev pub isReady : Hub → ℕ → ℕ → ℕ → Bool
 isReady h filled size space = leb (h .items) 999999 && (leb (h .reports) (h .items) && (leb filled size && leb (roomFor filled) space))
 
--- what taking in the first `filled` octets of `buf` answers, and what the two buffers hold then
+-- the first `filled` octets of `buf` taken in: what is left over at the front of `buf`, and the lines at the front of `out`
+abbrev pub restIn : Hub → List ℕ → ℕ → List ℕ
+restIn h buf filled = restOf h (take filled buf) ++ drop (length (restOf h (take filled buf))) buf
+
+abbrev pub linesIn : Hub → List ℕ → List ℕ → List ℕ
+linesIn h s out = linesOf h s ++ drop (length (linesOf h s)) out
+
+-- what `take_in` answers, and what the two buffers hold then
 abbrev pub takenIn : Hub → List ℕ → ℕ → List ℕ → TakenIn
 takenIn h buf filled out = cond (isReady h filled (length buf) (length out)) (taken.Turn (turnOf h (take filled buf))) taken.Refused
 
 abbrev pub restAfter : Hub → List ℕ → ℕ → List ℕ → List ℕ
-restAfter h buf filled out =
-    cond (isReady h filled (length buf) (length out)) (restOf h (take filled buf) ++ drop (length (restOf h (take filled buf))) buf) buf
+restAfter h buf filled out = cond (isReady h filled (length buf) (length out)) (restIn h buf filled) buf
 
 abbrev pub linesAfter : Hub → List ℕ → ℕ → List ℕ → List ℕ
-linesAfter h buf filled out =
-    cond (isReady h filled (length buf) (length out)) (linesOf h (take filled buf) ++ drop (length (linesOf h (take filled buf))) out) out
+linesAfter h buf filled out = cond (isReady h filled (length buf) (length out)) (linesIn h (take filled buf) out) out

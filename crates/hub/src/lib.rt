@@ -8,7 +8,7 @@ ghost use Rattle.addresses.specs.Address.{kindNumber};
 ghost use Rattle.columns.specs.Column.{column};
 ghost use Rattle.hub.specs.Item.{wholeSize};
 ghost use Rattle.hub.specs.Line.{reportLine, line, reportsIn, lineSize, lastSize, roomFor};
-ghost use Rattle.hub.specs.Log.{start, heardIn, scannerAfter, leftOver, lastLine, fresh, linesOf, restOf, isStuck, loggedOf, turnOf, Counted, isReady, takenIn, restAfter, linesAfter};
+ghost use Rattle.hub.specs.Log.{start, heardIn, scannerAfter, leftOver, lastLine, fresh, isStuck, loggedOf, turnOf, Counted, isReady, takenIn, restIn, linesIn, restAfter, linesAfter};
 use addresses::device_address::DeviceAddress;
 use addresses::header::Header;
 use addresses::header::HeaderMade;
@@ -202,7 +202,7 @@ fn whole_size(s: &[u8], at: usize) -> usize
 // Logs the whole items at the front of s.
 fn log_items(hub: Hub, s: &[u8], out: &mut [u8]) -> Logged
     requires { ⌜ Counted hub × (roomFor (length (now s)) ≤ length (now out)) ⌝ }
-    ensures { λ r. ⌜ (r ≡ loggedOf hub (now (s .entry))) × (now (out .exit) ≡ linesOf hub (now (s .entry)) ++ drop (r .written) (now (out .entry))) ⌝ }
+    ensures { λ r. ⌜ (r ≡ loggedOf hub (now (s .entry))) × (now (out .exit) ≡ linesIn hub (now (s .entry)) (now (out .entry))) ⌝ }
 {
     let mut items = hub.items;
     let mut reports = hub.reports;
@@ -262,7 +262,7 @@ fn keep(buf: &mut [u8], from: usize, end: usize)
 // `take_in` where all is ready.
 fn take_turn(hub: Hub, buf: &mut [u8], filled: usize, out: &mut [u8]) -> Turn
     requires { ⌜ Counted hub × ((filled ≤ length (now buf)) × (roomFor filled ≤ length (now out))) ⌝ }
-    ensures { λ r. ⌜ (r ≡ turnOf hub (take filled (now (buf .entry)))) × ((now (buf .exit) ≡ restOf hub (take filled (now (buf .entry))) ++ drop (r .kept) (now (buf .entry))) × (now (out .exit) ≡ linesOf hub (take filled (now (buf .entry))) ++ drop (r .written) (now (out .entry)))) ⌝ }
+    ensures { λ r. ⌜ (r ≡ turnOf hub (take filled (now (buf .entry)))) × ((now (buf .exit) ≡ restIn hub (now (buf .entry)) filled) × (now (out .exit) ≡ linesIn hub (take filled (now (buf .entry))) (now (out .entry)))) ⌝ }
 {
     let logged = log_items(hub, &buf[..filled], out);
     let after = logged.hub;

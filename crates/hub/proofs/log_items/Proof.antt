@@ -11,7 +11,7 @@ use Rattle.octets.specs.Bytes.{written}
 use Rattle.beacon.specs.declared.beacon.BeaconScanner.{BeaconScanner}
 use Rattle.hub.specs.Item.{wholeSize, items}
 use Rattle.hub.specs.Line.{lineSize, roomFor, line, reportsIn}
-use Rattle.hub.specs.Log.{heardIn, scannerAfter, after, printed, afterAll, printedAll, itemsFor, linesOf, hubOf, loggedOf, Counted}
+use Rattle.hub.specs.Log.{heardIn, scannerAfter, after, printed, afterAll, printedAll, itemsFor, linesOf, hubOf, loggedOf, Counted, linesIn}
 use Rattle.hub.specs.declared.Hub.{Hub}
 use Rattle.hub.proofs.Items.{whole-fits, none-whole, one-whole, full}
 use Rattle.hub.proofs.Pieces.{Wrote, nothing-yet, as-long, then-piece}
@@ -105,12 +105,12 @@ module _ {h : Hub} {s out₀ out : List ℕ} {count found : ℕ} {scanner : Beac
       let size : to ≡ length (linesOf h s) = all-long ∙ ap length all-done in
       λ i. record { hub = hubs i; taken = octets i; written = size i }
 
-  contents : out ≡ linesOf h s ++ drop to out₀
+  contents : out ≡ linesIn h s out₀
   contents =
-      let place : 0 + length (p .lines) ≡ to = omega (arith, all-long) in
+      let place : 0 + length (p .lines) ≡ length (p .lines) = omega arith in
       p .wrote .contents ∙ rw (place, all-done)
 
-  logged : (record { hub = hub count found scanner; taken = at; written = to } ≡ loggedOf h s) × (out ≡ linesOf h s ++ drop to out₀)
+  logged : (record { hub = hub count found scanner; taken = at; written = to } ≡ loggedOf h s) × (out ≡ linesIn h s out₀)
   logged = (answer, contents)
 
 abbrev Inv-loop : tie.InvT-loop
