@@ -5,9 +5,9 @@ use mathlib.Core.Bool.{Bool, true, false, cond, true≢false}
 use mathlib.Core.List.{List, [], _∷_, _++_, append-assoc, append-nil, append-cancel-left, flatten}
 use Prim.Native.Nat.{ℕ, zero, suc, _+_, _-_, _<_, _≤_}
 use native.Mathlib.Omega.{arith}
-use lib.ListN.{length, drop, length-append}
+use lib.ListN.{length, drop, length-append, length-drop}
 use lib.Dec.{leb, ltb, eqb·suc-zero}
-use borrow.Author.Tests.{leb-true, leb-false, ltb-true, ltb-false}
+use borrow.Author.Tests.{le-leb, leb-true, leb-false, ltb-true, ltb-false}
 use Rattle.hub.specs.declared.Hub.{Hub}
 use Rattle.hub.specs.Line.{roomFor}
 use Rattle.hub.specs.Item.{sizeOf, wholeSize, items, behind}
@@ -146,10 +146,17 @@ lines-room h [] = omega arith
 lines-room h (item ∷ its) =
     simp length-append (omega (arith, line-size (h .items + 1) (h .scanner) item, line-room (h .scanner) item, lines-room (after h item) its))
 
+rest-fits : (h : Hub) (s : List ℕ) → length (restOf h s) ≤ length s
+unfolding behind
+rest-fits h s = rw length-drop (omega arith)
+
 pub turning : (h : Hub) (s : List ℕ) → Turning h s
 turning h s =
     record {
+      accepted = λ buf filled out counts fits enough.
+          simp (le-leb (h .items) 999999 (counts .0), le-leb (h .reports) (h .items) (counts .1), le-leb filled (length buf) fits, le-leb (roomFor filled) (length out) enough);
       counted = λ before. (omega (arith, before .0, counted h (itemsFor h s), items-most (999999 - h .items) s), fewer-reports h (itemsFor h s) (before .1));
       room = omega (arith, lines-room h (itemsFor h s), items-fit (999999 - h .items) s);
+      kept = rest-fits h s;
       short = kept-short h s;
     }
