@@ -10,10 +10,10 @@ use lib.Dec.{leb, ltb, eqb·suc-zero}
 use borrow.Author.Tests.{le-leb, leb-true, leb-false, ltb-true, ltb-false}
 use Rattle.hub.specs.declared.Hub.{Hub}
 use Rattle.hub.specs.Line.{roomFor}
-use Rattle.hub.specs.Item.{sizeOf, wholeSize, items, behind}
+use Rattle.items.specs.Item.{sizeOf, wholeSize, items, behind}
 use Rattle.hub.specs.Log.{heardIn, after, afterAll, printed, printedAll, itemsFor, linesOf, hubOf, restOf, isStuck, fresh, lastLine, logOf}
 use Rattle.hub.specs.Reads.{writtenFor, AnyReads, Turning}
-use Rattle.hub.proofs.Items.{none-whole, one-whole, none-left, full, no-size, begun, at-front, items-fit, items-more, behind-more}
+use Rattle.items.proofs.Items.{none-whole, one-whole, none-left, none-more, no-size, begun, at-front, items-fit, items-more, behind-more}
 use Rattle.hub.proofs.Reports.{line-size, line-room, one-report}
 
 -- what many items do, in two parts
@@ -73,7 +73,7 @@ stuck-none h [] more e = absurd (true≢false (sym e))
 stuck-none h (first ∷ rest) more stuck = go (leb 999999 (h .items)) refl stuck
   where
     go : (most : Bool) → leb 999999 (h .items) ≡ most → cond most true (ltb 2 first) ≡ true → itemsFor h ((first ∷ rest) ++ more) ≡ []
-    go true e is = full h ((first ∷ rest) ++ more) (leb-true 999999 (h .items) e)
+    go true e is = none-more (999999 - h .items) ((first ∷ rest) ++ more) (omega (arith, leb-true 999999 (h .items) e))
     go false e is = none-whole (999999 - h .items) ((first ∷ rest) ++ more) (no-size first (rest ++ more) (ltb-true 2 first is))
 
 -- and the last line says so already

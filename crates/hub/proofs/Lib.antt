@@ -1,4 +1,4 @@
-pub mod Items
 pub mod Pieces
 pub mod Reports
 pub mod AnyReads
+pub mod Samples

@@ -1,4 +1,4 @@
-pub mod Item
 pub mod Line
 pub mod Log
 pub mod Reads
+pub mod Sample

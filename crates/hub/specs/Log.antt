@@ -25,7 +25,7 @@ use Rattle.beacon.specs.declared.beacon.BeaconScanner.{BeaconScanner}
 use Rattle.beacon.specs.declared.beacon.Report.the-variants as report
 use Rattle.beacon.specs.declared.beacon.Scanned.{Scanned}
 use Rattle.columns.specs.Column.{column}
-use Rattle.hub.specs.Item.{items, behind}
+use Rattle.items.specs.Item.{items, behind}
 use Rattle.hub.specs.Line.{line, reportsIn, roomFor}
 use Rattle.hub.specs.declared.Hub.{Hub}
 use Rattle.hub.specs.declared.Logged.{Logged}

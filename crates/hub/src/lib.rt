@@ -6,7 +6,6 @@ ghost use lib.ListN.{length, take, drop};
 ghost use Rattle.octets.specs.Bytes.{written};
 ghost use Rattle.addresses.specs.Address.{kindNumber};
 ghost use Rattle.columns.specs.Column.{column};
-ghost use Rattle.hub.specs.Item.{wholeSize};
 ghost use Rattle.hub.specs.Line.{reportLine, line, reportsIn, lineSize, lastSize, roomFor};
 ghost use Rattle.hub.specs.Log.{start, heardIn, scannerAfter, leftOver, lastLine, fresh, isStuck, loggedOf, turnOf, Counted, isReady, takenIn, restIn, linesIn, restAfter, linesAfter};
 use addresses::device_address::DeviceAddress;
@@ -19,12 +18,6 @@ use octets::time::Instant;
 
 // The highest item number that six columns hold.
 const MOST_ITEMS: usize = 999_999;
-
-const TICK: u8 = 0x00;
-
-const CRC_GOOD: u8 = 0x01;
-
-const CRC_BAD: u8 = 0x02;
 
 // The octets of a report's line, of the last line, and of lines for each octet of items.
 const LINE: usize = 36;
@@ -147,7 +140,7 @@ fn log_item(number: usize, scanner: BeaconScanner, item: &[u8], out: &mut [u8], 
             let scanned = scanner.process_adv_packet(
                 header,
                 &item[3..],
-                item[0] == CRC_GOOD,
+                item[0] == items::CRC_GOOD,
                 &item[..0],
             );
             log_scanned(number, scanned, out, at)
@@ -170,33 +163,11 @@ fn listen(scanner: BeaconScanner, item: &[u8]) -> BeaconScanner
     if item.len() == 0 {
         return scanner;
     }
-    if item[0] == TICK {
+    if item[0] == items::TICK {
         let updated = scanner.timer_update(start());
         return updated.scanner;
     }
     scanner
-}
-
-// The size of the whole item at `at`, or 0.
-fn whole_size(s: &[u8], at: usize) -> usize
-    requires { ⌜ at ≤ length (now s) ⌝ }
-    ensures { λ r. ⌜ r ≡ wholeSize (drop at (now (s .entry))) ⌝ }
-{
-    let left = s.len() - at;
-    if left == 0 {
-        return 0;
-    }
-    if s[at] == TICK {
-        return 1;
-    }
-    if CRC_BAD < s[at] {
-        return 0;
-    }
-    if left < 3 {
-        return 0;
-    }
-    let size = 3 + wide(s[at + 2]) % 64;
-    if size <= left { size } else { 0 }
 }
 
 // Logs the whole items at the front of s.
@@ -210,7 +181,7 @@ fn log_items(hub: Hub, s: &[u8], out: &mut [u8]) -> Logged
     let mut at = 0;
     let mut written = 0;
     while items < MOST_ITEMS {
-        let size = whole_size(s, at);
+        let size = items::whole_size(s, at);
         if size == 0 {
             break;
         }
@@ -244,7 +215,7 @@ fn is_stuck(items: usize, rest: &[u8]) -> bool
     if MOST_ITEMS <= items {
         return true;
     }
-    CRC_BAD < rest[0]
+    items::CRC_BAD < rest[0]
 }
 
 // Moves the octets from `from` to `end` to the front.

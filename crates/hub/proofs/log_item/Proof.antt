@@ -34,29 +34,29 @@ short number s (a ∷ b ∷ []) out at h = (refl, nothing-yet out at .contents)
 short number s (a ∷ b ∷ d ∷ payload) out at h = absurd (omega arith)
 
 -- a packet, with its parts as the code takes them
-packet : (s : BeaconScanner) (item : List ℕ) (h : Header) → 3 ≤ length item → parsed (take 2 (drop 1 item)) ≡ made.Header h
-    → heardIn s item ≡ scanned s h (take (length item - 3) (drop 3 item)) (eqb (getD item 0 0) 1) []
+packet : (s : BeaconScanner) (item : List ℕ) (h : Header) {r : HeaderMade} {x : Scanned} → 3 ≤ length item → r ≡ parsed (take 2 (drop 1 item)) → r ≡ made.Header h
+    → x ≡ scanned s h (take (length item - 3) (drop 3 item)) (eqb (getD item 0 0) 1) [] → heardIn s item ≡ x
 unfolding heardIn
-packet s [] h long is = absurd (omega arith)
-packet s (a ∷ []) h long is = absurd (omega arith)
-packet s (a ∷ b ∷ []) h long is = absurd (omega arith)
-packet s (a ∷ b ∷ d ∷ payload) h long is =
+packet s [] h long of is answer = absurd (omega arith)
+packet s (a ∷ []) h long of is answer = absurd (omega arith)
+packet s (a ∷ b ∷ []) h long of is answer = absurd (omega arith)
+packet s (a ∷ b ∷ d ∷ payload) h long of is answer =
     let all : take (length (a ∷ b ∷ d ∷ payload) - 3) payload ≡ payload = take-all (length (a ∷ b ∷ d ∷ payload) - 3) payload (omega arith) in
-    rw all (ap (λ (x : Header). scanned s x payload (eqb a 1) []) (cc is))
+    ap (λ (y : Header). scanned s y payload (eqb a 1) []) (cc (of, is)) ∙ sym (answer ∙ ap (λ (l : List ℕ). scanned s h l (eqb a 1) []) all)
 
 -- its header is whole
-no-refusal : (item : List ℕ) (e : Error) → 3 ≤ length item → parsed (take 2 (drop 1 item)) ≡ made.Refused e → ⊥
-no-refusal [] e long is = omega arith
-no-refusal (a ∷ []) e long is = omega arith
-no-refusal (a ∷ b ∷ []) e long is = omega arith
-no-refusal (a ∷ b ∷ d ∷ payload) e long is = let z : _≡_ {A = ℕ} 0 1 = cc in omega arith
+no-refusal : (item : List ℕ) (e : Error) {r : HeaderMade} → 3 ≤ length item → r ≡ parsed (take 2 (drop 1 item)) → r ≡ made.Refused e → ⊥
+no-refusal [] e long of is = omega arith
+no-refusal (a ∷ []) e long of is = omega arith
+no-refusal (a ∷ b ∷ []) e long of is = omega arith
+no-refusal (a ∷ b ∷ d ∷ payload) e long of is = let z : _≡_ {A = ℕ} 0 1 = cc in omega arith
 
 -- what the scanner answers is what the item gives
 answered : (c : tie.After-process-adv-packet) → let a = c .before .before .before .before .before .before .before .before .before .before .before .before .args in heardIn (a .scanner) (a .item .now) ≡ c .«process-adv-packet» .result
 answered c =
     let at-header = c .before .before .before .before .before in
     let at-test = at-header .before .before .before .before in
-    packet _ _ _ (at-test .if1 .left) (sym (at-header .before .before .parse .ensures) ∙ at-header .header .given .1) ∙ sym (c .«process-adv-packet» .ensures)
+    packet _ _ _ (at-test .if1 .left) (at-header .before .before .parse .ensures) (at-header .header .given .1) (c .«process-adv-packet» .ensures)
 
 log-scanned-requires : tie.Need-log-scanned-requires
 log-scanned-requires c κs =
@@ -75,7 +75,7 @@ returns-2 c =
     carried (a .number) (a .out .now) (a .at) (answered (c .before .before .before .before)) (c .before .before .log-scanned .ensures)
 
 returns-3 : tie.Need-returns-3
-returns-3 c = absurd (no-refusal (c .before .before .before .before .before .before .before .args .item .now) _ (c .before .before .before .before .if1 .left) (sym (c .before .before .parse .ensures) ∙ c .enum-told .given .1))
+returns-3 c = absurd (no-refusal (c .before .before .before .before .before .before .before .args .item .now) _ (c .before .before .before .before .if1 .left) (c .before .before .parse .ensures) (c .enum-told .given .1))
 
 pub log-item-spec : {M : Type 1} → statement M
 log-item-spec =

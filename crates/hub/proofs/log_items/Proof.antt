@@ -9,11 +9,11 @@ use lib.Seq.{drop-drop}
 use borrow.Author.Needs.{needs}
 use Rattle.octets.specs.Bytes.{written}
 use Rattle.beacon.specs.declared.beacon.BeaconScanner.{BeaconScanner}
-use Rattle.hub.specs.Item.{wholeSize, items}
+use Rattle.items.specs.Item.{wholeSize, items}
 use Rattle.hub.specs.Line.{lineSize, roomFor, line, reportsIn}
 use Rattle.hub.specs.Log.{heardIn, scannerAfter, after, printed, afterAll, printedAll, itemsFor, linesOf, hubOf, loggedOf, Counted, linesIn}
 use Rattle.hub.specs.declared.Hub.{Hub}
-use Rattle.hub.proofs.Items.{whole-fits, none-whole, one-whole, full}
+use Rattle.items.proofs.Items.{whole-fits, none-whole, one-whole, none-more}
 use Rattle.hub.proofs.Pieces.{Wrote, nothing-yet, as-long, then-piece}
 use Rattle.hub.proofs.Reports.{line-size, line-room, one-report}
 use Rattle.hub.proofs.log_items.Statement.{statement}
@@ -163,7 +163,7 @@ loop-again c =
     rw (e .0, c .listen .ensures) (advance (at-loop .loop .inv) (at-loop .before .before .before .before .pre .1) _ (at-test .before .whole-size .ensures) (at-test .before .before .loop-test .taken) (at-test .if1 .left) (e .1))
 
 returns : tie.Need-returns Inv-loop μ-loop
-returns c = logged (c .before .loop .inv) (full (hub _ (c .before .loop .reports) (c .before .loop .scanner)) _ (c .loop-test .left))
+returns c = logged (c .before .loop .inv) (none-more _ _ (omega arith))
 
 returns-2 : tie.Need-returns-2 Inv-loop μ-loop
 returns-2 c = logged (c .before .before .before .loop .inv) (none-whole _ _ (sym (c .before .whole-size .ensures) ∙ c .if1 .taken))
@@ -175,7 +175,7 @@ log-items-spec =
     Inv-loop
     μ-loop
     loop-holds
-    (λ c κs. c .before .loop .inv .inside)
+    (λ c κs. search needs)
     (λ c. omega (arith, turn c))
     (λ c. omega arith)
     (λ c. omega arith)

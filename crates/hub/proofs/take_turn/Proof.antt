@@ -7,11 +7,11 @@ use native.Mathlib.Omega.{arith}
 use lib.ListN.{length, take, drop, length-take, length-drop}
 use lib.Seq.{take-nil}
 use borrow.Author.Needs.{needs}
-use Rattle.hub.specs.Item.{behind}
+use Rattle.items.specs.Item.{behind}
 use Rattle.hub.specs.Log.{itemsFor, hubOf, restOf, isStuck, loggedOf, turnOf, restIn}
 use Rattle.hub.specs.declared.Hub.{Hub}
 use Rattle.hub.specs.declared.Logged.{Logged}
-use Rattle.hub.proofs.Items.{items-fit}
+use Rattle.items.proofs.Items.{items-fit}
 use Rattle.hub.proofs.take_turn.Statement.{statement}
 use Rattle.hub.proofs.take_turn.Tie as tie
 

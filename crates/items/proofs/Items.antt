@@ -10,9 +10,7 @@ use lib.Seq.{getD-drop, getD-take, length-take-le, take-append-le, drop-append-l
 use lib.Dec.{leb, ltb, eqb}
 use borrow.Author.Tests.{le-leb, lt-leb, eq-eqb, ne-eqb, leb-true, leb-false, lt-ltb, le-ltb}
 use Rattle.octets.proofs.Places.{front}
-use Rattle.hub.specs.declared.Hub.{Hub}
-use Rattle.hub.specs.Log.{itemsFor}
-use Rattle.hub.specs.Item.{sizeOf, wholeSize, items, behind, AllWhole, Cut}
+use Rattle.items.specs.Item.{sizeOf, wholeSize, items, behind, AllWhole, Cut}
 
 pub whole-is : (s : List ℕ) {n : ℕ} → sizeOf s ≡ n → n ≤ length s → wholeSize s ≡ n
 unfolding wholeSize
@@ -49,10 +47,10 @@ pub one-whole : (n : ℕ) (s : List ℕ) → (wholeSize s ≡ 0 → ⊥) → ite
 unfolding items
 one-whole n s item = simp (ne-eqb _ _ item)
 
--- the hub counts no further
-pub full : (h : Hub) (s : List ℕ) → 999999 ≤ h .items → itemsFor h s ≡ []
+-- no more are wanted
+pub none-more : (n : ℕ) (s : List ℕ) → n ≡ 0 → items n s ≡ []
 unfolding items
-full h s most = let no-more : 999999 - h .items ≡ 0 = omega arith in rw no-more
+none-more n s is = rw is
 
 -- no item begins with this octet
 pub no-size : (first : ℕ) (rest : List ℕ) → 2 < first → wholeSize (first ∷ rest) ≡ 0
