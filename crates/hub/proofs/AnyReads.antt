@@ -3,13 +3,13 @@ use mathlib.Core.Path.{_≡_, refl, sym, ap, _∙_}
 use mathlib.Core.Logic.{⊎-elim}
 use mathlib.Core.Bool.{Bool, true, false, cond, true≢false}
 use mathlib.Core.List.{List, [], _∷_, _++_, append-assoc, append-nil, append-cancel-left, flatten}
-use Prim.Native.Nat.{ℕ, zero, suc, _+_, _-_, _<_, _≤_}
+use Prim.Native.Nat.{ℕ, zero, suc, _+_, _-_, _*_, _<_, _≤_}
 use native.Mathlib.Omega.{arith}
 use lib.ListN.{length, drop, length-append, length-drop}
 use lib.Dec.{leb, ltb, eqb·suc-zero}
 use borrow.Author.Tests.{le-leb, leb-true, leb-false, ltb-true, ltb-false}
 use Rattle.hub.specs.declared.Hub.{Hub}
-use Rattle.hub.specs.Line.{roomFor}
+use Rattle.hub.specs.Line.{lineSize, reportsIn, roomFor}
 use Rattle.items.specs.Item.{sizeOf, wholeSize, items, behind}
 use Rattle.hub.specs.Log.{heardIn, after, afterAll, printed, printedAll, itemsFor, linesOf, hubOf, restOf, isStuck, fresh, lastLine, logOf}
 use Rattle.hub.specs.Reads.{writtenFor, AnyReads, Turning}
@@ -140,11 +140,14 @@ unfolding afterAll after
 fewer-reports h [] fewer = fewer
 fewer-reports h (item ∷ its) fewer = fewer-reports (after h item) its (omega (arith, one-report (heardIn (h .scanner) item)))
 
+printed-size : (h : Hub) (item : List ℕ) → length (printed h item) ≡ lineSize * reportsIn (heardIn (h .scanner) item)
+unfolding printed
+printed-size h item = line-size _ (h .scanner) item
+
 lines-room : (h : Hub) (its : List (List ℕ)) → length (printedAll h its) ≤ roomFor (length (flatten its))
-unfolding printedAll printed flatten
+unfolding printedAll flatten
 lines-room h [] = omega arith
-lines-room h (item ∷ its) =
-    simp length-append (omega (arith, line-size (h .items + 1) (h .scanner) item, line-room (h .scanner) item, lines-room (after h item) its))
+lines-room h (item ∷ its) = simp length-append (omega (arith, printed-size h item, line-room (h .scanner) item, lines-room (after h item) its))
 
 rest-fits : (h : Hub) (s : List ℕ) → length (restOf h s) ≤ length s
 unfolding behind

@@ -1,7 +1,6 @@
 -- `hub::kind_number` meets its contract. Assumes nothing.
 use mathlib.Core.Path.{_≡_, refl, sym, ap, _∙_}
-use mathlib.Core.Bool.{Bool, true, false, cond}
-use Prim.Native.Nat.{ℕ}
+use mathlib.Core.Bool.{Bool, cond}
 use borrow.Author.Needs.{needs}
 use Rattle.addresses.specs.Address.{kindNumber, isRandom}
 use Rattle.addresses.specs.declared.device_address.AddressKind.{AddressKind}

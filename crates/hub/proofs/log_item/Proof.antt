@@ -1,8 +1,7 @@
 -- `hub::log_item` meets its contract. Assumes nothing.
 use mathlib.Core.Path.{_≡_, refl, sym, ap, _∙_, subst}
-use mathlib.Core.Bool.{Bool, true, false, cond}
 use mathlib.Core.List.{List, [], _∷_}
-use Prim.Native.Nat.{ℕ, _+_, _-_, _*_, _<_, _≤_}
+use Prim.Native.Nat.{ℕ, _-_, _<_, _≤_}
 use native.Mathlib.Omega.{arith}
 use lib.ListN.{length, getD, take, drop}
 use lib.Dec.{eqb}
@@ -17,7 +16,7 @@ use Rattle.addresses.specs.declared.header.HeaderMade.the-variants as made
 use Rattle.beacon.specs.Scanner.{scanned}
 use Rattle.beacon.specs.declared.beacon.BeaconScanner.{BeaconScanner}
 use Rattle.beacon.specs.declared.beacon.Scanned.{Scanned}
-use Rattle.hub.specs.Line.{lineSize, line, reportsIn}
+use Rattle.hub.specs.Line.{line, reportsIn}
 use Rattle.hub.specs.Log.{heardIn}
 use Rattle.hub.proofs.Pieces.{nothing-yet}
 use Rattle.hub.proofs.Reports.{line-room}

@@ -1,16 +1,15 @@
 -- `hub::log_scanned` meets its contract. Assumes nothing.
 use mathlib.Core.Path.{_≡_, refl, sym, ap, _∙_}
-use mathlib.Core.Bool.{Bool, true, false, cond}
+use mathlib.Core.Bool.{Bool, false, cond}
 use mathlib.Core.List.{List, []}
-use Prim.Native.Nat.{ℕ, _+_, _*_, _≤_}
+use Prim.Native.Nat.{ℕ}
 use native.Mathlib.Omega.{arith}
-use lib.ListN.{length}
 use borrow.Author.Needs.{needs}
 use Rattle.octets.specs.Bytes.{written}
 use Rattle.beacon.specs.declared.beacon.Report.{Report}
 use Rattle.beacon.specs.declared.beacon.Report.the-variants as report
 use Rattle.beacon.specs.declared.beacon.Scanned.{Scanned}
-use Rattle.hub.specs.Line.{lineSize, isReport, reportLine, line, reportsIn}
+use Rattle.hub.specs.Line.{isReport, reportLine, line, reportsIn}
 use Rattle.hub.proofs.Pieces.{nothing-yet}
 use Rattle.hub.proofs.log_scanned.Statement.{statement}
 use Rattle.hub.proofs.log_scanned.Tie as tie

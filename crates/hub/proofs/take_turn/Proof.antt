@@ -1,14 +1,14 @@
 -- `hub::take_turn` meets its contract: what is left over of the octets is what the items do not take. Assumes nothing.
 use mathlib.Core.Path.{_≡_, sym, ap, _∙_}
 use mathlib.Core.Bool.{Bool}
-use mathlib.Core.List.{List, [], _∷_, _++_, flatten}
+use mathlib.Core.List.{List, [], _∷_, _++_}
 use Prim.Native.Nat.{ℕ, zero, suc, _-_, _≤_}
 use native.Mathlib.Omega.{arith}
 use lib.ListN.{length, take, drop, length-take, length-drop}
 use lib.Seq.{take-nil}
 use borrow.Author.Needs.{needs}
 use Rattle.items.specs.Item.{behind}
-use Rattle.hub.specs.Log.{itemsFor, hubOf, restOf, isStuck, loggedOf, turnOf, restIn}
+use Rattle.hub.specs.Log.{hubOf, restOf, isStuck, loggedOf, turnOf, restIn}
 use Rattle.hub.specs.declared.Hub.{Hub}
 use Rattle.hub.specs.declared.Logged.{Logged}
 use Rattle.items.proofs.Items.{items-fit}

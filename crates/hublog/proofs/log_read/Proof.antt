@@ -5,8 +5,7 @@ use native.Mathlib.Omega.{arith}
 use lib.ListN.{length, take, length-take}
 use borrow.Author.Needs.{needs}
 use Rattle.hub.proofs.AnyReads.{turning}
-use Rattle.hub.specs.Log.{turnOf, takenIn}
-use Rattle.hub.specs.declared.TakenIn.{TakenIn}
+use Rattle.hub.specs.Log.{turnOf}
 use Rattle.hub.specs.declared.TakenIn.the-variants as taken
 use Rattle.hub.specs.declared.Turn.{Turn}
 use Rattle.hublog.proofs.log_read.Statement.{statement}
