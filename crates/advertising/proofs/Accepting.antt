@@ -21,10 +21,16 @@ use Rattle.records.specs.Area.{readArea}
 use Rattle.records.specs.declared.area.Area.{Area}
 use Rattle.records.specs.declared.area.Area.the-variants as area
 use Rattle.advertising.specs.Laws.{Figure, Shaped, with-records, two-addresses, with-lldata, Accepting}
-use Rattle.advertising.specs.Pdu.{undirectedFigure, directedFigure, connectFigure, accuracyOf, requestOf, noRequest, noAddress, noData, senderOf, receiverOf, decodedAs, refusedPdu, withArea, undirected, directed, connectRequest, byType, decodeOf}
+use Rattle.advertising.specs.Pdu.{undirectedFigure, directedFigure, connectFigure, accuracyOf, requestOf, noRequest, noAddress, noData, senderOf, receiverOf, isAccepted, decodedAs, refusedPdu, withArea, undirected, directed, connectRequest, byType, decodeOf}
 use Rattle.advertising.specs.declared.pdu.Decoded.{Decoded}
-use Rattle.advertising.specs.declared.pdu.Outcome.the-variants.{Accepted}
+use Rattle.advertising.specs.declared.pdu.Outcome.{Outcome}
+use Rattle.advertising.specs.declared.pdu.Outcome.the-variants.{Accepted, Refused}
 use Rattle.advertising.proofs.Figures.{field-is, behind, long, cut-figure}
+
+-- an outcome that passes the test
+pub is-accepted : (o : Outcome) → isAccepted o ≡ true → o ≡ Accepted
+is-accepted Accepted e = refl
+is-accepted (Refused r) e = let z : _≡_ {A = ℕ} 0 1 = cc in absurd (omega arith)
 
 -- what is accepted was not refused
 not-refused : (b : Bool) (e : Error) (d : Decoded) → cond b (refusedPdu e) d .outcome ≡ Accepted → b ≡ false

@@ -120,6 +120,7 @@ back ty a flags s n m allows six fits good again =
     record {
       pdu = bufOf ty tx false xs;
       built = rw (good, space, le-ltb (31 - length flags) (length s) (omega arith));
+      header = let long : length xs ≡ 6 + (length flags + length s) = omega arith in ap (headerFor ty tx false) long;
       payload = payload;
       place = place;
       reads =

@@ -3,13 +3,13 @@
 --   Building      Building.building      what is read of a PDU that was built
 --   Rows          Rows.rows              document 01's rows
 --   Example       Rows.example           a connect request, field by field
-use mathlib.Core.Bool.{true}
+use mathlib.Core.Bool.{true, false}
 use mathlib.Core.List.{List, [], _∷_, _++_, map, flatten}
 use mathlib.Core.Logic.{_⊎_}
 use mathlib.Core.Path.{_≡_}
 use Prim.Native.Nat.{ℕ, _+_, _*_, _/_, _%_, _≤_, _<_}
 use lib.ListN.{length}
-use Rattle.addresses.specs.Address.{kindOf, addressOf}
+use Rattle.addresses.specs.Address.{kindOf, isRandom, addressOf}
 use Rattle.addresses.specs.Header.{headerOf, typeOf, txAdd, rxAdd, lengthOf, allowsAdvData}
 use Rattle.addresses.specs.declared.device_address.AddressKind.the-variants.{Public, Random}
 use Rattle.addresses.specs.declared.device_address.DeviceAddress.{DeviceAddress}
@@ -23,7 +23,7 @@ use Rattle.octets.specs.declared.error.Error.the-variants.{Eof, InvalidLength, 
 use Rattle.records.specs.Area.{readArea, rewritten}
 use Rattle.records.specs.declared.area.Area.the-variants as area
 use Rattle.advertising.specs.Pdu.{undirectedFigure, directedFigure, connectFigure, accuracyOf, noRequest, noAddress, noData, dataIn, decodedAs, refusedPdu, decodeOf}
-use Rattle.advertising.specs.PduBuf.{refusedBuf, builtOf, builtDirected, flagsRecord, payloadOf}
+use Rattle.advertising.specs.PduBuf.{headerFor, refusedBuf, builtOf, builtDirected, flagsRecord, payloadOf}
 use Rattle.advertising.specs.declared.pdu.AdvData.{AdvData}
 use Rattle.advertising.specs.declared.pdu.Decoded.{Decoded}
 use Rattle.advertising.specs.declared.pdu.Outcome.the-variants.{Accepted}
@@ -73,6 +73,8 @@ pub record Accepting (h : Header) (p : List ℕ) : Type 0 where
 pub record ReadsBack (ty : PduType) (a : DeviceAddress) (flags s : List ℕ) (n : ℕ) : Type 0 where
   pub pdu : PduBuf
   pub built : builtOf ty a flags s ≡ record { outcome = Accepted; pdu = pdu }
+  -- its header: the type, the kind of the address, no RxAdd and no reserved bit, and the number of its octets
+  pub header : pdu .header ≡ headerFor ty (isRandom (a .kind)) false (6 + (length flags + length s))
   -- its octets: the address, Flags where the builder puts them, and the records
   pub payload : payloadOf pdu ≡ (a .bytes ++ flags) ++ rewritten s
   pub place : AdvData

@@ -15,6 +15,7 @@
 --   senderOf h p, receiverOf h p   == the first and the second address
 --   hasReceiver ty            == a type with a second address
 --   dataIn d p                == the part of a payload where records lie
+--   isAccepted o              == an outcome that is no refusal
 --   decodedAs o ty s r d l    == an answer, with all that it says
 --   refusedPdu e              == the refusal e, with an empty PDU
 --   undirected, directed, connectRequest   == the answer by type, once the length agrees
@@ -137,6 +138,10 @@ hasReceiver (Unknown n) = false
 
 abbrev pub dataIn : AdvData → List ℕ → List ℕ
 dataIn d p = cond (has (d .len) p (d .start)) (part (d .len) p (d .start)) []
+
+abbrev pub isAccepted : Outcome → Bool
+isAccepted Accepted = true
+isAccepted (Refused e) = false
 
 abbrev pub decodedAs : Outcome → PduType → DeviceAddress → DeviceAddress → AdvData → ConnectRequestData → Decoded
 decodedAs outcome ty sender receiver records lldata =

@@ -39,6 +39,24 @@ pub struct AdvData {
     pub count: usize,
 }
 
+impl AdvData {
+    // The records as a part of the payload: no octets where the payload has no such part.
+    pub fn within(self, payload: &[u8]) -> &[u8]
+        ensures { λ r. ⌜ now r ≡ dataIn self (now (payload .entry)) ⌝ }
+    {
+        let start = self.start;
+        let len = self.len;
+        if payload.len() < start {
+            return &payload[..0];
+        }
+        if payload.len() - start < len {
+            return &payload[..0];
+        }
+        let end = start + len;
+        &payload[start..end]
+    }
+}
+
 // Whether a PDU was read or built, or why not.
 pub enum Outcome {
     Accepted,
@@ -113,16 +131,7 @@ impl Pdu {
         ensures { λ r. ⌜ now r ≡ dataIn (self .«adv_data») (now (payload .entry)) ⌝ }
     {
         let place = self.adv_data;
-        let start = place.start;
-        let len = place.len;
-        if payload.len() < start {
-            return &payload[..0];
-        }
-        if payload.len() - start < len {
-            return &payload[..0];
-        }
-        let end = start + len;
-        &payload[start..end]
+        place.within(payload)
     }
 
     // Reads header and payload from one slice. The payload is all that follows the header.

@@ -27,6 +27,7 @@ use Rattle.addresses.specs.declared.header.PduType.the-variants.{AdvNonconnInd}
 use Rattle.advertising.proofs.Accepting.{accepting}
 use Rattle.advertising.proofs.Figures.{field-is, behind, long}
 use Rattle.advertising.specs.Laws.{Shaped, with-records, two-addresses, with-lldata}
+use Rattle.advertising.proofs.Accepting.{is-accepted}
 use Rattle.advertising.specs.Pdu.{dataIn, decodeOf}
 use Rattle.advertising.specs.declared.pdu.Decoded.{Decoded}
 use Rattle.advertising.specs.declared.pdu.Outcome.{Outcome}
@@ -34,16 +35,11 @@ use Rattle.advertising.specs.declared.pdu.Outcome.the-variants as outcome
 use Rattle.advertising.specs.declared.pdu.Pdu.{Pdu}
 use Rattle.beacon.specs.Laws as laws
 use Rattle.beacon.specs.Laws.{Lets, Checks, Reports}
-use Rattle.beacon.specs.Scanner.{isListFor, isPass, passes, isType2, isAccepted, decodes, isBeaconPacket, reportOf, unreported, scanned, reportNumber}
+use Rattle.beacon.specs.Scanner.{isListFor, isPass, passes, isType2, decodes, isBeaconPacket, reportOf, unreported, scanned, reportNumber}
 use Rattle.beacon.specs.declared.beacon.BeaconScanner.{BeaconScanner}
 use Rattle.beacon.specs.declared.beacon.Report.the-variants as report
 use Rattle.beacon.specs.declared.beacon.Scanned.{Scanned}
 use Rattle.beacon.proofs.Filtering.{matches-is, told}
-
--- an outcome that passes the test
-accepted : (o : Outcome) → isAccepted o ≡ true → o ≡ outcome.Accepted
-accepted outcome.Accepted e = refl
-accepted (outcome.Refused r) e = let z : _≡_ {A = ℕ} 0 1 = cc in absurd (omega arith)
 
 -- a filter that passes an address lets it, and the other way
 lets : (f : AddressFilter) (list : List ℕ) (a : DeviceAddress) → passes f list a ≡ true → Lets f list a
@@ -128,7 +124,7 @@ module _ (s : BeaconScanner) (h : Header) (p : List ℕ) (crcOk : Bool) (list : 
       record {
         crc = crc .0;
         type-2 = eqb-true (bits 0 4 h) 2 (type .0);
-        decoding = accepted (decodeOf h p .outcome) (type .1);
+        decoding = is-accepted (decodeOf h p .outcome) (type .1);
         filter = lets f list (decodeOf h p .pdu .sender) (filter .1);
       }
 

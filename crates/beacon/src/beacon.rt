@@ -195,16 +195,7 @@ impl Scanned {
         ensures { λ r. ⌜ now r ≡ dataIn (self .«adv_data») (now (payload .entry)) ⌝ }
     {
         let place = self.adv_data;
-        let start = place.start;
-        let len = place.len;
-        if payload.len() < start {
-            return &payload[..0];
-        }
-        if payload.len() - start < len {
-            return &payload[..0];
-        }
-        let end = start + len;
-        &payload[start..end]
+        place.within(payload)
     }
 }
 

@@ -72,7 +72,7 @@ pub struct Array6Read {
 }
 
 // Whether s has n octets from position `at` on; past the end there are not even none.
-fn has_octets(s: &[u8], at: usize, n: usize) -> bool
+pub fn has_octets(s: &[u8], at: usize, n: usize) -> bool
     ensures { λ r. ⌜ r ≡ has n (now (s .entry)) at ⌝ }
 {
     if s.len() < at {

@@ -13,14 +13,14 @@ use Rattle.addresses.specs.declared.device_address.DeviceAddress.{DeviceAddress
 use Rattle.addresses.specs.declared.header.Header.{Header}
 use Rattle.advertising.specs.Pdu.{hasReceiver, decodeOf}
 use Rattle.radio.specs.Calls.{fresh, isAdvertising, isFor, listens, refusal, addressed, packetOf}
-use Rattle.radio.specs.Demand.{payloadIn, RefusedAt, TicksFrom, BeginsAt, EventsFrom, Demand3}
-use Rattle.radio.specs.Trace.{Call, start, tick, packet, event, stop, callOf, isAccepted, wellFormed, forBoard, Reading, unread, readOn, Entry, entry, traceFrom, trace, deviceFrom, deviceAfter, readFrom, modeAfter, AtEach, none, here, gather, tickRole, eventRole, Strikable, crcBad, malformed, foreign, Choice, keep, strike, left}
+use Rattle.radio.specs.Demand.{RefusedAt, TicksFrom, BeginsAt, EventsFrom, Demand3}
+use Rattle.radio.specs.Trace.{Call, start, tick, packet, event, stop, callOf, wellFormed, forBoard, Reading, unread, readOn, Entry, traceFrom, trace, deviceFrom, deviceAfter, readFrom, modeAfter, AtEach, none, here, Strikable, crcBad, malformed, foreign, Choice, keep, strike, left}
 use Rattle.radio.specs.declared.link.Called.{Called}
 use Rattle.radio.specs.declared.link.Device.{Device}
 use Rattle.radio.specs.declared.link.Mode.{Mode}
 use Rattle.radio.specs.declared.link.Mode.the-variants.{Standby, Advertising, Connected}
 use Rattle.radio.proofs.Packets.{Known, known}
-use Rattle.radio.proofs.Runs.{traced, ticks-from, tick-run, events-from, event-run, begins-at, refused-at}
+use Rattle.radio.proofs.Runs.{entryOf, traced, ticks-from, events-from, begins-at, refused-at}
 use Rattle.radio.proofs.Steps.{reading, Sound, happens, address-kept, sound-kept, reads-on}
 
 -- a device of this address, in a list
@@ -54,7 +54,7 @@ module _ (own : DeviceAddress) where
   same-mode l d (c ∷ cs) ours is = same-mode (readOn own l c) (callOf d c .device) cs (next-ours c ours) (next-reading l d c ours is)
 
   at-each : (P : Entry → List Entry → Type 0)
-      → ((d : Device) (c : Call) (cs : List Call) → Ours own d → P (entry (d .«dev_addr») (reading d) d c) (traced (callOf d c .device) cs))
+      → ((d : Device) (c : Call) (cs : List Call) → Ours own d → P (entryOf d c (callOf d c)) (traced (callOf d c .device) cs))
       → (d : Device) (cs : List Call) → Ours own d → AtEach P (traced d cs)
   at-each P p d [] ours = none
   at-each P p d (c ∷ cs) ours = here (p d c cs ours) (at-each P p (callOf d c .device) cs (next-ours c ours))
@@ -82,15 +82,19 @@ module _ (d : Device) (end : Instant) (h : Header) (p : List ℕ) where
   unfolding packetOf
   unheard-same crcGood e = listened (isAdvertising (d .mode)) crcGood (forBoard (d .«dev_addr») h p) (addressed d end (decodeOf h p .pdu .lldata) (decodeOf h p .pdu .ty)) e
 
+pub not-ours : {own : DeviceAddress} {end : Instant} {h : Header} {p : List ℕ} {crcGood : Bool} → Strikable own (packet end h p crcGood)
+    → (crcGood && forBoard own h p) ≡ false
+not-ours crcBad = refl
+not-ours {own} {h = h} {p = p} (malformed bad) = simp (not-for own h p bad, and-false)
+not-ours (foreign e) = simp (e, and-false)
+
 struck-same : (d : Device) (c : Call) → Strikable (d .«dev_addr») c → callOf d c .device ≡ d
-struck-same d (packet end h p false) crcBad = unheard-same d end h p false refl
-struck-same d (packet end h p crcGood) (malformed bad) = unheard-same d end h p crcGood (simp (not-for (d .«dev_addr») h p bad, and-false))
-struck-same d (packet end h p crcGood) (foreign e) = unheard-same d end h p crcGood (simp (e, and-false))
+struck-same d (packet end h p crcGood) s = unheard-same d end h p crcGood (not-ours s)
 
 module _ (own : DeviceAddress) where
   others-same : (d : Device) {cs : List Call} (ch : Choice own cs) → Ours own d → traced d (left ch cs) ≡ left ch (traced d cs)
   others-same d Choice.none ours = refl
-  others-same d (keep {c = c} ch) ours = ap (entry (d .«dev_addr») (reading d) d c ∷_) (others-same (callOf d c .device) ch (next-ours c ours))
+  others-same d (keep {c = c} ch) ours = ap (entryOf d c (callOf d c) ∷_) (others-same (callOf d c .device) ch (next-ours c ours))
   others-same d (strike {c = c} s ch) ours = rw (struck-same d c (rw (ours .address) s)) (others-same d ch ours)
 
   end-same : (d : Device) {cs : List Call} (ch : Choice own cs) → Ours own d → deviceFrom d (left ch cs) ≡ deviceFrom d cs
@@ -111,12 +115,12 @@ demand-3 own six calls =
     let by-device = fresh-trace own six in
     record {
       refusals = rw (by-device calls) (at-each own RefusedAt (λ d c cs o. refused-at (happens d (o .sound) c)) (fresh own) calls ours);
-      ticks = rw (by-device calls) (at-each own TicksFrom
-          (λ d c cs o e. ticks-from (happens d (o .sound) c) e (gather tickRole (traced (callOf d c .device) cs)) (tick-run (callOf d c .device) cs (next-ours c o .sound)))
+      ticks = rw (by-device calls) (at-each own (TicksFrom own)
+          (λ d c cs o e. rw (← o .address) (ticks-from (happens d (o .sound) c) (next-ours c o .sound) e cs))
           (fresh own) calls ours);
       begins = rw (by-device calls) (at-each own (BeginsAt own) (λ d c cs o. rw (← o .address) (begins-at (happens d (o .sound) c))) (fresh own) calls ours);
       events = rw (by-device calls) (at-each own EventsFrom
-          (λ d c cs o e. events-from (happens d (o .sound) c) e (gather eventRole (traced (callOf d c .device) cs)) (λ some. event-run (payloadIn c) some (callOf d c .device) cs (next-ours c o .sound)))
+          (λ d c cs o e. events-from (happens d (o .sound) c) (next-ours c o .sound) e cs)
           (fresh own) calls ours);
       mode = same-mode own unread (fresh own) calls ours refl;
       others-same = λ ch. by-device (left ch calls) ∙ (others-same own (fresh own) ch ours ∙ ap (left ch) (sym (by-device calls)));

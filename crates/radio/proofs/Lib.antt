@@ -1,5 +1,8 @@
 pub mod Answers
 pub mod Demand
+pub mod Example
 pub mod Packets
 pub mod Runs
 pub mod Steps
+pub mod Table
+pub mod Words

@@ -1,9 +1,9 @@
 -- Runs of ticks and of events: the channels that a list's calls give are those of the cycle and of the hop. Assumes nothing.
 use mathlib.Core.Bool.{Bool, true, false, _&&_, and-false, false≢true}
-use mathlib.Core.List.{List, [], _∷_}
+use mathlib.Core.List.{List, [], _∷_, _++_}
 use mathlib.Core.Path.{_≡_, refl, sym, ap, _∙_}
-use Prim.Native.Nat.{ℕ, zero, suc, _+_, _%_, _≤_, _<_}
-use native.Mathlib.Nat.{add-suc, add-zero, zero-add}
+use Prim.Native.Nat.{ℕ, zero, suc, _+_, _*_, _%_, _≤_, _<_}
+use native.Mathlib.Nat.{add-suc, add-zero, zero-add, suc-mul}
 use native.Mathlib.Omega.{arith}
 use lib.Dec.{eqb}
 use lib.ListN.{length, getD}
@@ -18,108 +18,165 @@ use Rattle.channels.specs.Phy.{indexOf, cycled, firstChannel}
 use Rattle.channels.specs.declared.connection.Hop.the-variants as hop
 use Rattle.channels.specs.declared.phy.AdvertisingChannel.{AdvertisingChannel}
 use Rattle.channels.specs.declared.phy.DataChannel.{DataChannel}
+use Rattle.octets.specs.Time.{later}
+use Rattle.octets.specs.declared.time.Instant.{Instant}
+use Rattle.records.specs.Area.{rewritten}
+use Rattle.addresses.specs.Address.{isRandom}
+use Rattle.addresses.specs.declared.device_address.DeviceAddress.{DeviceAddress}
+use Rattle.addresses.specs.declared.header.PduType.the-variants.{AdvInd}
 use Rattle.advertising.specs.Pdu.{requestOf}
-use Rattle.radio.specs.Calls.{isAdvertising}
-use Rattle.radio.specs.Demand.{isStart, payloadIn, numberIn, isFirstEvent, Ticks, Events}
-use Rattle.radio.specs.Trace.{Call, callOf, mapIn, hopIn, connects, refusedBy, Entry, entry, channelIn, Role, ends, uses, passes, gathered, gather, tickRole, eventRole, times}
+use Rattle.advertising.specs.PduBuf.{headerFor, flagsRecord, payloadOf}
+use Rattle.advertising.specs.declared.pdu_buf.PduBuf.{PduBuf}
+use Rattle.radio.specs.Calls.{instant, isAdvertising, advanced, advertised, beginning}
+use Rattle.radio.specs.Demand.{payloadIn, numberIn, isFirstEvent, Each, Tick, Ticks, TicksOf, Events}
+use Rattle.radio.specs.Trace.{Call, start, tick, packet, event, stop, callOf, octetsOf, mapIn, hopIn, connects, refusedBy, Entry, sentOn, eventOn, channelsBy, Role, ends, uses, passes, gathered, gather, tickRole, eventRole, times}
+use Rattle.radio.specs.declared.link.Advertisement.{Advertisement}
+use Rattle.radio.specs.declared.link.Answer.{Answer}
+use Rattle.radio.specs.declared.link.Answer.the-variants.{Sent}
 use Rattle.radio.specs.declared.link.Called.{Called}
 use Rattle.radio.specs.declared.link.Connection.{Connection}
 use Rattle.radio.specs.declared.link.Device.{Device}
 use Rattle.radio.specs.declared.link.Mode.{Mode}
 use Rattle.radio.specs.declared.link.Mode.the-variants.{Advertising, Connected}
-use Rattle.radio.proofs.Steps.{reading, number, Sound, Happens, starts, ticks, begins, hopping, stops, stays, happens, sound-kept}
+use Rattle.radio.proofs.Steps.{number, Made, Sound, Happens, starts, ticks, begins, hopping, stops, stays, happens, sound-kept}
 
--- the trace by the device alone
+-- an entry of the trace by the device alone, for a call that came to r
+abbrev pub entryOf : Device → Call → Called → Entry
+entryOf d c r = record { mode = d .mode; number = number d c; call = c; result = r; octets = octetsOf d c }
+
 abbrev pub traced : Device → List Call → List Entry
 traced d [] = []
-traced d (c ∷ cs) = entry (d .«dev_addr») (reading d) d c ∷ traced (callOf d c .device) cs
+traced d (c ∷ cs) = entryOf d c (callOf d c) ∷ traced (callOf d c .device) cs
 
--- a list whose place j holds f (k + j)
-pub Follows : (ℕ → ℕ) → ℕ → List ℕ → Type 0
-Follows f k channels = (j : ℕ) → j < length channels → getD channels j 0 ≡ f (k + j)
+-- At k d: the device d makes entry k of a run at the next call of it, and stands so after each call that passes
+module _ (P : ℕ → Entry → Type 0) (At : ℕ → Device → Type 0) (role : Bool → Call → Role) where
+  abbrev pub Moves : Role → ℕ → Entry → Type 0
+  Moves ends k e = Unit {0}
+  Moves uses k e = P k e × At (suc k) (e .result .device)
+  Moves passes k e = At k (e .result .device)
 
-follows-more : (f : ℕ → ℕ) (k c : ℕ) (rest : List ℕ) → c ≡ f k → Follows f (suc k) rest → Follows f k (c ∷ rest)
-unfolding Follows
-follows-more f k c rest e ih zero below = e ∙ ap f (sym (add-zero k))
-follows-more f k c rest e ih (suc j) below = let same : suc k + j ≡ k + suc j = omega arith in ih j (omega arith) ∙ ap f same
+  gathered-each : (ρ : Role) (k : ℕ) (e : Entry) (rest : List Entry) → Moves ρ k e → ((k : ℕ) → At k (e .result .device) → Each P k rest)
+      → Each P k (gathered ρ e rest)
+  gathered-each ends k e rest m ih = tt
+  gathered-each uses k e rest m ih = (m .0, ih (suc k) (m .1))
+  gathered-each passes k e rest m ih = ih k m
 
--- At k d: the device d gives f k at the next call of a run, and stands so after each call that passes
-module _ (f : ℕ → ℕ) (At : ℕ → Device → Type 0) (role : Bool → Call → Role) where
-  abbrev pub Moves : Role → ℕ → Called → Type 0
-  Moves ends k r = Unit
-  Moves uses k r = (channelIn (r .answer) ≡ f k) × At (suc k) (r .device)
-  Moves passes k r = At k (r .device)
+  pub gather-each : ((k : ℕ) (d : Device) (c : Call) → Sound d → At k d → Moves (role (eqb (number d c) 0) c) k (entryOf d c (callOf d c)))
+      → (d : Device) (cs : List Call) → Sound d → (k : ℕ) → At k d → Each P k (gather role (traced d cs))
+  gather-each moves d [] sound k at = tt
+  gather-each moves d (c ∷ cs) sound k at =
+      gathered-each (role (eqb (number d c) 0) c) k (entryOf d c (callOf d c)) (gather role (traced (callOf d c .device) cs)) (moves k d c sound at)
+      (λ k at. gather-each moves (callOf d c .device) cs (sound-kept sound (happens d sound c)) k at)
 
-  gathered-follow : (ρ : Role) (k : ℕ) (r : Called) (rest : List ℕ) → Moves ρ k r → ((k : ℕ) → At k (r .device) → Follows f k rest)
-      → Follows f k (gathered ρ (channelIn (r .answer)) rest)
-  unfolding Follows
-  gathered-follow ends k r rest m ih = λ j below. absurd (omega arith)
-  gathered-follow uses k r rest m ih = follows-more f k (channelIn (r .answer)) rest (m .0) (ih (suc k) (m .1))
-  gathered-follow passes k r rest m ih = ih k m
+each-map : (P Q : ℕ → Entry → Type 0) → ((k : ℕ) (e : Entry) → P k e → Q k e) → (k : ℕ) (es : List Entry) → Each P k es → Each Q k es
+each-map P Q f k [] each = tt
+each-map P Q f k (e ∷ es) each = (f k e (each .0), each-map P Q f (suc k) es (each .1))
 
-  pub gather-follows : ((k : ℕ) (d : Device) (c : Call) → Sound d → At k d → Moves (role (eqb (number d c) 0) c) k (callOf d c))
-      → (d : Device) (cs : List Call) → Sound d → (k : ℕ) → At k d → Follows f k (gather role (traced d cs))
-  unfolding Follows
-  gather-follows moves d [] sound k at = λ j below. absurd (omega arith)
-  gather-follows moves d (c ∷ cs) sound k at =
-      gathered-follow (role (eqb (number d c) 0) c) k (callOf d c) (gather role (traced (callOf d c .device) cs)) (moves k d c sound at)
-      (λ k at. gather-follows moves (callOf d c .device) cs (sound-kept sound (happens d sound c)) k at)
+-- channels that follow f, by their places
+module _ (channel : Answer → ℕ) (f : ℕ → ℕ) where
+  follows : (k : ℕ) (es : List Entry) → Each (λ k e. channel (e .result .answer) ≡ f k) k es
+      → (j : ℕ) → j < length es → getD (channelsBy channel es) j 0 ≡ f (k + j)
+  follows k [] each j below = absurd (omega arith)
+  follows k (e ∷ es) each zero below = each .0 ∙ ap f (sym (add-zero k))
+  follows k (e ∷ es) each (suc j) below =
+      let same : suc k + j ≡ k + suc j = omega arith in
+      follows (suc k) es (each .1) j (omega arith) ∙ ap f same
 
-from-0 : (f : ℕ → ℕ) (channels : List ℕ) → Follows f 0 channels → (j : ℕ) → j < length channels → getD channels j 0 ≡ f j
-unfolding Follows
-from-0 f channels follows j below = follows j below ∙ ap f (zero-add j)
+  follows-times : (es : List Entry) → Each (λ k e. channel (e .result .answer) ≡ f k) 0 es → (c k n : ℕ) → k + n ≤ length es
+      → times c k n (channelsBy channel es) ≡ count (λ j. eqb (f (k + j)) c) n
+  follows-times es each c k n fits =
+      count-ext _ _ n (λ j below. ap (λ (x : ℕ). eqb x c) (follows 0 es each (k + j) (omega arith) ∙ ap f (zero-add (k + j))))
 
--- how often a channel occurs among places that follow f
-follows-times : (f : ℕ → ℕ) (channels : List ℕ) → Follows f 0 channels → (c k n : ℕ) → k + n ≤ length channels
-    → times c k n channels ≡ count (λ j. eqb (f (k + j)) c) n
-follows-times f channels follows c k n fits = count-ext _ _ n (λ j below. ap (λ (x : ℕ). eqb x c) (from-0 f channels follows (k + j) (omega arith)))
-
--- Ticks move the channel by the cycle
-
-abbrev pub tickChannel : ℕ → ℕ
-tickChannel k = indexOf (cycles (suc k) firstChannel)
-
-abbrev pub TickAt : ℕ → Device → Type 0
-TickAt k d = d .adv .channel ≡ cycles k firstChannel
-
-tick-moves : (k : ℕ) {d : Device} {c : Call} {r : Called} → TickAt k d → Happens d c r → Moves tickChannel TickAt tickRole (tickRole (eqb (number d c) 0) c) k r
-unfolding tickRole refusedBy cycles
-tick-moves k at (starts time interval records tx pdu ok size) = rw ok tt
-tick-moves k at (ticks tx m ok) = rw ok (ap (λ (c : AdvertisingChannel). indexOf (cycled c)) at, ap cycled at)
-tick-moves k at (begins end header payload crcGood u channel m e ok some there low) = at
-tick-moves k at (hopping u channel m there low ok) = at
-tick-moves k at stops = at
-tick-moves k at (stays c s) = rw (s .no-tick) at
+-- Ticks: what a start set up moves by the cycle and the interval
 
 cycles-add : (k j : ℕ) (c : AdvertisingChannel) → cycles j (cycles k c) ≡ cycles (k + j) c
 unfolding cycles
 cycles-add k zero c = rw (add-zero k)
 cycles-add k (suc j) c = rw (add-suc k j) (ap cycled (cycles-add k j c))
 
-ticks-of : (channels : List ℕ) → Follows tickChannel 0 channels → Ticks channels
-ticks-of channels follows =
-    record {
-      by-cycle = from-0 tickChannel channels follows;
-      each-once = λ k fits c.
-          follows-times tickChannel channels follows (indexOf c) k 3 fits
-          ∙ (count-ext _ _ 3 (λ j below.
-          let same : suc k + j ≡ suc (k + j) = omega arith in
-          ap (λ (x : AdvertisingChannel). eqb (indexOf x) (indexOf c)) (sym (cycles-add (suc k) j firstChannel ∙ ap (λ (n : ℕ). cycles n firstChannel) same)))
-          ∙ once-each (cycles (suc k) firstChannel) c);
-    }
+module _ (own : DeviceAddress) (time : Instant) (interval : ℕ) (records : List ℕ) (pdu : PduBuf) (made : Made own records pdu) where
+  -- what is set up, after k ticks
+  abbrev pub advAt : ℕ → Advertisement
+  advAt zero = beginning time interval pdu
+  advAt (suc k) = advanced (advAt k)
 
-pub ticks-from : {d : Device} {c : Call} {r : Called} → Happens d c r → (isStart c && eqb (number d c) 0) ≡ true
-    → (rest : List ℕ) → ((k : ℕ) → TickAt k (r .device) → Follows tickChannel k rest) → Ticks (channelIn (r .answer) ∷ rest)
-unfolding cycles
-ticks-from (starts time interval records tx pdu ok size) a rest h = ticks-of _ (follows-more tickChannel 0 _ rest refl (h 1 refl))
-ticks-from (ticks tx m ok) a rest h = absurd (false≢true a)
-ticks-from (begins end header payload crcGood u channel m e ok some there low) a rest h = absurd (false≢true a)
-ticks-from (hopping u channel m there low ok) a rest h = absurd (false≢true a)
-ticks-from stops a rest h = absurd (false≢true a)
-ticks-from (stays c s) a rest h = absurd (false≢true (sym (s .no-start) ∙ a))
+  pdu-at : (k : ℕ) → advAt k .pdu ≡ pdu
+  pdu-at zero = refl
+  pdu-at (suc k) = pdu-at k
 
-pub tick-run : (d : Device) (cs : List Call) → Sound d → (k : ℕ) → TickAt k d → Follows tickChannel k (gather tickRole (traced d cs))
-tick-run = gather-follows tickChannel TickAt tickRole (λ k d c sound at. tick-moves k at (happens d sound c))
+  interval-at : (k : ℕ) → advAt k .interval ≡ interval
+  interval-at zero = refl
+  interval-at (suc k) = interval-at k
+
+  channel-at : (k : ℕ) → advAt k .channel ≡ cycles k firstChannel
+  unfolding cycles
+  channel-at zero = refl
+  channel-at (suc k) = ap cycled (channel-at k)
+
+  due-at : (k : ℕ) → advAt (suc k) .«next_adv» .0 ≡ later (time .0) (suc k * interval)
+  due-at zero = omega arith
+  due-at (suc k) =
+      let before : advAt (suc k) .«next_adv» .0 ≡ later (time .0) (suc k * interval) = due-at k in
+      rw (before, interval-at k) (omega (arith, suc-mul (suc k) interval))
+
+  abbrev pub TickAt : ℕ → Device → Type 0
+  TickAt k d = d .adv ≡ advAt k
+
+  answer-at : (k : ℕ) (d : Device) → advertised d (advAt k) .answer
+      ≡ Sent (headerFor AdvInd (isRandom (own .kind)) false (9 + length records)) (cycles (suc k) firstChannel) (instant (later (time .0) (suc k * interval)))
+  unfolding cycles
+  answer-at k d = λ i. Sent ((ap (λ (p : PduBuf). p .header) (pdu-at k) ∙ made .header) i) (cycled (channel-at k i)) (instant (due-at k i))
+
+  tick-moves : (k : ℕ) {d : Device} {c : Call} {r : Called} → TickAt k d → Happens d c r
+      → Moves (Tick own time interval records) TickAt tickRole (tickRole (eqb (number d c) 0) c) k (entryOf d c r)
+  unfolding tickRole refusedBy
+  tick-moves k at (starts t i s tx p ok m wrote) = rw ok tt
+  tick-moves k {d} at (ticks tx m ok wrote) =
+      let payload : payloadOf (d .adv .pdu) ≡ (own .bytes ++ flagsRecord) ++ rewritten records =
+      ap (λ (a : Advertisement). payloadOf (a .pdu)) at ∙ (ap payloadOf (pdu-at k) ∙ made .payload) in
+      rw ok (
+        record { answer = ap (λ (a : Advertisement). advertised d a .answer) at ∙ answer-at k d; octets = ap (λ (l : List ℕ). l ∷ []) (rw (← payload) wrote) },
+        ap advanced at,
+      )
+  tick-moves k at (begins end header payload crcGood u channel m e ok some there low) = at
+  tick-moves k at (hopping u channel m there low ok) = at
+  tick-moves k at stops = at
+  tick-moves k at (stays c s) = rw (s .no-tick) at
+
+  pub tick-run : (d : Device) (cs : List Call) → Sound d → (k : ℕ) → TickAt k d → Each (Tick own time interval records) k (gather tickRole (traced d cs))
+  tick-run = gather-each (Tick own time interval records) TickAt tickRole (λ k d c sound at. tick-moves k at (happens d sound c))
+
+  ticks-of : (es : List Entry) → Each (Tick own time interval records) 0 es → Ticks own time interval records es
+  ticks-of es each =
+      record {
+        each = each;
+        each-once = λ k fits c.
+            follows-times sentOn (λ k. indexOf (cycles (suc k) firstChannel)) es
+            (each-map (Tick own time interval records) (λ k e. sentOn (e .result .answer) ≡ indexOf (cycles (suc k) firstChannel)) (λ k e t. ap sentOn (t .answer)) 0 es each)
+            (indexOf c) k 3 fits
+            ∙ (count-ext _ _ 3 (λ j below.
+            let same : suc k + j ≡ suc (k + j) = omega arith in
+            ap (λ (x : AdvertisingChannel). eqb (indexOf x) (indexOf c)) (sym (cycles-add (suc k) j firstChannel ∙ ap (λ (n : ℕ). cycles n firstChannel) same)))
+            ∙ once-each (cycles (suc k) firstChannel) c);
+      }
+
+pub ticks-from : {d : Device} {c : Call} {r : Called} → Happens d c r → Sound (r .device) → eqb (number d c) 0 ≡ true
+    → (cs : List Call) → TicksOf (d .«dev_addr») c (entryOf d c r ∷ gather tickRole (traced (r .device) cs))
+ticks-from {d} (starts time interval records tx pdu ok made wrote) sound a cs =
+    let own = d .«dev_addr» in
+    ticks-of own time interval records pdu made _ (
+      record { answer = answer-at own time interval records pdu made 0 d; octets = ap (λ (l : List ℕ). records ∷ l ∷ []) (rw (← made .payload) wrote) },
+      tick-run own time interval records pdu made (advertised d (beginning time interval pdu) .device) cs sound 1 refl,
+    )
+ticks-from (ticks tx m ok wrote) sound a cs = tt
+ticks-from (begins end header payload crcGood u channel m e ok some there low) sound a cs = tt
+ticks-from (hopping u channel m there low ok) sound a cs = tt
+ticks-from stops sound a cs = tt
+ticks-from (stays (start time interval records tx) s) sound a cs = absurd (false≢true (sym (s .no-start) ∙ a))
+ticks-from (stays (tick tx) s) sound a cs = tt
+ticks-from (stays (packet end header payload crcGood) s) sound a cs = tt
+ticks-from (stays event s) sound a cs = tt
+ticks-from (stays stop s) sound a cs = tt
 
 -- Events move the connection by the hop, while connected
 
@@ -129,6 +186,9 @@ clash p q = let z : _≡_ {A = ℕ} 0 1 = cc in omega arith
 module _ (p : List ℕ) (some : 0 < marks (mapIn p)) where
   abbrev pub channelOf : ℕ → ℕ
   channelOf k = eventChannel (mapIn p) (hopIn p) k
+
+  abbrev pub IsEvent : ℕ → Entry → Type 0
+  IsEvent k e = eventOn (e .result .answer) ≡ channelOf k
 
   -- the connection of the request before event k
   abbrev pub connectionAt : ℕ → Connection
@@ -149,10 +209,11 @@ module _ (p : List ℕ) (some : 0 < marks (mapIn p)) where
       let index : channel .index ≡ eventChannel (mapIn p) (hopIn p % 32) k = cc in
       (index ∙ ap (λ (h : ℕ). eventChannel (mapIn p) h k) five-bits, rw there)
 
-  event-moves : (k : ℕ) {d : Device} {c : Call} {r : Called} → EventAt k d → Happens d c r → Moves channelOf EventAt eventRole (eventRole (eqb (number d c) 0) c) k r
+  event-moves : (k : ℕ) {d : Device} {c : Call} {r : Called} → EventAt k d → Happens d c r
+      → Moves IsEvent EventAt eventRole (eventRole (eqb (number d c) 0) c) k (entryOf d c r)
   unfolding eventRole refusedBy
-  event-moves k at (starts time interval records tx pdu ok size) = rw ok tt
-  event-moves k at (ticks tx m ok) = absurd (clash m (at .0))
+  event-moves k at (starts time interval records tx pdu ok made wrote) = rw ok tt
+  event-moves k at (ticks tx m ok wrote) = absurd (clash m (at .0))
   event-moves k at (begins end header payload crcGood u channel m e ok some there low) = absurd (clash m (at .0))
   event-moves k {d} at (hopping u channel m there low ok) =
       let is = event-is k u channel (rw (at .1) at there) in
@@ -160,38 +221,36 @@ module _ (p : List ℕ) (some : 0 < marks (mapIn p)) where
   event-moves k at stops = tt
   event-moves k at (stays c s) = rw (s .no-event) at
 
-  pub event-run : (d : Device) (cs : List Call) → Sound d → (k : ℕ) → EventAt k d → Follows channelOf k (gather eventRole (traced d cs))
-  event-run = gather-follows channelOf EventAt eventRole (λ k d c sound at. event-moves k at (happens d sound c))
+  pub event-run : (d : Device) (cs : List Call) → Sound d → (k : ℕ) → EventAt k d → Each IsEvent k (gather eventRole (traced d cs))
+  event-run = gather-each IsEvent EventAt eventRole (λ k d c sound at. event-moves k at (happens d sound c))
 
-  events-of : (channels : List ℕ) → Follows channelOf 0 channels → Events p channels
+  events-of : (es : List Entry) → Each IsEvent 0 es → Events p es
   unfolding usesIn
-  events-of channels follows =
+  events-of es each =
       record {
-        by-hop = from-0 channelOf channels follows;
+        by-hop = each;
         each-share = λ low high k fits i below.
-            follows-times channelOf channels follows (channelAt (mapIn p) i) k 37 fits ∙ fair (mapIn p) (hopIn p) k i low high below;
+            follows-times eventOn channelOf es each (channelAt (mapIn p) i) k 37 fits ∙ fair (mapIn p) (hopIn p) k i low high below;
       }
 
-pub events-from : {d : Device} {c : Call} {r : Called} → Happens d c r → isFirstEvent (r .answer) ≡ true
-    → (rest : List ℕ) → ((some : 0 < marks (mapIn (payloadIn c))) (k : ℕ) → EventAt (payloadIn c) some k (r .device) → Follows (channelOf (payloadIn c) some) k rest)
-    → Events (payloadIn c) (channelIn (r .answer) ∷ rest)
+pub events-from : {d : Device} {c : Call} {r : Called} → Happens d c r → Sound (r .device) → isFirstEvent (r .answer) ≡ true
+    → (cs : List Call) → Events (payloadIn c) (entryOf d c r ∷ gather eventRole (traced (r .device) cs))
 unfolding requestOf before
-events-from (starts time interval records tx pdu ok size) a rest h = absurd (false≢true a)
-events-from (ticks tx m ok) a rest h = absurd (false≢true a)
-events-from (begins end header payload crcGood u channel m e ok some there low) a rest h =
+events-from (starts time interval records tx pdu ok made wrote) sound a cs = absurd (false≢true a)
+events-from (ticks tx m ok wrote) sound a cs = absurd (false≢true a)
+events-from (begins end header payload crcGood u channel m e ok some there low) sound a cs =
     let is = event-is payload some 0 u channel there in
-    events-of payload some _ (follows-more (channelOf payload some) 0 _ rest (is .0)
-    (h some 1 (refl, λ i. record { «channel_map» = fromRaw (mapIn payload); hop = hopIn payload; «unmapped_channel» = is .1 i })))
-events-from (hopping u channel m there low ok) a rest h = absurd (false≢true a)
-events-from stops a rest h = absurd (false≢true a)
-events-from (stays c s) a rest h = absurd (false≢true (sym (s .no-first) ∙ a))
+    events-of payload some _ (is .0, event-run payload some _ cs sound 1 (refl, λ i. record { «channel_map» = fromRaw (mapIn payload); hop = hopIn payload; «unmapped_channel» = is .1 i }))
+events-from (hopping u channel m there low ok) sound a cs = absurd (false≢true a)
+events-from stops sound a cs = absurd (false≢true a)
+events-from (stays c s) sound a cs = absurd (false≢true (sym (s .no-first) ∙ a))
 
 -- Where a connection begins, and what is refused
 
 pub begins-at : {d : Device} {c : Call} {r : Called} → Happens d c r → isFirstEvent (r .answer) ≡ (isAdvertising (d .mode) && connects (d .«dev_addr») c)
 unfolding connects
-begins-at (starts time interval records tx pdu ok size) = simp and-false
-begins-at (ticks tx m ok) = simp and-false
+begins-at (starts time interval records tx pdu ok made wrote) = simp and-false
+begins-at (ticks tx m ok wrote) = simp and-false
 begins-at (begins end header payload crcGood u channel m e ok some there low) = rw (m, e)
 begins-at (hopping u channel m there low ok) = simp and-false
 begins-at stops = simp and-false
@@ -199,8 +258,8 @@ begins-at (stays c s) = s .no-first ∙ sym (s .no-connect)
 
 pub refused-at : {d : Device} {c : Call} {r : Called} → Happens d c r → numberIn (r .answer) ≡ number d c
 unfolding refusedBy
-refused-at (starts time interval records tx pdu ok size) = sym ok
-refused-at (ticks tx m ok) = sym ok
+refused-at (starts time interval records tx pdu ok made wrote) = sym ok
+refused-at (ticks tx m ok wrote) = sym ok
 refused-at (begins end header payload crcGood u channel m e ok some there low) = sym ok
 refused-at (hopping u channel m there low ok) = sym ok
 refused-at stops = refl

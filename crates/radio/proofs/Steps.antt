@@ -3,10 +3,10 @@ use mathlib.Core.Bool.{Bool, true, false, cond, not, _&&_, _||_, and-false, fals
 use mathlib.Core.List.{List, [], _∷_, _++_}
 use mathlib.Core.Path.{_≡_, refl, sym, ap, _∙_}
 use Prim.Native.Nat.{ℕ, zero, suc, _+_, _%_, _≤_, _<_}
-use native.Mathlib.Nat.{mod-lt}
+use native.Mathlib.Nat.{mod-lt, zero-add}
 use native.Mathlib.Omega.{arith}
 use lib.Dec.{eqb, ltb}
-use lib.ListN.{length, length-append}
+use lib.ListN.{length, drop, length-append}
 use borrow.Author.Tests.{le-ltb, lt-ltb, ne-eqb, eq-eqb, ltb-true, ltb-false}
 use Rattle.octets.proofs.Places.{enough, too-few}
 use Rattle.octets.proofs.Sequences.{both-true}
@@ -24,6 +24,7 @@ use Rattle.records.proofs.RoundTrip.{round-trip}
 use Rattle.records.specs.Area.{readArea, rewritten}
 use Rattle.records.specs.declared.area.Area.{Area}
 use Rattle.records.specs.declared.area.Area.the-variants as area
+use Rattle.addresses.specs.Address.{isRandom}
 use Rattle.addresses.specs.declared.device_address.DeviceAddress.{DeviceAddress}
 use Rattle.addresses.specs.declared.header.Header.{Header}
 use Rattle.addresses.specs.declared.header.PduType.{PduType}
@@ -31,12 +32,12 @@ use Rattle.addresses.specs.declared.header.PduType.the-variants.{AdvInd, AdvDir
 use Rattle.advertising.proofs.Building.{building}
 use Rattle.advertising.specs.Laws.{ReadsBack}
 use Rattle.advertising.specs.Pdu.{requestOf, hasReceiver, decodeOf}
-use Rattle.advertising.specs.PduBuf.{flagsRecord, payloadOf, payloadTo}
+use Rattle.advertising.specs.PduBuf.{headerFor, flagsRecord, payloadOf, payloadTo}
 use Rattle.advertising.specs.declared.pdu.Pdu.{Pdu}
 use Rattle.advertising.specs.declared.pdu_buf.PduBuf.{PduBuf}
-use Rattle.radio.specs.Calls.{isAdvertising, isConnected, refusal, advertised, sent, beginning, isFor, listens, connectedAt, hoppedTo, connects as connection, addressed, heard, hops, startOf, tickOf, packetOf, eventOf, stopOf}
-use Rattle.radio.specs.Demand.{isStart, numberIn, isFirstEvent}
-use Rattle.radio.specs.Trace.{Call, start, tick, packet, event, stop, callOf, isConnectRequest, isAccepted, wellFormed, asks, mapIn, hopIn, connects, Reading, firstOf, startNumber, refusedBy, readOn, Role, passes, tickRole, eventRole}
+use Rattle.radio.specs.Calls.{isAdvertising, isConnected, refusal, advertised, sent, beginning, isFor, listens, connectedAt, hoppedTo, connects as connection, addressed, heard, hops, startOf, startAfter, tickOf, tickAfter, packetOf, eventOf, stopOf}
+use Rattle.radio.specs.Demand.{numberIn, isFirstEvent}
+use Rattle.radio.specs.Trace.{Call, start, tick, packet, event, stop, callOf, isConnectRequest, asks, mapIn, hopIn, connects, Reading, firstOf, startNumber, refusedBy, readOn, Role, passes, tickRole, eventRole}
 use Rattle.radio.specs.declared.link.Answer.{Answer}
 use Rattle.radio.specs.declared.link.Called.{Called}
 use Rattle.radio.specs.declared.link.Connection.{Connection}
@@ -63,6 +64,19 @@ pub record Sound (d : Device) : Type 0 where
   pub six : length (d .«dev_addr» .bytes) ≡ 6
   pub live : d .mode ≡ Connected → Live (d .conn)
 
+-- the PDU that a start builds
+pub record Made (own : DeviceAddress) (records : List ℕ) (pdu : PduBuf) : Type 0 where
+  pub header : pdu .header ≡ headerFor AdvInd (isRandom (own .kind)) false (9 + length records)
+  pub payload : payloadOf pdu ≡ (own .bytes ++ flagsRecord) ++ rewritten records
+  pub size : length (payloadOf pdu) ≡ 9 + length records
+
+abbrev isStart : Call → Bool
+isStart (start time interval records tx) = true
+isStart (tick tx) = false
+isStart (packet end header payload crcGood) = false
+isStart event = false
+isStart stop = false
+
 -- a call that leaves the device as it is, no tick or event accepted and no connection begun
 pub record Stays (d : Device) (c : Call) (answer : Answer) : Type 0 where
   pub no-tick : tickRole (eqb (number d c) 0) c ≡ passes
@@ -74,9 +88,12 @@ pub record Stays (d : Device) (c : Call) (answer : Answer) : Type 0 where
   pub refuses : numberIn answer ≡ number d c
 
 pub data Happens (d : Device) : Call → Called → Type 0 where
-  starts : (time : Instant) (interval : ℕ) (records tx : List ℕ) (pdu : PduBuf) → startNumber records tx ≡ 0 → length (payloadOf pdu) ≡ 9 + length records
+  starts : (time : Instant) (interval : ℕ) (records tx : List ℕ) (pdu : PduBuf) → startNumber records tx ≡ 0 → Made (d .«dev_addr») records pdu
+      → startAfter d records tx ≡ payloadOf pdu ++ drop (length (payloadOf pdu)) tx
       → Happens d (start time interval records tx) (advertised d (beginning time interval pdu))
-  ticks : (tx : List ℕ) → d .mode ≡ Advertising → number d (tick tx) ≡ 0 → Happens d (tick tx) (advertised d (d .adv))
+  ticks : (tx : List ℕ) → d .mode ≡ Advertising → number d (tick tx) ≡ 0
+      → tickAfter d tx ≡ payloadOf (d .adv .pdu) ++ drop (length (payloadOf (d .adv .pdu))) tx
+      → Happens d (tick tx) (advertised d (d .adv))
   begins : (end : Instant) (header : Header) (payload : List ℕ) (crcGood : Bool) (u : ℕ) (channel : DataChannel) → d .mode ≡ Advertising
       → connects (d .«dev_addr») (packet end header payload crcGood) ≡ true → number d (packet end header payload crcGood) ≡ 0
       → 0 < marks (mapIn payload) → hopped (fromRaw (mapIn payload)) 0 (hopIn payload) ≡ hop.To u channel → u ≤ 36
@@ -87,7 +104,7 @@ pub data Happens (d : Device) : Call → Called → Type 0 where
   stays : (c : Call) {answer : Answer} → Stays d c answer → Happens d c (record { answer = answer; device = d })
 
 -- a refusal has a number
-no-zero : (e : Error) → eqb (numberOf e) 0 ≡ false
+pub no-zero : (e : Error) → eqb (numberOf e) 0 ≡ false
 no-zero Eof = refl
 no-zero InvalidLength = refl
 no-zero InvalidValue = refl
@@ -158,24 +175,31 @@ module _ (d : Device) (sound : Sound d) where
     front = simp length-append (omega (arith, sound .six))
 
     -- records that fit
-    fitting : (n : ℕ) → readArea records ≡ area.Accepted n → length records ≤ 28 → (short : Bool) → ltb (length tx) (9 + length records) ≡ short
-        → Happens d this-start (startOf d time interval records tx)
-    unfolding startOf startNumber refusedBy
-    fitting n good few short e =
-        let back : ReadsBack AdvInd (d .«dev_addr») flagsRecord records (n + 1) = building .discoverable (d .«dev_addr») records n (sound .six) good few in
-        let size : length (payloadOf (back .pdu)) ≡ 9 + length records = ap length (back .payload) ∙ simp length-append (omega (arith, front, round-trip records .as-long)) in
-        let many : ltb 28 (length records) ≡ false = le-ltb 28 (length records) few in
-        go back size many short e
-      where
-        go : (back : ReadsBack AdvInd (d .«dev_addr») flagsRecord records (n + 1)) → length (payloadOf (back .pdu)) ≡ 9 + length records
-            → ltb 28 (length records) ≡ false → (short : Bool) → ltb (length tx) (9 + length records) ≡ short
-            → Happens d this-start (startOf d time interval records tx)
-        go back size many true e =
-            rw (back .built, too-few (length (payloadOf (back .pdu))) tx 0 (omega (arith, size, ltb-true (length tx) (9 + length records) e)))
-            (refused this-start Eof (rw (good, many, e)) no-request refl)
-        go back size many false e =
-            rw (back .built, enough (length (payloadOf (back .pdu))) tx 0 (omega (arith, size, ltb-false (length tx) (9 + length records) e)))
-            (starts time interval records tx (back .pdu) (rw (good, many, e)) size)
+    module _ (n : ℕ) (good : readArea records ≡ area.Accepted n) (few : length records ≤ 28) where
+      back : ReadsBack AdvInd (d .«dev_addr») flagsRecord records (n + 1)
+      back = building .discoverable (d .«dev_addr») records n (sound .six) good few
+
+      made : Made (d .«dev_addr») records (back .pdu)
+      made =
+          let nine : 6 + (3 + length records) ≡ 9 + length records = omega arith in
+          record {
+            header = back .header ∙ ap (headerFor AdvInd (isRandom (d .«dev_addr» .kind)) false) nine;
+            payload = back .payload;
+            size = ap length (back .payload) ∙ simp length-append (omega (arith, front, round-trip records .as-long));
+          }
+
+      few-is : ltb 28 (length records) ≡ false
+      few-is = le-ltb 28 (length records) few
+
+      fitting : (short : Bool) → ltb (length tx) (9 + length records) ≡ short → Happens d this-start (startOf d time interval records tx)
+      unfolding startOf startAfter startNumber refusedBy
+      fitting true e =
+          rw (back .built, too-few (length (payloadOf (back .pdu))) tx 0 (omega (arith, made .size, ltb-true (length tx) (9 + length records) e)))
+          (refused this-start Eof (rw (good, few-is, e)) no-request refl)
+      fitting false e =
+          let room = enough (length (payloadOf (back .pdu))) tx 0 (omega (arith, made .size, ltb-false (length tx) (9 + length records) e)) in
+          rw (back .built, room)
+          (starts time interval records tx (back .pdu) (rw (good, few-is, e)) made (rw (back .built, room, zero-add)))
 
     start-happens : (a : Area) → readArea records ≡ a → (many : Bool) → ltb 28 (length records) ≡ many
         → Happens d this-start (startOf d time interval records tx)
@@ -190,13 +214,13 @@ module _ (d : Device) (sound : Sound d) where
 
   tick-happens : (tx : List ℕ) (m : Mode) → d .mode ≡ m → (short : Bool) → ltb (length tx) (length (payloadOf (d .adv .pdu))) ≡ short
       → Happens d (tick tx) (cond (isAdvertising m) (sent d (d .adv) (payloadTo (d .adv .pdu) tx)) (refusal d WrongMode))
-  unfolding refusedBy connects
+  unfolding refusedBy connects tickAfter
   tick-happens tx Advertising m true e =
       rw (too-few (length (payloadOf (d .adv .pdu))) tx 0 (omega (arith, ltb-true (length tx) (length (payloadOf (d .adv .pdu))) e)))
       (refused (tick tx) Eof (rw (m, e)) (simp and-false) refl)
   tick-happens tx Advertising m false e =
-      rw (enough (length (payloadOf (d .adv .pdu))) tx 0 (omega (arith, ltb-false (length tx) (length (payloadOf (d .adv .pdu))) e)))
-      (ticks tx m (rw (m, e)))
+      let room = enough (length (payloadOf (d .adv .pdu))) tx 0 (omega (arith, ltb-false (length tx) (length (payloadOf (d .adv .pdu))) e)) in
+      rw room (ticks tx m (rw (m, e)) (rw (m, room, zero-add)))
   tick-happens tx Standby m short e = refused (tick tx) WrongMode (rw m) (simp and-false) refl
   tick-happens tx Connected m short e = refused (tick tx) WrongMode (rw m) (simp and-false) refl
 
@@ -285,8 +309,8 @@ module _ (d : Device) (sound : Sound d) where
 
 -- the address is kept, and so is what holds of a device
 pub address-kept : {d : Device} {c : Call} {r : Called} → Happens d c r → r .device .«dev_addr» ≡ d .«dev_addr»
-address-kept (starts time interval records tx pdu ok size) = refl
-address-kept (ticks tx m ok) = refl
+address-kept (starts time interval records tx pdu ok made wrote) = refl
+address-kept (ticks tx m ok wrote) = refl
 address-kept (begins end header payload crcGood u channel m e ok some there low) = refl
 address-kept (hopping u channel m there low ok) = refl
 address-kept stops = refl
@@ -294,8 +318,8 @@ address-kept (stays c s) = refl
 
 pub live-kept : {d : Device} {c : Call} {r : Called} → (d .mode ≡ Connected → Live (d .conn)) → Happens d c r → r .device .mode ≡ Connected → Live (r .device .conn)
 unfolding requestOf
-live-kept live (starts time interval records tx pdu ok size) m = absurd (let z : _≡_ {A = ℕ} 0 1 = cc in omega arith)
-live-kept live (ticks tx m ok) c = absurd (let z : _≡_ {A = ℕ} 0 1 = cc in omega arith)
+live-kept live (starts time interval records tx pdu ok made wrote) m = absurd (let z : _≡_ {A = ℕ} 0 1 = cc in omega arith)
+live-kept live (ticks tx m ok wrote) c = absurd (let z : _≡_ {A = ℕ} 0 1 = cc in omega arith)
 live-kept live (begins end header payload crcGood u channel m e ok some there low) c = record { low = low; some = some }
 live-kept live (hopping u channel m there low ok) c = record { low = low; some = live m .some }
 live-kept live stops c = absurd (let z : _≡_ {A = ℕ} 0 1 = cc in omega arith)
@@ -307,8 +331,8 @@ sound-kept sound h = record { six = ap (λ (a : DeviceAddress). length (a .bytes
 -- the list's reading is the device's
 pub reads-on : {d : Device} {c : Call} {r : Called} → Happens d c r → readOn (d .«dev_addr») (reading d) c ≡ reading (r .device)
 unfolding readOn
-reads-on (starts time interval records tx pdu ok size) = rw (ok, size)
-reads-on (ticks tx m ok) = rw m
+reads-on (starts time interval records tx pdu ok made wrote) = rw (ok, made .size)
+reads-on (ticks tx m ok wrote) = rw m
 reads-on (begins end header payload crcGood u channel m e ok some there low) = rw (m, e)
 reads-on (hopping u channel m there low ok) = refl
 reads-on stops = refl

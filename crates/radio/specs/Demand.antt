@@ -1,29 +1,27 @@
 -- Demand 3: what holds of every list of calls from a fresh device in standby. `demand-3` of proofs/Demand.antt proves it of every own address of six
--- octets and every list; the laws below it say what its words mean.
+-- octets and every list; `Words` of specs/Laws.antt says what its words mean.
 use mathlib.Core.Bool.{Bool, true, false, _&&_}
-use mathlib.Core.List.{List, [], _∷_}
+use mathlib.Core.List.{List, [], _∷_, _++_}
 use mathlib.Core.Path.{_≡_}
-use Prim.Native.Nat.{ℕ, suc, _+_, _≤_, _<_}
-use lib.ListN.{length, getD}
+use Prim.Native.Nat.{ℕ, suc, _+_, _*_, _≤_, _<_}
+use lib.ListN.{length, drop}
 use Rattle.octets.specs.Error.{numberOf}
+use Rattle.octets.specs.Time.{later}
+use Rattle.octets.specs.declared.time.Instant.{Instant}
 use Rattle.channels.specs.Hop.{eventChannel, remapped}
 use Rattle.channels.specs.Laws.{cycles}
 use Rattle.channels.specs.Map.{marks, channelAt}
 use Rattle.channels.specs.Phy.{indexOf, firstChannel}
 use Rattle.channels.specs.declared.phy.AdvertisingChannel.{AdvertisingChannel}
+use Rattle.records.specs.Area.{rewritten}
+use Rattle.addresses.specs.Address.{isRandom}
 use Rattle.addresses.specs.declared.device_address.DeviceAddress.{DeviceAddress}
-use Rattle.radio.specs.Calls.{isAdvertising}
-use Rattle.radio.specs.Trace.{Call, start, tick, packet, event, stop, octetsOf, callOf, mapIn, hopIn, connects, Entry, accepted, trace, deviceAfter, modeAfter, AtEach, channelIn, gather, tickRole, eventRole, times, Choice, left}
+use Rattle.addresses.specs.declared.header.PduType.the-variants.{AdvInd}
+use Rattle.advertising.specs.PduBuf.{headerFor, flagsRecord}
+use Rattle.radio.specs.Calls.{instant, isAdvertising}
+use Rattle.radio.specs.Trace.{Call, start, tick, packet, event, stop, mapIn, hopIn, connects, Entry, accepted, trace, deviceAfter, modeAfter, AtEach, sentOn, eventOn, channelsBy, gather, tickRole, eventRole, times, Choice, left}
 use Rattle.radio.specs.declared.link.Answer.{Answer}
 use Rattle.radio.specs.declared.link.Answer.the-variants.{Refused, Sent, Listen, Respond, FirstEvent, NextEvent, Stopped}
-use Rattle.radio.specs.declared.link.Device.{Device}
-
-abbrev pub isStart : Call → Bool
-isStart (start time interval records tx) = true
-isStart (tick tx) = false
-isStart (packet end header payload crcGood) = false
-isStart event = false
-isStart stop = false
 
 -- the payload that a packet call is handed
 abbrev pub payloadIn : Call → List ℕ
@@ -52,38 +50,64 @@ isFirstEvent (FirstEvent channel at access crc) = true
 isFirstEvent (NextEvent channel) = false
 isFirstEvent Stopped = false
 
--- the channels of accepted ticks: each is the one that the cycle gives, from one cycle after the first on, and any three successive ones use each
--- channel once
-pub record Ticks (channels : List ℕ) : Type 0 where
-  pub by-cycle : (k : ℕ) → k < length channels → getD channels k 0 ≡ indexOf (cycles (suc k) firstChannel)
-  pub each-once : (k : ℕ) → k + 3 ≤ length channels → (c : AdvertisingChannel) → times (indexOf c) k 3 channels ≡ 1
+-- P holds of each entry with its place, counted from k
+abbrev pub Each : (ℕ → Entry → Type 0) → ℕ → List Entry → Type 0
+Each P k [] = Unit {0}
+Each P k (e ∷ es) = P k e × Each P (suc k) es
 
--- the channels of a connection's events, for the payload of its request: each is the one that the hop gives for the request's hop and map, and with
--- hop 1 to 31 any 37 consecutive ones use the marked channel at place i 1 + u times, u counting the unmarked channels with index mod n = i
-pub record Events (p : List ℕ) (channels : List ℕ) : Type 0 where
-  pub by-hop : (k : ℕ) → k < length channels → getD channels k 0 ≡ eventChannel (mapIn p) (hopIn p) k
-  pub each-share : 1 ≤ hopIn p → hopIn p ≤ 31 → (k : ℕ) → k + 37 ≤ length channels → (i : ℕ) → i < marks (mapIn p)
-      → times (channelAt (mapIn p) i) k 37 channels ≡ 1 + remapped (mapIn p) i
+-- a call's lent buffers with a payload written at the front of the transmit buffer, and its other octets kept
+abbrev pub transmitted : List ℕ → Call → List (List ℕ)
+transmitted payload (start time interval records tx) = records ∷ (payload ++ drop (length payload) tx) ∷ []
+transmitted payload (tick tx) = (payload ++ drop (length payload) tx) ∷ []
+transmitted payload (packet end header p crcGood) = p ∷ []
+transmitted payload event = []
+transmitted payload stop = []
+
+-- Tick k of what a start set up, counted from 0, the start's own: it answers the header of an ADV_IND of the own kind and of the payload's length, the
+-- channel after k + 1 cycles from the first, and the start's time and k + 1 intervals; it writes the own address, Flags and the records.
+pub record Tick (own : DeviceAddress) (time : Instant) (interval : ℕ) (records : List ℕ) (k : ℕ) (e : Entry) : Type 0 where
+  pub answer : e .result .answer
+      ≡ Sent (headerFor AdvInd (isRandom (own .kind)) false (9 + length records)) (cycles (suc k) firstChannel) (instant (later (time .0) (suc k * interval)))
+  pub octets : e .octets ≡ transmitted ((own .bytes ++ flagsRecord) ++ rewritten records) (e .call)
+
+-- the accepted ticks of a start: any three successive ones use each channel once
+pub record Ticks (own : DeviceAddress) (time : Instant) (interval : ℕ) (records : List ℕ) (entries : List Entry) : Type 0 where
+  pub each : Each (Tick own time interval records) 0 entries
+  pub each-once : (k : ℕ) → k + 3 ≤ length entries → (c : AdvertisingChannel) → times (indexOf c) k 3 (channelsBy sentOn entries) ≡ 1
+
+abbrev pub TicksOf : DeviceAddress → Call → List Entry → Type 0
+TicksOf own (start time interval records tx) entries = Ticks own time interval records entries
+TicksOf own (tick tx) entries = Unit {0}
+TicksOf own (packet end header payload crcGood) entries = Unit {0}
+TicksOf own event entries = Unit {0}
+TicksOf own stop entries = Unit {0}
+
+-- the events of a connection, for the payload of its request: each channel is the one that the hop gives for the request's hop and map, and with hop 1
+-- to 31 any 37 consecutive ones use the marked channel at place i 1 + u times, u counting the unmarked channels with index mod n = i
+pub record Events (p : List ℕ) (entries : List Entry) : Type 0 where
+  pub by-hop : Each (λ k e. eventOn (e .result .answer) ≡ eventChannel (mapIn p) (hopIn p) k) 0 entries
+  pub each-share : 1 ≤ hopIn p → hopIn p ≤ 31 → (k : ℕ) → k + 37 ≤ length entries → (i : ℕ) → i < marks (mapIn p)
+      → times (channelAt (mapIn p) i) k 37 (channelsBy eventOn entries) ≡ 1 + remapped (mapIn p) i
 
 -- a call is refused with the number of the table, and exactly where the table refuses it
 abbrev pub RefusedAt : Entry → List Entry → Type 0
-RefusedAt e later = numberIn (e .result .answer) ≡ e .number
+RefusedAt e after = numberIn (e .result .answer) ≡ e .number
 
 -- from an accepted start to the next, the start's own tick included
-abbrev pub TicksFrom : Entry → List Entry → Type 0
-TicksFrom e later = (isStart (e .call) && accepted e) ≡ true → Ticks (channelIn (e .result .answer) ∷ gather tickRole later)
+abbrev pub TicksFrom : DeviceAddress → Entry → List Entry → Type 0
+TicksFrom own e after = accepted e ≡ true → TicksOf own (e .call) (e ∷ gather tickRole after)
 
 -- a first event is given exactly where an advertising board is handed a connect request as `connects` says, and by that call
 abbrev pub BeginsAt : DeviceAddress → Entry → List Entry → Type 0
-BeginsAt own e later = isFirstEvent (e .result .answer) ≡ (isAdvertising (e .mode) && connects own (e .call))
+BeginsAt own e after = isFirstEvent (e .result .answer) ≡ (isAdvertising (e .mode) && connects own (e .call))
 
 -- from a first event to a stop or an accepted start
 abbrev pub EventsFrom : Entry → List Entry → Type 0
-EventsFrom e later = isFirstEvent (e .result .answer) ≡ true → Events (payloadIn (e .call)) (channelIn (e .result .answer) ∷ gather eventRole later)
+EventsFrom e after = isFirstEvent (e .result .answer) ≡ true → Events (payloadIn (e .call)) (e ∷ gather eventRole after)
 
 pub record Demand3 (own : DeviceAddress) (calls : List Call) : Type 0 where
   pub refusals : AtEach RefusedAt (trace own calls)
-  pub ticks : AtEach TicksFrom (trace own calls)
+  pub ticks : AtEach (TicksFrom own) (trace own calls)
   pub begins : AtEach (BeginsAt own) (trace own calls)
   pub events : AtEach EventsFrom (trace own calls)
   -- the device's mode is the list's

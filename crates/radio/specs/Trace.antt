@@ -10,11 +10,12 @@
 --   readOn own l c            == the reading after the call
 --   trace own calls           == the calls from a fresh device, each with what the list says of it and what it gave
 --   deviceAfter, modeAfter    == the device at the end, and the mode that the list gives then
---   gather role entries       == the channels of a run of ticks or of events
+--   gather role entries       == the entries of a run of ticks or of events
+--   sentOn a, eventOn a       == the channel of a tick's answer, and of an event's; channelsBy: those of entries
 --   times c k n channels      == how many of the n channels from place k on are c
 --   Strikable, Choice, left   == packets that may be struck out, any choice of them, and what is left
 use mathlib.Core.Bool.{Bool, true, false, cond, not, _&&_, _||_}
-use mathlib.Core.List.{List, [], _∷_}
+use mathlib.Core.List.{List, [], _∷_, map}
 use mathlib.Core.Path.{_≡_}
 use Prim.Native.Nat.{ℕ, zero, suc, _+_, _%_}
 use lib.Dec.{eqb, ltb}
@@ -32,9 +33,7 @@ use Rattle.addresses.specs.declared.device_address.DeviceAddress.{DeviceAddress
 use Rattle.addresses.specs.declared.header.Header.{Header}
 use Rattle.addresses.specs.declared.header.PduType.{PduType}
 use Rattle.addresses.specs.declared.header.PduType.the-variants.{AdvInd, AdvDirectInd, AdvNonconnInd, AdvScanInd, ScanReq, ScanRsp, ConnectReq, Unknown}
-use Rattle.advertising.specs.Pdu.{fieldAt, connectFigure, decodeOf}
-use Rattle.advertising.specs.declared.pdu.Outcome.{Outcome}
-use Rattle.advertising.specs.declared.pdu.Outcome.the-variants as outcome
+use Rattle.advertising.specs.Pdu.{fieldAt, connectFigure, isAccepted, decodeOf}
 use Rattle.radio.specs.Calls.{fresh, isAdvertising, isConnected, isFor, startOf, startAfter, tickOf, tickAfter, packetOf, eventOf, stopOf}
 use Rattle.radio.specs.declared.link.Answer.{Answer}
 use Rattle.radio.specs.declared.link.Answer.the-variants.{Refused, Sent, Listen, Respond, FirstEvent, NextEvent, Stopped}
@@ -68,10 +67,6 @@ octetsOf d event = []
 octetsOf d stop = []
 
 -- What the list alone says
-
-abbrev pub isAccepted : Outcome → Bool
-isAccepted outcome.Accepted = true
-isAccepted (outcome.Refused e) = false
 
 abbrev pub isConnectRequest : PduType → Bool
 isConnectRequest ConnectReq = true
@@ -192,15 +187,27 @@ pub data AtEach (P : Entry → List Entry → Type 0) : List Entry → Type 0 wh
 
 -- Channels used
 
--- the channel that an answer transmits on or gives for an event; 0 where it does neither
-abbrev pub channelIn : Answer → ℕ
-channelIn (Refused e) = 0
-channelIn (Sent header channel next) = indexOf channel
-channelIn (Listen channel) = 0
-channelIn (Respond header channel) = indexOf channel
-channelIn (FirstEvent channel at access crc) = channel .index
-channelIn (NextEvent channel) = channel .index
-channelIn Stopped = 0
+-- the channel of a tick's answer, and that of an event's; 40, which is no channel, for any other answer
+abbrev pub sentOn : Answer → ℕ
+sentOn (Sent header channel next) = indexOf channel
+sentOn (Refused e) = 40
+sentOn (Listen channel) = 40
+sentOn (Respond header channel) = 40
+sentOn (FirstEvent channel at access crc) = 40
+sentOn (NextEvent channel) = 40
+sentOn Stopped = 40
+
+abbrev pub eventOn : Answer → ℕ
+eventOn (FirstEvent channel at access crc) = channel .index
+eventOn (NextEvent channel) = channel .index
+eventOn (Refused e) = 40
+eventOn (Sent header channel next) = 40
+eventOn (Listen channel) = 40
+eventOn (Respond header channel) = 40
+eventOn Stopped = 40
+
+abbrev pub channelsBy : (Answer → ℕ) → List Entry → List ℕ
+channelsBy channel entries = map (λ (e : Entry). channel (e .result .answer)) entries
 
 -- what an entry is to a run of ticks or of events: its end, one of the run, or neither
 pub data Role : Type 0 where
@@ -208,14 +215,14 @@ pub data Role : Type 0 where
   uses : Role
   passes : Role
 
-abbrev pub gathered : Role → ℕ → List ℕ → List ℕ
-gathered ends channel rest = []
-gathered uses channel rest = channel ∷ rest
-gathered passes channel rest = rest
+abbrev pub gathered : Role → Entry → List Entry → List Entry
+gathered ends e rest = []
+gathered uses e rest = e ∷ rest
+gathered passes e rest = rest
 
-abbrev pub gather : (Bool → Call → Role) → List Entry → List ℕ
+abbrev pub gather : (Bool → Call → Role) → List Entry → List Entry
 gather role [] = []
-gather role (e ∷ later) = gathered (role (accepted e) (e .call)) (channelIn (e .result .answer)) (gather role later)
+gather role (e ∷ later) = gathered (role (accepted e) (e .call)) e (gather role later)
 
 -- the accepted ticks up to the next accepted start
 unfoldable pub tickRole : Bool → Call → Role

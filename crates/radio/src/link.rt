@@ -276,7 +276,7 @@ impl Device {
         }
     }
 
-    // A CRC-good packet. One that was refused has no receiver.
+    // A CRC-good packet. One that does not decode has no second address.
     fn hear(self, rx_end: Instant, pdu: Pdu) -> Called
         ensures { λ r. ⌜ r ≡ heard self «rx_end» pdu ⌝ }
     {

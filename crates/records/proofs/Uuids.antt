@@ -1,9 +1,9 @@
--- The UUIDs of a list, one by one: `one-by-one`.
+-- The UUIDs of a list, one by one: `one-by-one`; and that a UUID takes an octet at least.
 -- Assumes nothing.
 use mathlib.Core.Path.{_≡_, refl}
 use mathlib.Core.Bool.{Bool, true, false, cond}
 use mathlib.Core.List.{List, [], _∷_}
-use Prim.Native.Nat.{ℕ, _+_, _≤_}
+use Prim.Native.Nat.{ℕ, _+_, _≤_, _<_}
 use native.Mathlib.Omega.{arith}
 use lib.ListN.{length, drop, drop-of-length-le}
 use lib.Dec.{eqb}
@@ -11,10 +11,17 @@ use borrow.Author.Tests.{eqb-true, leb-true, leb-false}
 use Rattle.octets.specs.declared.error.Error.the-variants.{Eof}
 use Rattle.octets.specs.declared.bytes.U16Read.the-variants as u16read
 use Rattle.octets.specs.Bytes.{has, part, le}
-use Rattle.octets.specs.Uuid.{uuid16From}
+use Rattle.octets.specs.declared.uuid.UuidKind.{UuidKind}
+use Rattle.octets.specs.declared.uuid.UuidKind.the-variants.{Uuid16, Uuid32, Uuid128}
+use Rattle.octets.specs.Uuid.{uuidSize, uuid16From}
 use Rattle.octets.proofs.Places.{front}
 use Rattle.records.specs.declared.ad_structure.NextUuid16.the-variants as next16
 use Rattle.records.specs.Uuids.{next16From, uuid16At, uuids, Next, OneByOne}
+
+pub uuidSize-positive : (k : UuidKind) → 0 < uuidSize k
+uuidSize-positive Uuid16 = omega arith
+uuidSize-positive Uuid32 = omega arith
+uuidSize-positive Uuid128 = omega arith
 
 -- the first UUID, and those after it
 first-uuid : (d : List ℕ) (at : ℕ) → at + 2 ≤ length d → uuids (drop at d) ≡ le (part 2 d at) ∷ uuids (drop (at + 2) d)

@@ -72,6 +72,10 @@ serviceData uuid start len = ad.ServiceData16 uuid start len
 abbrev pub manufacturerData : ℕ → ℕ → ℕ → AdStructure
 manufacturerData company start len = ad.ManufacturerSpecificData (record { 0 = company }) start len
 
+-- service data, or manufacturer specific data
+abbrev pub pairKind : Bool → ℕ → ℕ → ℕ → AdStructure
+pairKind service number start len = cond service (serviceData number start len) (manufacturerData number start len)
+
 unfoldable pub dataRead : ℕ → List ℕ → ℕ → Parsed
 dataRead ty d start =
     cond (eqb ty flagsType) (flagsRead d)

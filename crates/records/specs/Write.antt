@@ -1,13 +1,15 @@
 -- What writing one record answers, and what the octets then hold (type octets: Assigned Numbers, 2.3; refusals and their order: document 01).
 --   shapeOf a             == the row of the table of kinds
 --   dataOf a s            == the data, whose lent part lies in s
+--   IsOutline a o         == the outline o, which the code writes by, holds what that row says
 --   spaceFor d out at     == whether a record with data d may be written at position `at` of out
 --   mayWrite a s out at   == whether the record a may, whose lent part lies in s
-use Prim.Native.Nat.{ℕ, _+_}
+use mathlib.Core.Path.{_≡_}
+use Prim.Native.Nat.{ℕ, _+_, _%_, _<_}
 use mathlib.Core.Bool.{Bool, cond}
 use mathlib.Core.List.{List, [], _∷_, _++_}
-use lib.ListN.{length}
-use lib.Dec.{ltb}
+use lib.ListN.{length, take}
+use lib.Dec.{ltb, leb, eqb}
 use Rattle.octets.specs.declared.error.Error.the-variants.{Eof, InvalidValue, RecordLength}
 use Rattle.octets.specs.declared.uuid.UuidKind.{UuidKind}
 use Rattle.octets.specs.declared.uuid.UuidKind.the-variants.{Uuid16, Uuid32, Uuid128}
@@ -19,6 +21,7 @@ use Rattle.records.specs.declared.ad_structure.AdStructure.{AdStructure}
 use Rattle.records.specs.declared.ad_structure.AdStructure.the-variants.{Flags, ServiceUuids16, ServiceUuids32, ServiceUuids128, ServiceData16, CompleteLocalName, ShortenedLocalName, ManufacturerSpecificData, Unknown}
 use Rattle.records.specs.declared.ad_structure.Checked.{Checked}
 use Rattle.records.specs.declared.ad_structure.Checked.the-variants.{Fine}
+use Rattle.records.specs.declared.ad_structure.Outline.{Outline}
 use Rattle.records.specs.Record.{recordOf, named, wholeUuids}
 use Rattle.records.specs.Types.{flagsType, incomplete16Type, complete16Type, incomplete32Type, complete32Type, incomplete128Type, complete128Type, shortenedNameType, completeNameType, serviceDataType, manufacturerType}
 
@@ -73,13 +76,32 @@ lenOf a = shapeOf a .len
 abbrev pub checkOf : AdStructure → List ℕ → Checked
 checkOf a d = shapeOf a .check d
 
+-- the octets of its own that an outline writes, and its check of the lent part d
+abbrev pub ownIn : Outline → List ℕ
+ownIn o = take (o .held) (leBytes 2 (o .own))
+
+abbrev pub lentCheck : Bool → ℕ → List ℕ → Checked
+lentCheck name unit d = cond name (nameCheck d) (cond (eqb (length d % unit) 0) Fine (Checked.Refused Eof))
+
+-- an outline says what the row says
+pub record IsOutline (a : AdStructure) (o : Outline) : Type 0 where
+  pub type : o .ty ≡ typeOf a
+  pub own : ownIn o ≡ ownOf a
+  pub many : o .held ≡ length (ownOf a)
+  pub start : o .start ≡ startOf a
+  pub len : o .len ≡ lenOf a
+  pub check : (d : List ℕ) → lentCheck (o .name) (o .unit) d ≡ checkOf a d
+  pub units : 0 < o .unit
+
 unfoldable pub dataOf : AdStructure → List ℕ → List ℕ
 dataOf a s = ownOf a ++ part (lenOf a) s (startOf a)
 
--- length and type take two octets more; the length octet counts the type too
+-- n octets of data at position `at` of `size` octets: length and type take two octets more; the length octet counts the type too
+abbrev pub spaceIn : ℕ → ℕ → ℕ → Checked
+spaceIn n size at = cond (leb (at + (n + 2)) size) (cond (ltb 255 (n + 1)) (Checked.Refused RecordLength) Fine) (Checked.Refused Eof)
+
 abbrev pub spaceFor : List ℕ → List ℕ → ℕ → Checked
-spaceFor d out at =
-    cond (has (length d + 2) out at) (cond (ltb 255 (length d + 1)) (Checked.Refused RecordLength) Fine) (Checked.Refused Eof)
+spaceFor d out at = spaceIn (length d) (length out) at
 
 abbrev pub andThen : Checked → Checked → Checked
 andThen Fine later = later
@@ -98,19 +120,12 @@ abbrev pub leaves : Checked → List ℕ → List ℕ → ℕ → List ℕ
 leaves Fine xs out at = written xs out at
 leaves (Checked.Refused e) xs out at = out
 
--- of a type with data
-unfoldable pub rawTo : ℕ → List ℕ → List ℕ → ℕ → Written
-rawTo ty d out at = answer (spaceFor d out at) (recordOf ty d) at
+-- of a record with this outline, whose lent part is d
+unfoldable pub lentTo : Outline → List ℕ → List ℕ → ℕ → Written
+lentTo o d out at = answer (andThen (lentCheck (o .name) (o .unit) d) (spaceFor (ownIn o ++ d) out at)) (recordOf (o .ty) (ownIn o ++ d)) at
 
-unfoldable pub rawAfter : ℕ → List ℕ → List ℕ → ℕ → List ℕ
-rawAfter ty d out at = leaves (spaceFor d out at) (recordOf ty d) out at
-
--- of a record of type ty whose lent part is d
-unfoldable pub lentTo : AdStructure → ℕ → List ℕ → List ℕ → ℕ → Written
-lentTo a ty d out at = answer (andThen (checkOf a d) (spaceFor (ownOf a ++ d) out at)) (recordOf ty (ownOf a ++ d)) at
-
-unfoldable pub lentAfter : AdStructure → ℕ → List ℕ → List ℕ → ℕ → List ℕ
-lentAfter a ty d out at = leaves (andThen (checkOf a d) (spaceFor (ownOf a ++ d) out at)) (recordOf ty (ownOf a ++ d)) out at
+unfoldable pub lentAfter : Outline → List ℕ → List ℕ → ℕ → List ℕ
+lentAfter o d out at = leaves (andThen (lentCheck (o .name) (o .unit) d) (spaceFor (ownIn o ++ d) out at)) (recordOf (o .ty) (ownIn o ++ d)) out at
 
 -- of a record
 unfoldable pub octetsOf : AdStructure → List ℕ → List ℕ

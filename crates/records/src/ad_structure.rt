@@ -1,16 +1,18 @@
 // AD structures, here called records: a length octet, a type octet and data (the Core, Vol 3 Part C, 11; the Supplement, Part A, 1).
 ghost use mathlib.Core.Path.{_≡_};
 ghost use mathlib.Core.List.{_++_};
+ghost use mathlib.Core.Bool.{cond};
 ghost use Prim.Native.Nat.{_+_, _≤_, _<_, _^_};
 ghost use lib.Dec.{eqb};
-ghost use lib.ListN.{length, take};
+ghost use lib.ListN.{length, getD, drop};
 ghost use Rattle.octets.specs.Bytes.{written};
-ghost use Rattle.records.specs.Record.{recordOf, named, bit, uuidList, wholeUuids, flagsRead, uuidsRead, localName, nameRead, serviceData, manufacturerData, pairRead, dataRead, kindRead, lentRead, knownRead, recordAt};
+ghost use Rattle.records.specs.Record.{recordOf, named, bit, uuidList, flagsRead, uuidsRead, localName, nameRead, pairKind, pairRead, dataRead, kindRead, first, recordRead, knownRead, recordAt};
 ghost use Rattle.records.specs.Uuids.{uuid16At};
-ghost use Rattle.records.specs.Write.{listType, typeOf, startOf, lenOf, ownOf, listCheck, nameCheck, checkOf, rawTo, rawAfter, lentTo, lentAfter, writtenTo, writtenAfter};
+ghost use Rattle.records.specs.Write.{IsOutline, lentCheck, spaceIn, andThen, lentTo, lentAfter, writtenTo, writtenAfter};
 use octets::bytes::ByteReader;
 use octets::bytes::ByteWriter;
 use octets::bytes::Written;
+use octets::bytes::has_octets;
 use octets::bytes::u16_from_le_bytes;
 use octets::bytes::u16_to_le_bytes;
 use octets::comp_id::CompanyId;
@@ -89,205 +91,206 @@ enum Checked {
     Refused(Error),
 }
 
-// A record's type, and where its lent data lies.
+// What is written of a record.
 struct Outline {
     ty: u8,
+    // What the record holds itself, least significant octet first, and how many octets of that are written.
+    own: u16,
+    held: usize,
+    // Where its lent data lie.
     start: usize,
     len: usize,
-}
-
-// Octets that a record holds itself, before its lent data: the first `len` of them.
-struct Own {
-    octets: [u8; 2],
-    len: usize,
+    // These must be UTF-8, or whole units of so many octets.
+    name: bool,
+    unit: usize,
 }
 
 impl AdStructure {
     fn outline(self) -> Outline
-        ensures { λ r. ⌜ (r .ty ≡ typeOf self) × (r .start ≡ startOf self) × (r .len ≡ lenOf self) ⌝ }
+        ensures { λ r. ⌜ IsOutline self r ⌝ }
     {
         match self {
-            AdStructure::Flags(_) => Outline {
+            AdStructure::Flags(flags) => Outline {
                 ty: Type::FLAGS,
+                own: flags.to_u8() as u16,
+                held: 1,
                 start: 0,
                 len: 0,
+                name: false,
+                unit: 1,
             },
             AdStructure::ServiceUuids16 {
                 complete,
                 start,
                 len,
-            } => {
-                let ty = list_type(UuidKind::Uuid16, complete);
-                Outline { ty, start, len }
-            }
+            } => Outline {
+                ty: either(
+                    complete,
+                    Type::COMPLETE_LIST_OF_16BIT_SERVICE_UUIDS,
+                    Type::INCOMPLETE_LIST_OF_16BIT_SERVICE_UUIDS,
+                ),
+                own: 0,
+                held: 0,
+                start,
+                len,
+                name: false,
+                unit: 2,
+            },
             AdStructure::ServiceUuids32 {
                 complete,
                 start,
                 len,
-            } => {
-                let ty = list_type(UuidKind::Uuid32, complete);
-                Outline { ty, start, len }
-            }
+            } => Outline {
+                ty: either(
+                    complete,
+                    Type::COMPLETE_LIST_OF_32BIT_SERVICE_UUIDS,
+                    Type::INCOMPLETE_LIST_OF_32BIT_SERVICE_UUIDS,
+                ),
+                own: 0,
+                held: 0,
+                start,
+                len,
+                name: false,
+                unit: 4,
+            },
             AdStructure::ServiceUuids128 {
                 complete,
                 start,
                 len,
-            } => {
-                let ty = list_type(UuidKind::Uuid128, complete);
-                Outline { ty, start, len }
-            }
-            AdStructure::ServiceData16 {
-                uuid: _,
-                start,
-                len,
             } => Outline {
-                ty: Type::SERVICE_DATA_16BIT_UUID,
+                ty: either(
+                    complete,
+                    Type::COMPLETE_LIST_OF_128BIT_SERVICE_UUIDS,
+                    Type::INCOMPLETE_LIST_OF_128BIT_SERVICE_UUIDS,
+                ),
+                own: 0,
+                held: 0,
                 start,
                 len,
+                name: false,
+                unit: 16,
+            },
+            AdStructure::ServiceData16 { uuid, start, len } => Outline {
+                ty: Type::SERVICE_DATA_16BIT_UUID,
+                own: uuid,
+                held: 2,
+                start,
+                len,
+                name: false,
+                unit: 1,
             },
             AdStructure::CompleteLocalName { start, len } => Outline {
                 ty: Type::COMPLETE_LOCAL_NAME,
+                own: 0,
+                held: 0,
                 start,
                 len,
+                name: true,
+                unit: 1,
             },
             AdStructure::ShortenedLocalName { start, len } => Outline {
                 ty: Type::SHORTENED_LOCAL_NAME,
+                own: 0,
+                held: 0,
                 start,
                 len,
+                name: true,
+                unit: 1,
             },
             AdStructure::ManufacturerSpecificData {
-                company_identifier: _,
+                company_identifier,
                 start,
                 len,
             } => Outline {
                 ty: Type::MANUFACTURER_SPECIFIC_DATA,
+                own: company_identifier.as_u16(),
+                held: 2,
                 start,
                 len,
+                name: false,
+                unit: 1,
             },
-            AdStructure::Unknown { ty, start, len } => Outline { ty, start, len },
-        }
-    }
-
-    fn own(self) -> Own
-        ensures { λ r. ⌜ (r .len ≡ length (ownOf self)) × (take (r .len) (r .octets) ≡ ownOf self) ⌝ }
-    {
-        match self {
-            AdStructure::Flags(flags) => Own {
-                octets: [flags.to_u8(), 0],
-                len: 1,
+            AdStructure::Unknown { ty, start, len } => Outline {
+                ty,
+                own: 0,
+                held: 0,
+                start,
+                len,
+                name: false,
+                unit: 1,
             },
-            AdStructure::ServiceData16 {
-                uuid,
-                start: _,
-                len: _,
-            } => Own {
-                octets: u16_to_le_bytes(uuid),
-                len: 2,
-            },
-            AdStructure::ManufacturerSpecificData {
-                company_identifier,
-                start: _,
-                len: _,
-            } => Own {
-                octets: u16_to_le_bytes(company_identifier.as_u16()),
-                len: 2,
-            },
-            _ => Own {
-                octets: [0, 0],
-                len: 0,
-            },
-        }
-    }
-
-    // Refuses a name that is not UTF-8, and a list that is not whole UUIDs.
-    fn check(self, data: &[u8]) -> Checked
-        ensures { λ r. ⌜ r ≡ checkOf self (now («data» .entry)) ⌝ }
-    {
-        match self {
-            AdStructure::ServiceUuids16 {
-                complete: _,
-                start: _,
-                len: _,
-            } => check_list(UuidKind::Uuid16, data),
-            AdStructure::ServiceUuids32 {
-                complete: _,
-                start: _,
-                len: _,
-            } => check_list(UuidKind::Uuid32, data),
-            AdStructure::ServiceUuids128 {
-                complete: _,
-                start: _,
-                len: _,
-            } => check_list(UuidKind::Uuid128, data),
-            AdStructure::CompleteLocalName { start: _, len: _ } => check_name(data),
-            AdStructure::ShortenedLocalName { start: _, len: _ } => check_name(data),
-            _ => Checked::Fine,
         }
     }
 }
 
-fn check_list(kind: UuidKind, data: &[u8]) -> Checked
-    ensures { λ r. ⌜ r ≡ listCheck kind (now («data» .entry)) ⌝ }
+fn either(first: bool, a: u8, b: u8) -> u8
+    ensures { λ r. ⌜ r ≡ cond first a b ⌝ }
 {
-    if is_whole(kind, data) {
-        Checked::Fine
-    } else {
-        Checked::Refused(Error::Eof)
-    }
+    if first { a } else { b }
 }
 
-fn check_name(data: &[u8]) -> Checked
-    ensures { λ r. ⌜ r ≡ nameCheck (now («data» .entry)) ⌝ }
+// Whether `len` octets of data may be written at position `at` of `size` octets, with a length and a type before them.
+fn space_for(len: usize, at: usize, size: usize) -> Checked
+    requires { ⌜ len + 2 < 2 ^ 64 ⌝ }
+    ensures { λ r. ⌜ r ≡ spaceIn len size at ⌝ }
 {
-    if is_utf8(data) {
-        Checked::Fine
-    } else {
-        Checked::Refused(Error::InvalidValue)
+    if size < at {
+        return Checked::Refused(Error::Eof);
     }
+    if size - at < len + 2 {
+        return Checked::Refused(Error::Eof);
+    }
+    if 255 < len + 1 {
+        return Checked::Refused(Error::RecordLength);
+    }
+    Checked::Fine
+}
+
+// Refuses a name that is not UTF-8 and data that are not whole units, then too little space and a record that is too long.
+fn may_write(name: bool, unit: usize, data: &[u8], len: usize, at: usize, size: usize) -> Checked
+    requires { ⌜ (0 < unit) × (len + 2 < 2 ^ 64) ⌝ }
+    ensures { λ r. ⌜ r ≡ andThen (lentCheck name unit (now («data» .entry))) (spaceIn len size at) ⌝ }
+{
+    if name {
+        if is_utf8(data) {
+            return space_for(len, at, size);
+        }
+        return Checked::Refused(Error::InvalidValue);
+    }
+    if data.len() % unit == 0 {
+        return space_for(len, at, size);
+    }
+    Checked::Refused(Error::Eof)
 }
 
 // Writes length, type, a record's own octets and its data at position `at`.
-fn put_raw(ty: u8, own: &[u8], data: &[u8], at: usize, out: &mut [u8])
-    requires { ⌜ (at + 2 + length (now own) + length (now «data») ≤ length (now out)) × (1 + length (now own) + length (now «data») ≤ 255) ⌝ }
+fn put_raw(len: u8, ty: u8, own: &[u8], data: &[u8], at: usize, out: &mut [u8])
+    requires { ⌜ (at + 2 + length (now own) + length (now «data») ≤ length (now out)) × (len ≡ 1 + length (now own) + length (now «data»)) ⌝ }
     ensures { λ _. ⌜ now (out .exit) ≡ written (recordOf ty (now (own .entry) ++ now («data» .entry))) (now (out .entry)) at ⌝ }
 {
     let after_type = at + 2;
     let mid = after_type + own.len();
     let end = mid + data.len();
-    out[at] = (1 + own.len() + data.len()) as u8;
+    out[at] = len;
     out[at + 1] = ty;
     bytes::copy(own, &mut out[after_type..mid]);
     bytes::copy(data, &mut out[mid..end]);
 }
 
-// Writes a record of a type, where there is space and the length octet can hold its length.
-fn write_raw(ty: u8, own: &[u8], data: &[u8], writer: ByteWriter, out: &mut [u8]) -> Written
-    requires { ⌜ length (now own) ≤ 2 ⌝ }
-    ensures { λ r. ⌜ (r ≡ rawTo ty (now (own .entry) ++ now («data» .entry)) (now (out .entry)) (writer .at)) × (now (out .exit) ≡ rawAfter ty (now (own .entry) ++ now («data» .entry)) (now (out .entry)) (writer .at)) ⌝ }
+// Writes a record whose lent data are given, where these may be written.
+fn write_lent(outline: Outline, data: &[u8], writer: ByteWriter, out: &mut [u8]) -> Written
+    requires { ⌜ (outline .held ≤ 2) × (0 < outline .unit) ⌝ }
+    ensures { λ r. ⌜ (r ≡ lentTo outline (now («data» .entry)) (now (out .entry)) (writer .at)) × (now (out .exit) ≡ lentAfter outline (now («data» .entry)) (now (out .entry)) (writer .at)) ⌝ }
 {
     let at = writer.at;
-    let len = 1 + own.len() + data.len();
-    if writer.space_left(out) < 1 + len {
-        return Written::Refused(Error::Eof);
-    }
-    if 255 < len {
-        return Written::Refused(Error::RecordLength);
-    }
-    put_raw(ty, own, data, at, out);
-    Written::To(ByteWriter { at: at + 1 + len })
-}
-
-// Writes a record of type `ty` whose lent data is given, where that may be written.
-fn write_lent(ad: AdStructure, ty: u8, data: &[u8], writer: ByteWriter, out: &mut [u8]) -> Written
-    ensures { λ r. ⌜ (r ≡ lentTo ad ty (now («data» .entry)) (now (out .entry)) (writer .at)) × (now (out .exit) ≡ lentAfter ad ty (now («data» .entry)) (now (out .entry)) (writer .at)) ⌝ }
-{
-    if let Checked::Refused(e) = ad.check(data) {
+    let held = outline.held;
+    let len = held + data.len();
+    if let Checked::Refused(e) = may_write(outline.name, outline.unit, data, len, at, out.len()) {
         return Written::Refused(e);
     }
-    let own = ad.own();
-    let octets = own.octets;
-    let n = own.len;
-    write_raw(ty, &octets[..n], data, writer, out)
+    let own = u16_to_le_bytes(outline.own);
+    put_raw((len + 1) as u8, outline.ty, &own[..held], data, at, out);
+    Written::To(ByteWriter { at: at + 2 + len })
 }
 
 // Writes a record whose data lies in s.
@@ -297,14 +300,11 @@ pub fn write_record(ad: AdStructure, s: &[u8], writer: ByteWriter, out: &mut [u8
     let outline = ad.outline();
     let start = outline.start;
     let len = outline.len;
-    if s.len() < start {
-        return Written::Refused(Error::Eof);
+    if has_octets(s, start, len) {
+        let end = start + len;
+        return write_lent(outline, &s[start..end], writer, out);
     }
-    if s.len() - start < len {
-        return Written::Refused(Error::Eof);
-    }
-    let end = start + len;
-    write_lent(ad, outline.ty, &s[start..end], writer, out)
+    Written::Refused(Error::Eof)
 }
 
 // Reads the data of Flags.
@@ -321,11 +321,10 @@ fn read_flags(data: &[u8]) -> Parsed
 fn read_uuids(kind: UuidKind, complete: bool, data: &[u8], start: usize) -> Parsed
     ensures { λ r. ⌜ r ≡ uuidsRead kind complete (now («data» .entry)) start ⌝ }
 {
-    if is_whole(kind, data) {
-        Parsed::Structure(uuid_list(kind, complete, start, data.len()))
-    } else {
-        Parsed::Refused(Error::Eof)
+    if data.len() % kind.size() == 0 {
+        return Parsed::Structure(uuid_list(kind, complete, start, data.len()));
     }
+    Parsed::Refused(Error::Eof)
 }
 
 // Reads the data of a name, which start at `start`.
@@ -333,41 +332,21 @@ fn read_name(complete: bool, data: &[u8], start: usize) -> Parsed
     ensures { λ r. ⌜ r ≡ nameRead complete (now («data» .entry)) start ⌝ }
 {
     if is_utf8(data) {
-        Parsed::Structure(local_name(complete, start, data.len()))
-    } else {
-        Parsed::Refused(Error::InvalidValue)
+        return Parsed::Structure(local_name(complete, start, data.len()));
     }
+    Parsed::Refused(Error::InvalidValue)
 }
 
-// Reads service data, which start at `start`: a UUID, then the rest.
-fn read_service_data16(data: &[u8], start: usize) -> Parsed
+// Reads service data or manufacturer specific data, which start at `start`: a UUID or a company identifier, then the rest.
+fn read_pair(service: bool, data: &[u8], start: usize) -> Parsed
     requires { ⌜ start + length (now «data») < 2 ^ 64 ⌝ }
-    ensures { λ r. ⌜ r ≡ pairRead serviceData (now («data» .entry)) start ⌝ }
+    ensures { λ r. ⌜ r ≡ pairRead (pairKind service) (now («data» .entry)) start ⌝ }
 {
     if data.len() < 2 {
         return Parsed::Refused(Error::Eof);
     }
-    Parsed::Structure(AdStructure::ServiceData16 {
-        uuid: u16_from_le_bytes(data[0], data[1]),
-        start: start + 2,
-        len: data.len() - 2,
-    })
-}
-
-// Reads manufacturer specific data, which start at `start`: a company identifier, then the rest.
-fn read_manufacturer_data(data: &[u8], start: usize) -> Parsed
-    requires { ⌜ start + length (now «data») < 2 ^ 64 ⌝ }
-    ensures { λ r. ⌜ r ≡ pairRead manufacturerData (now («data» .entry)) start ⌝ }
-{
-    if data.len() < 2 {
-        return Parsed::Refused(Error::Eof);
-    }
-    let raw = u16_from_le_bytes(data[0], data[1]);
-    Parsed::Structure(AdStructure::ManufacturerSpecificData {
-        company_identifier: CompanyId::from_raw(raw),
-        start: start + 2,
-        len: data.len() - 2,
-    })
+    let number = u16_from_le_bytes(data[0], data[1]);
+    Parsed::Structure(pair(service, number, start + 2, data.len() - 2))
 }
 
 // Reads the data of a record of type `ty`, which start at `start`: of Flags and of lists of 16-bit UUIDs, as rubble does.
@@ -410,23 +389,17 @@ fn read_kind(ty: u8, data: &[u8], start: usize) -> Parsed
         }
         Type::SHORTENED_LOCAL_NAME => read_name(false, data, start),
         Type::COMPLETE_LOCAL_NAME => read_name(true, data, start),
-        Type::SERVICE_DATA_16BIT_UUID => read_service_data16(data, start),
-        Type::MANUFACTURER_SPECIFIC_DATA => read_manufacturer_data(data, start),
+        Type::SERVICE_DATA_16BIT_UUID => read_pair(true, data, start),
+        Type::MANUFACTURER_SPECIFIC_DATA => read_pair(false, data, start),
         _ => read_data(ty, data, start),
     }
 }
 
-// Reads the record at position `at`. A position past the end is refused.
-pub fn read_record(s: &[u8], at: usize) -> Read
-    ensures { λ r. ⌜ r ≡ recordAt (now (s .entry)) at ⌝ }
+// Reads the record at position `at`, whose length octet is `len`.
+fn read_sized(s: &[u8], at: usize, len: usize) -> Read
+    requires { ⌜ (at < length (now s)) × (len ≡ getD (now s) at 0) ⌝ }
+    ensures { λ r. ⌜ r ≡ recordRead (first (drop at (now (s .entry)))) at ⌝ }
 {
-    if s.len() < at {
-        return Read::Refused(Error::Eof);
-    }
-    if s.len() == at {
-        return Read::End;
-    }
-    let len = s[at] as usize;
     if len == 0 {
         return Read::Refused(Error::InvalidLength);
     }
@@ -441,18 +414,17 @@ pub fn read_record(s: &[u8], at: usize) -> Read
     }
 }
 
-// Reads on the data of a record of type `ty`, which lie at `start` of s.
-fn read_lent(ty: u8, s: &[u8], start: usize, len: usize) -> Parsed
-    ensures { λ r. ⌜ r ≡ lentRead ty (now (s .entry)) start len ⌝ }
+// Reads the record at position `at`. A position past the end is refused.
+pub fn read_record(s: &[u8], at: usize) -> Read
+    ensures { λ r. ⌜ r ≡ recordAt (now (s .entry)) at ⌝ }
 {
-    if s.len() < start {
-        return Parsed::Refused(Error::Eof);
+    if at < s.len() {
+        return read_sized(s, at, s[at] as usize);
     }
-    if s.len() - start < len {
-        return Parsed::Refused(Error::Eof);
+    if at == s.len() {
+        return Read::End;
     }
-    let end = start + len;
-    read_kind(ty, &s[start..end], start)
+    Read::Refused(Error::Eof)
 }
 
 // Reads on from a record of s that was left as type and data: a list, a name, service data or manufacturer specific data.
@@ -460,19 +432,14 @@ pub fn read_known(ad: AdStructure, s: &[u8]) -> Parsed
     ensures { λ r. ⌜ r ≡ knownRead ad (now (s .entry)) ⌝ }
 {
     match ad {
-        AdStructure::Unknown { ty, start, len } => read_lent(ty, s, start, len),
+        AdStructure::Unknown { ty, start, len } => {
+            if has_octets(s, start, len) {
+                let end = start + len;
+                return read_kind(ty, &s[start..end], start);
+            }
+            Parsed::Refused(Error::Eof)
+        }
         _ => Parsed::Structure(ad),
-    }
-}
-
-// Whether list data are whole UUIDs.
-fn is_whole(kind: UuidKind, data: &[u8]) -> bool
-    ensures { λ r. ⌜ r ≡ wholeUuids kind (now («data» .entry)) ⌝ }
-{
-    match kind {
-        UuidKind::Uuid16 => data.len() % 2 == 0,
-        UuidKind::Uuid32 => data.len() % 4 == 0,
-        UuidKind::Uuid128 => data.len() % 16 == 0,
     }
 }
 
@@ -510,32 +477,21 @@ fn local_name(complete: bool, start: usize, len: usize) -> AdStructure
     }
 }
 
-// The type octet of a list of UUIDs.
-fn list_type(kind: UuidKind, complete: bool) -> u8
-    ensures { λ r. ⌜ r ≡ listType kind complete ⌝ }
+// Service data or manufacturer specific data, of a UUID or a company identifier.
+fn pair(service: bool, number: u16, start: usize, len: usize) -> AdStructure
+    ensures { λ r. ⌜ r ≡ pairKind service number start len ⌝ }
 {
-    match kind {
-        UuidKind::Uuid16 => {
-            if complete {
-                Type::COMPLETE_LIST_OF_16BIT_SERVICE_UUIDS
-            } else {
-                Type::INCOMPLETE_LIST_OF_16BIT_SERVICE_UUIDS
-            }
-        }
-        UuidKind::Uuid32 => {
-            if complete {
-                Type::COMPLETE_LIST_OF_32BIT_SERVICE_UUIDS
-            } else {
-                Type::INCOMPLETE_LIST_OF_32BIT_SERVICE_UUIDS
-            }
-        }
-        UuidKind::Uuid128 => {
-            if complete {
-                Type::COMPLETE_LIST_OF_128BIT_SERVICE_UUIDS
-            } else {
-                Type::INCOMPLETE_LIST_OF_128BIT_SERVICE_UUIDS
-            }
-        }
+    if service {
+        return AdStructure::ServiceData16 {
+            uuid: number,
+            start,
+            len,
+        };
+    }
+    AdStructure::ManufacturerSpecificData {
+        company_identifier: CompanyId::from_raw(number),
+        start,
+        len,
     }
 }
 

@@ -57,16 +57,13 @@ fn write_records(s: &[u8], out: &mut [u8])
 pub fn rewrite_area(s: &[u8], out: &mut [u8]) -> Written
     ensures { λ r. ⌜ (r ≡ rewrittenTo (now (s .entry)) (now (out .entry))) × (now (out .exit) ≡ rewrittenAfter (now (s .entry)) (now (out .entry))) ⌝ }
 {
-    match read_area(s) {
-        Area::Accepted(_) => {
-            let n = s.len();
-            if out.len() < n {
-                Written::Refused(Error::Eof)
-            } else {
-                write_records(s, out);
-                Written::To(ByteWriter { at: n })
-            }
-        }
-        Area::Refused(e) => Written::Refused(e),
+    if let Area::Refused(e) = read_area(s) {
+        return Written::Refused(e);
     }
+    let n = s.len();
+    if out.len() < n {
+        return Written::Refused(Error::Eof);
+    }
+    write_records(s, out);
+    Written::To(ByteWriter { at: n })
 }

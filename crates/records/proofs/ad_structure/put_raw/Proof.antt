@@ -29,60 +29,74 @@ copied xs ys out at mid end {out₁} {l} wrote starts ends h e =
     let whole : l ≡ ys = e ∙ (rw (take-length ys, size, drop-length, append-nil)) in
     part-written ys out₁ mid end ends whole ∙ ap (λ (o : List ℕ). written ys o mid) wrote ∙ written-written xs ys out at mid starts (omega arith)
 
--- `out` after the first copy
+-- a list that was written so is as long as before
+as-long : (xs out : List ℕ) (at : ℕ) {l : List ℕ} → l ≡ written xs out at → at + length xs ≤ length out → length l ≡ length out
+as-long xs out at wrote h = rw wrote (written-keeps xs out at h .as-long)
+
+still-in : (n : ℕ) (xs out : List ℕ) (at : ℕ) {l : List ℕ} → l ≡ written xs out at → at + length xs ≤ length out → n ≤ length out → n ≤ length l
+still-in n xs out at wrote h in-out = rw (as-long xs out at wrote h) in-out
+
+-- the octets before the data are in `out`, and so is the whole record
+module _ (at len ty : ℕ) (own d out : List ℕ) (fits : at + 2 + length own + length d ≤ length out) where
+  head-in : at + length (len ∷ ty ∷ own) ≤ length out
+  head-in = omega arith
+
+  whole-in : at + length (recordOf ty (own ++ d)) ≤ length out
+  unfolding recordOf
+  whole-in = rw length-append (omega arith)
+
+  own-in : at + 2 + length own ≤ length out
+  own-in = omega arith
+
+  two-in : at + 2 ≤ length out
+  two-in = omega arith
+
+  -- `out` after the first copy, and at the end
+  own-put : {l : List ℕ} → l ≡ take (length own) own ++ drop (length own) (take (at + 2 + length own - (at + 2)) (drop (at + 2) (set (set out at len) (at + 1) ty)))
+      → putMid (at + 2) (at + 2 + length own - (at + 2)) (set (set out at len) (at + 1) ty) l ≡ written (len ∷ ty ∷ own) out at
+  own-put = copied (len ∷ ty ∷ []) own out at (at + 2) (at + 2 + length own) (stored len ty out at two-in) refl refl own-in
+
+  record-put : {out₁ l : List ℕ} → len ≡ 1 + length own + length d → out₁ ≡ written (len ∷ ty ∷ own) out at
+      → l ≡ take (length d) d ++ drop (length d) (take (at + 2 + length own + length d - (at + 2 + length own)) (drop (at + 2 + length own) out₁))
+      → putMid (at + 2 + length own) (at + 2 + length own + length d - (at + 2 + length own)) out₁ l ≡ written (recordOf ty (own ++ d)) out at
+  unfolding recordOf
+  record-put is wrote e =
+      let starts : at + 2 + length own ≡ at + length (len ∷ ty ∷ own) = omega arith in
+      let size : len ≡ suc (length (own ++ d)) = rw length-append (omega arith) in
+      copied (len ∷ ty ∷ own) d out at (at + 2 + length own) (at + 2 + length own + length d) wrote starts refl fits e
+      ∙ ap (λ (n : ℕ). written (n ∷ ty ∷ (own ++ d)) out at) size
+
 after-own : (c : tie.After-slice-known2)
     → let a = c .before .before .before .before .before .before .before .args in
-    let at = a .at in
-    let n = 1 + length (a .own .now) + length (a .«data» .now) in
-    putMid (at + 2) (at + 2 + length (a .own .now) - (at + 2)) (set (set (a .out .now) at n) (at + 1) (a .ty)) (c .before .before .copy .last .1 .0) ≡ written (n ∷ a .ty ∷ a .own .now) (a .out .now) at
+    putMid (a .at + 2) (a .at + 2 + length (a .own .now) - (a .at + 2)) (set (set (a .out .now) (a .at) (a .len)) (a .at + 1) (a .ty)) (c .before .before .copy .last .1 .0) ≡ written (a .len ∷ a .ty ∷ a .own .now) (a .out .now) (a .at)
 after-own c =
     let entry = c .before .before .before .before .before .before .before in
     let a = entry .args in
-    let h : a .at + 2 + length (a .own .now) ≤ length (a .out .now) = omega (arith, entry .pre .0) in
-    copied (_ ∷ a .ty ∷ []) (a .own .now) (a .out .now) (a .at) (a .at + 2) _ (stored _ (a .ty) (a .out .now) (a .at) (omega arith)) refl refl h (c .before .before .copy .ensures .1)
+    own-put (a .at) (a .len) (a .ty) (a .own .now) (a .«data» .now) (a .out .now) (entry .pre .0) (c .before .before .copy .ensures .1)
 
 data-in : tie.Need-part-copy-end-2
 data-in c =
-    let a = c .before .before .before .before .before .before .before .args in
-    let head = (1 + length (a .own .now) + length (a .«data» .now)) ∷ a .ty ∷ a .own .now in
-    let h : a .at + length head ≤ length (a .out .now) = omega arith in
-    rw (after-own c) (omega (arith, written-keeps head (a .out .now) (a .at) h .as-long))
+    let entry = c .before .before .before .before .before .before .before in
+    let a = entry .args in
+    still-in _ (a .len ∷ a .ty ∷ a .own .now) (a .out .now) (a .at) (after-own c) (head-in (a .at) (a .len) (a .ty) (a .own .now) (a .«data» .now) (a .out .now) (entry .pre .0)) (entry .pre .0)
 
--- `out` at the end
-after-data : (c : tie.After-slice-known3)
-    → let a = c .before .before .before .before .before .before .before .before .before .before .before .args in
-    let at = a .at in
-    let n = 1 + length (a .own .now) + length (a .«data» .now) in
-    let mid = at + 2 + length (a .own .now) in
-    let out₁ = putMid (at + 2) (mid - (at + 2)) (set (set (a .out .now) at n) (at + 1) (a .ty)) (c .before .before .before .before .before .before .copy .last .1 .0) in
-    putMid mid (mid + length (a .«data» .now) - mid) out₁ (c .before .before .copy2 .last .1 .0) ≡ written (recordOf (a .ty) (a .own .now ++ a .«data» .now)) (a .out .now) at
-unfolding recordOf
+after-data : tie.Need-returns
 after-data c =
     let at-own = c .before .before .before .before in
-    let a = at-own .before .before .before .before .before .before .before .args in
-    let head = (1 + length (a .own .now) + length (a .«data» .now)) ∷ a .ty ∷ a .own .now in
-    let mid = a .at + 2 + length (a .own .now) in
-    let starts : mid ≡ a .at + length head = omega arith in
-    let h : mid + length (a .«data» .now) ≤ length (a .out .now) = omega arith in
-    let size : 1 + length (a .own .now) + length (a .«data» .now) ≡ suc (length (a .own .now ++ a .«data» .now)) = rw length-append (omega arith) in
-    copied head (a .«data» .now) (a .out .now) (a .at) mid (mid + length (a .«data» .now)) (after-own at-own) starts refl h (c .before .before .copy2 .ensures .1)
-    ∙ ap (λ (n : ℕ). written (n ∷ a .ty ∷ (a .own .now ++ a .«data» .now)) (a .out .now) (a .at)) size
+    let entry = at-own .before .before .before .before .before .before .before in
+    let a = entry .args in
+    record-put (a .at) (a .len) (a .ty) (a .own .now) (a .«data» .now) (a .out .now) (entry .pre .0) (entry .pre .1) (after-own at-own) (c .before .before .copy2 .ensures .1)
 
 same-length : tie.Need-same-length
-unfolding recordOf
 same-length c =
-    let a = c .before .before .before .before .before .before .before .before .before .before .before .args in
-    let d = a .own .now ++ a .«data» .now in
-    let h : a .at + length (recordOf (a .ty) d) ≤ length (a .out .now) = rw length-append (omega arith) in
-    rw (after-data c) (written-keeps (recordOf (a .ty) d) (a .out .now) (a .at) h .as-long)
+    let entry = c .before .before .before .before .before .before .before .before .before .before .before in
+    let a = entry .args in
+    as-long (recordOf (a .ty) (a .own .now ++ a .«data» .now)) (a .out .now) (a .at) (after-data c) (whole-in (a .at) (a .len) (a .ty) (a .own .now) (a .«data» .now) (a .out .now) (entry .pre .0))
 
 pub put-raw-spec : {M : Type 1} → statement M
 put-raw-spec =
     tie.close
     (tie.spec
-    (λ c. omega arith)
-    (λ c. omega arith)
-    (λ c. omega arith)
     (λ c. omega arith)
     (λ c. omega arith)
     (λ c. omega arith)

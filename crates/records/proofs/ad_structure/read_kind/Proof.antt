@@ -32,11 +32,11 @@ complete c = simp (c .before .match .keys6) (c .read-name2 .ensures)
 
 service : tie.Need-returns-7
 unfolding kindRead
-service c = simp (c .before .match .keys7) (c .read-service-data16 .ensures)
+service c = simp (c .before .match .keys7) (c .read-pair .ensures)
 
 manufacturer : tie.Need-returns-8
 unfolding kindRead
-manufacturer c = simp (c .before .match .keys8) (c .read-manufacturer-data .ensures)
+manufacturer c = simp (c .before .match .keys8) (c .read-pair2 .ensures)
 
 other : tie.Need-returns-9
 unfolding kindRead

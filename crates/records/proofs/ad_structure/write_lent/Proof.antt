@@ -1,63 +1,115 @@
--- `records::ad_structure::write_lent` meets its contract: the check comes before the space.
+-- `records::ad_structure::write_lent` meets its contract: where all checks pass, the record is put.
 -- Assumes nothing.
 use mathlib.Core.Path.{_≡_, refl, sym, ap, _∙_}
+use mathlib.Core.Bool.{Bool, true, false, cond}
 use mathlib.Core.List.{List, _++_}
-use Prim.Native.Nat.{ℕ, _≤_}
+use Prim.Native.Nat.{ℕ, suc, _+_, _≤_}
 use native.Mathlib.Omega.{arith}
-use lib.ListN.{length, take, length-take}
+use lib.ListN.{length, take, length-append, length-take}
+use lib.Dec.{leb, ltb}
 use borrow.Author.Needs.{needs}
+use borrow.Author.Tests.{leb-true, ltb-false}
 use Rattle.octets.specs.declared.bytes.Written.{Written}
-use Rattle.records.specs.declared.ad_structure.AdStructure.{AdStructure}
-use Rattle.records.specs.declared.ad_structure.AdStructure.the-variants as ad
+use Rattle.octets.specs.declared.bytes.Written.the-variants.{To}
+use Rattle.octets.specs.declared.error.Error.{Error}
+use Rattle.octets.specs.declared.error.Error.the-variants.{Eof, RecordLength}
+use Rattle.octets.specs.Bytes.{written}
+use Rattle.records.specs.declared.ad_structure.Checked.{Checked}
 use Rattle.records.specs.declared.ad_structure.Checked.the-variants.{Fine}
-use Rattle.records.specs.Write.{ownOf, checkOf, rawTo, rawAfter, lentTo, lentAfter}
+use Rattle.records.specs.declared.ad_structure.Outline.{Outline}
+use Rattle.records.specs.Record.{recordOf}
+use Rattle.records.specs.Write.{ownIn, lentCheck, spaceIn, spaceFor, andThen, answer, leaves, lentTo, lentAfter}
 use Rattle.records.proofs.ad_structure.write_lent.Statement.{statement}
 use Rattle.records.proofs.ad_structure.write_lent.Tie as tie
 
-own-short : (a : AdStructure) → length (ownOf a) ≤ 2
-own-short (ad.Flags f) = omega arith
-own-short (ad.ServiceUuids16 complete start len) = omega arith
-own-short (ad.ServiceUuids32 complete start len) = omega arith
-own-short (ad.ServiceUuids128 complete start len) = omega arith
-own-short (ad.ServiceData16 uuid start len) = omega arith
-own-short (ad.CompleteLocalName start len) = omega arith
-own-short (ad.ShortenedLocalName start len) = omega arith
-own-short (ad.ManufacturerSpecificData company start len) = omega arith
-own-short (ad.Unknown ty start len) = omega arith
+own-size : (o : Outline) (d : List ℕ) → o .held ≤ 2 → length (ownIn o ++ d) ≡ o .held + length d
+own-size o d short = simp (length-append, length-take) (omega arith)
 
--- so many octets were taken
-taken : (n : ℕ) (l own : List ℕ) → (n ≡ length own) × (take n l ≡ own) → n ≡ length (take n l)
-taken n l own e = e .0 ∙ sym (ap length (e .1))
+-- a record that may not be written
+not-put : (check : Checked) (xs d out : List ℕ) (at n : ℕ) {may : Checked} {e : Error} → length d ≡ n → may ≡ andThen check (spaceIn n (length out) at) → may ≡ Checked.Refused e
+    → (Written.Refused e ≡ answer (andThen check (spaceFor d out at)) xs at) × (out ≡ leaves (andThen check (spaceFor d out at)) xs out at)
+not-put check xs d out at n size is why = rw (size, ← is, why) (refl, refl)
 
 refused : tie.Need-returns
 unfolding lentTo lentAfter
 refused c =
-    let checked = c .before .before .before in
-    let why = sym (checked .check .ensures) ∙ c .before .e .given .1 in
-    rw why (refl, refl)
+    let entry = c .before .before .before .before .before .before in
+    let a = entry .args in
+    let o = a .outline in
+    let d = a .«data» .now in
+    not-put (lentCheck (o .name) (o .unit) d) (recordOf (o .ty) (ownIn o ++ d)) (ownIn o ++ d) (a .out .now) (a .writer .at) (o .held + length d) (own-size o d (entry .pre .0)) (c .before .before .before .may-write .ensures) (c .before .e .given .1)
 
-good-data : (a : AdStructure) (ty : ℕ) (d out : List ℕ) (at : ℕ) {own : List ℕ} {r : Written} {l : List ℕ} → own ≡ ownOf a → Fine ≡ checkOf a d
-    → (r ≡ rawTo ty (own ++ d) out at) × (l ≡ rawAfter ty (own ++ d) out at) → (r ≡ lentTo a ty d out at) × (l ≡ lentAfter a ty d out at)
-unfolding lentTo lentAfter rawTo rawAfter
-good-data a ty d out at owns fine wrote = rw (← fine, ← owns) wrote
+-- what may be written has space, and a length octet holds its length
+room : (check : Checked) (n size at : ℕ) → Fine ≡ andThen check (spaceIn n size at) → (at + (n + 2) ≤ size) × (n + 1 ≤ 255)
+room check n size at = go check (leb (at + (n + 2)) size) (ltb 255 (n + 1)) refl refl
+  where
+    go : (check : Checked) (fits long : Bool) → leb (at + (n + 2)) size ≡ fits → ltb 255 (n + 1) ≡ long
+        → Fine ≡ andThen check (cond fits (cond long (Checked.Refused RecordLength) Fine) (Checked.Refused Eof)) → (at + (n + 2) ≤ size) × (n + 1 ≤ 255)
+    go (Checked.Refused k) fits long f l e = absurd (let z : _≡_ {A = ℕ} 0 1 = cc in omega arith)
+    go Fine false long f l e = absurd (let z : _≡_ {A = ℕ} 0 1 = cc in omega arith)
+    go Fine true true f l e = absurd (let z : _≡_ {A = ℕ} 0 1 = cc in omega arith)
+    go Fine true false f l e = (leb-true _ _ f, ltb-false _ _ l)
 
-written : tie.Need-returns-2
-written c =
-    let owned = c .before .before .before .before .before .before in
-    let checked = owned .before .before .before in
-    good-data _ _ _ _ _ (owned .own .ensures .1) (sym (owned .before .enum-told .given .1) ∙ checked .check .ensures) (c .before .before .write-raw .ensures)
+told : (c : tie.After-enum-told)
+    → let a = c .before .before .before .before .before .args in
+    Fine ≡ andThen (lentCheck (a .outline .name) (a .outline .unit) (a .«data» .now)) (spaceIn (a .outline .held + length (a .«data» .now)) (length (a .out .now)) (a .writer .at))
+told c = sym (c .enum-told .given .1) ∙ c .before .before .may-write .ensures
+
+space : (c : tie.After-enum-told)
+    → let a = c .before .before .before .before .before .args in
+    (a .writer .at + (a .outline .held + length (a .«data» .now) + 2) ≤ length (a .out .now)) × (a .outline .held + length (a .«data» .now) + 1 ≤ 255)
+space c =
+    let a = c .before .before .before .before .before .args in
+    room (lentCheck (a .outline .name) (a .outline .unit) (a .«data» .now)) _ _ _ (told c)
+
+own-long : tie.Need-slice-aggregate-put-raw
+own-long c =
+    let two : length (c .before .u16-to-le-bytes .result) ≡ 2 = search needs in
+    sym (simp length-take (omega arith))
+
+own-fits : tie.Need-put-raw-requires
+own-fits c κs =
+    let two : length (c .before .before .u16-to-le-bytes .result) ≡ 2 = search needs in
+    let fits = space (c .before .before .before) .0 in
+    (simp length-take (omega (arith, fits)), simp length-take (omega arith))
+
+-- a record that may be written, and was put
+put : (check : Checked) (ty : ℕ) (own d out : List ℕ) (at n end : ℕ) {own₁ l : List ℕ} → length (own ++ d) ≡ n → end ≡ at + 2 + n → Fine ≡ andThen check (spaceIn n (length out) at)
+    → own₁ ≡ own → l ≡ written (recordOf ty (own₁ ++ d)) out at
+    → let may = andThen check (spaceFor (own ++ d) out at) in
+    (To (record { at = end }) ≡ answer may (recordOf ty (own ++ d)) at) × (l ≡ leaves may (recordOf ty (own ++ d)) out at)
+unfolding recordOf
+put check ty own d out at n end size ends fine is e =
+    let next : end ≡ at + suc (suc (length (own ++ d))) = omega arith in
+    let may : Fine ≡ andThen check (spaceFor (own ++ d) out at) = rw size fine in
+    rw (← may) (ap (λ (next : ℕ). To (record { at = next })) next, e ∙ ap (λ (o : List ℕ). written (recordOf ty (o ++ d)) out at) is)
+
+done : tie.Need-returns-2
+unfolding lentTo lentAfter
+done c =
+    let at-own = c .before .before .before .before .before in
+    let entry = at-own .before .before .before .before .before .before in
+    let a = entry .args in
+    let o = a .outline in
+    let size : length (ownIn o ++ a .«data» .now) ≡ o .held + length (a .«data» .now) = own-size o (a .«data» .now) (entry .pre .0) in
+    put (lentCheck (o .name) (o .unit) (a .«data» .now)) (o .ty) (ownIn o) (a .«data» .now) (a .out .now) (a .writer .at) _ _ size refl (told (at-own .before)) (ap (take (o .held)) (at-own .u16-to-le-bytes .ensures)) (c .before .before .put-raw .ensures)
 
 pub write-lent-spec : {M : Type 1} → statement M
 write-lent-spec =
     tie.close
     (tie.spec
+    (λ c. search needs)
     (λ c κs. search needs)
     (λ c. search needs)
     refused
     (λ c. search needs)
     (λ c κs. search needs)
-    (λ c. let own = c .before .own in omega (arith, length-take (own .result .len) (own .result .octets), taken _ _ _ (own .ensures)))
-    (λ c. taken _ _ _ (c .before .before .own .ensures))
-    (λ c κs. rw (c .before .before .before .own .ensures .1) (own-short (c .before .before .before .before .before .before .before .before .before .args .ad)))
     (λ c. search needs)
-    written)
+    (λ c. let short = space (c .before) .1 in omega (arith, short))
+    (λ c. search needs)
+    own-long
+    own-fits
+    (λ c. let fits = space (c .before .before .before .before .before .before) .0 in omega (arith, fits))
+    (λ c. let fits = space (c .before .before .before .before .before .before) .0 in omega (arith, fits))
+    (λ c. search needs)
+    done)

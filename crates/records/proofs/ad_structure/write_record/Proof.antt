@@ -1,59 +1,80 @@
 -- `records::ad_structure::write_record` meets its contract: the lent data lie in s, or the write is refused.
 -- Assumes nothing.
-use mathlib.Core.Path.{_≡_}
+use mathlib.Core.Path.{_≡_, refl, sym, _∙_}
+use mathlib.Core.Bool.{true, false}
 use mathlib.Core.List.{List}
-use Prim.Native.Nat.{ℕ, _+_, _-_, _≤_, _<_}
+use Prim.Native.Nat.{ℕ, _+_, _-_, _≤_}
 use native.Mathlib.Omega.{arith}
 use lib.ListN.{length, take, drop}
 use borrow.Author.Needs.{needs}
+use borrow.Author.Tests.{leb-true}
 use Rattle.octets.specs.declared.error.Error.the-variants.{Eof}
 use Rattle.octets.specs.declared.bytes.Written.{Written}
-use Rattle.octets.proofs.Places.{enough, too-few}
+use Rattle.octets.specs.Bytes.{has, part}
 use Rattle.records.specs.declared.ad_structure.AdStructure.{AdStructure}
-use Rattle.records.specs.Write.{typeOf, startOf, lenOf, dataOf, mayWrite, lentTo, lentAfter, octetsOf, writtenTo, writtenAfter}
+use Rattle.records.specs.declared.ad_structure.AdStructure.the-variants as ad
+use Rattle.records.specs.declared.ad_structure.Outline.{Outline}
+use Rattle.records.specs.Write.{ownOf, dataOf, IsOutline, mayWrite, lentTo, lentAfter, octetsOf, writtenTo, writtenAfter}
 use Rattle.records.proofs.ad_structure.write_record.Statement.{statement}
 use Rattle.records.proofs.ad_structure.write_record.Tie as tie
+
+own-short : (a : AdStructure) → length (ownOf a) ≤ 2
+own-short (ad.Flags f) = omega arith
+own-short (ad.ServiceUuids16 complete start len) = omega arith
+own-short (ad.ServiceUuids32 complete start len) = omega arith
+own-short (ad.ServiceUuids128 complete start len) = omega arith
+own-short (ad.ServiceData16 uuid start len) = omega arith
+own-short (ad.CompleteLocalName start len) = omega arith
+own-short (ad.ShortenedLocalName start len) = omega arith
+own-short (ad.ManufacturerSpecificData company start len) = omega arith
+own-short (ad.Unknown ty start len) = omega arith
 
 -- the answer and the octets of a write
 abbrev Wrote : AdStructure → List ℕ → List ℕ → ℕ → Written → List ℕ → Type 0
 Wrote a s out at r l = (r ≡ writtenTo a s out at) × (l ≡ writtenAfter a s out at)
 
-no-data : (a : AdStructure) (s out : List ℕ) (at : ℕ) → length s < startOf a + lenOf a → Wrote a s out at (Written.Refused Eof) out
+no-data : (a : AdStructure) (s out : List ℕ) (at : ℕ) {o : Outline} → IsOutline a o → has (o .len) s (o .start) ≡ false → Wrote a s out at (Written.Refused Eof) out
 unfolding writtenTo writtenAfter mayWrite
-no-data a s out at h =
-    let few = too-few (lenOf a) s (startOf a) h in
-    (simp few, simp few)
+no-data a s out at is few = rw (← is .start, ← is .len, few) (refl, refl)
 
 -- the lent part, as the code takes it
-lent : (a : AdStructure) (s out : List ℕ) (at : ℕ) {ty start len : ℕ} {r : Written} {l : List ℕ} → (ty ≡ typeOf a) × (start ≡ startOf a) × (len ≡ lenOf a)
-    → start + len ≤ length s
-    → (r ≡ lentTo a ty (take (start + len - start) (drop start s)) out at) × (l ≡ lentAfter a ty (take (start + len - start) (drop start s)) out at) → Wrote a s out at r l
+lent : (a : AdStructure) (s out : List ℕ) (at : ℕ) {o : Outline} {r : Written} {l : List ℕ} → IsOutline a o → has (o .len) s (o .start) ≡ true
+    → (r ≡ lentTo o (take (o .start + o .len - o .start) (drop (o .start) s)) out at) × (l ≡ lentAfter o (take (o .start + o .len - o .start) (drop (o .start) s)) out at)
+    → Wrote a s out at r l
 unfolding writtenTo writtenAfter mayWrite lentTo lentAfter octetsOf dataOf
-lent a s out at {ty} {start} {len} is h wrote =
-    let size : start + len - start ≡ len = omega arith in
-    rw (← is .0, ← is .1, ← is .2, enough len s start h) (rw size at wrote)
+lent a s out at {o} is there wrote =
+    let size : o .start + o .len - o .start ≡ o .len = omega arith in
+    rw (← is .type, ← is .own, ← is .start, ← is .len, ← is .check (part (o .len) s (o .start)), there) (rw size at wrote)
 
-past-the-end : tie.Need-returns
-past-the-end c = let a = c .before .before .before .before .args in no-data (a .ad) (a .s .now) (a .out .now) (a .writer .at) (omega arith)
+fits : (c : tie.Then1)
+    → let o = c .before .before .outline .result in
+    o .start + o .len ≤ length (c .before .before .before .before .before .args .s .now)
+fits c = leb-true _ _ (sym (c .before .has-octets .ensures) ∙ c .if1 .taken)
 
-cut-short : tie.Need-returns-2
-cut-short c = let a = c .before .before .before .before .before .args in no-data (a .ad) (a .s .now) (a .out .now) (a .writer .at) (omega arith)
+written : tie.Need-returns
+written c =
+    let taken = c .before .before .before .before .before in
+    lent _ _ _ _ (taken .before .before .outline .ensures) (sym (taken .before .has-octets .ensures) ∙ taken .if1 .taken) (c .before .before .write-lent .ensures)
 
-written : tie.Need-returns-3
-written c = lent _ _ _ _ (c .before .before .before .before .before .before .before .outline .ensures) (omega arith) (c .before .before .write-lent .ensures)
+refused : tie.Need-returns-2
+refused c = no-data _ _ _ _ (c .before .before .outline .ensures) (sym (c .before .has-octets .ensures) ∙ c .if1 .left)
+
+short : tie.Need-write-lent-requires
+short c κs =
+    let outline = c .before .before .before .before .outline in
+    (rw (outline .ensures .many) (own-short (c .before .before .before .before .before .before .before .args .ad)), outline .ensures .units)
 
 pub write-record-spec : {M : Type 1} → statement M
 write-record-spec =
     tie.close
     (tie.spec
     (λ c κs. search needs)
-    past-the-end
-    (λ c. omega arith)
-    cut-short
-    (λ c. omega arith)
-    (λ c. omega arith)
-    (λ c. omega arith)
-    (λ c. omega arith)
     (λ c κs. search needs)
+    (λ c. omega (arith, fits c))
     (λ c. omega arith)
-    written)
+    (λ c. omega arith)
+    (λ c. omega (arith, fits c))
+    short
+    (λ c. search needs)
+    written
+    refused)

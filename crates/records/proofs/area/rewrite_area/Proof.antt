@@ -17,7 +17,7 @@ use Rattle.records.proofs.area.rewrite_area.Tie as tie
 accepted : (c : tie.After-enum-told) → readArea (c .before .before .before .before .before .args .s .now) ≡ Accepted (c .enum-told .given .0 .0)
 accepted c = sym (c .before .before .read-area .ensures) ∙ c .enum-told .given .1
 
-no-space : tie.Need-returns
+no-space : tie.Need-returns-2
 unfolding rewrittenTo rewrittenAfter mayRewrite
 no-space c =
     let few = lt-ltb _ _ (c .if1 .taken) in
@@ -36,12 +36,12 @@ as-asked s out is room e =
     let size : 0 + length (rewritten s) ≡ length s = rw (rewritten-length s) (omega arith) in
     (rw (is, fine, size), rw (is, fine, size) e)
 
-written : tie.Need-returns-2
+written : tie.Need-returns-3
 written c =
     let told = c .before .before .before .before .before in
     as-asked _ _ (accepted told) (c .before .before .before .before .if1 .left) (c .before .before .write-records .ensures)
 
-refused : tie.Need-returns-3
+refused : tie.Need-returns
 unfolding rewrittenTo rewrittenAfter mayRewrite
 refused c =
     let read = sym (c .before .before .before .read-area .ensures) ∙ c .before .e .given .1 in
@@ -53,9 +53,9 @@ rewrite-area-spec =
     (tie.spec
     (λ c κs. search needs)
     (λ c. search needs)
-    write-records-requires
+    refused
     (λ c. search needs)
     no-space
+    write-records-requires
     (λ c. search needs)
-    written
-    refused)
+    written)

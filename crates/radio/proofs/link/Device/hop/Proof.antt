@@ -1,16 +1,23 @@
-use mathlib.Core.Path.{_∙_}
-use Rattle.radio.specs.Calls.{hops}
+-- `Device::hop` meets its contract: the hop is made over the connection's own map, hop and unmapped channel. Assumes nothing.
+use mathlib.Core.Path.{_≡_, sym, ap, _∙_}
 use borrow.Author.Needs.{needs}
+use Rattle.channels.specs.Hop.{hopped}
+use Rattle.radio.specs.Calls.{hoppedTo, hops}
 use Rattle.radio.proofs.link.Device.hop.Statement.{statement}
 use Rattle.radio.proofs.link.Device.hop.Tie as tie
 
-returns : tie.Need-returns
+-- what the connection's hop came to
+is : (c : tie.After-hop-channel)
+    → let d = c .before .before .before .args .self in
+    hops d ≡ hoppedTo d (c .hop-channel .result)
 unfolding hops
-returns c = rw (← c .before .before .before .before .before .hop-channel .ensures, c .before .before .before .unmapped .given .1)
+is c = ap (hoppedTo _) (sym (c .hop-channel .ensures))
+
+returns : tie.Need-returns
+returns c = sym (is (c .before .before .before .before .before) ∙ ap (hoppedTo _) (c .before .before .before .unmapped .given .1))
 
 returns-2 : tie.Need-returns-2
-unfolding hops
-returns-2 c = c .refused .ensures ∙ rw (← c .before .before .before .before .hop-channel .ensures, c .before .before .e .given .1)
+returns-2 c = c .refused .ensures ∙ sym (is (c .before .before .before .before) ∙ ap (hoppedTo _) (c .before .before .e .given .1))
 
 pub hop-spec : {M : Type 1} → statement M
 hop-spec =

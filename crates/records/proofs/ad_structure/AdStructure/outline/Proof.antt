@@ -1,15 +1,35 @@
 -- `records::ad_structure::AdStructure::outline` meets its contract, by cases.
 -- Assumes nothing.
-use mathlib.Core.Path.{refl}
+use mathlib.Core.Path.{_≡_, refl, ap}
+use mathlib.Core.Bool.{false}
+use mathlib.Core.List.{List, [], _∷_}
+use Prim.Native.Nat.{ℕ, _%_}
+use native.Mathlib.Omega.{arith}
+use lib.ListN.{length, take}
 use borrow.Author.Needs.{needs}
+use borrow.Author.Tests.{eq-eqb}
+use Rattle.octets.specs.Bytes.{leBytes}
+use Rattle.records.specs.declared.ad_structure.Checked.the-variants.{Fine}
+use Rattle.records.specs.Record.{named}
+use Rattle.records.specs.Write.{lentCheck}
 use Rattle.records.proofs.ad_structure.AdStructure.outline.Statement.{statement}
 use Rattle.records.proofs.ad_structure.AdStructure.outline.Tie as tie
+
+flags-own : (bits x : ℕ) → x ≡ named bits → take 1 (leBytes 2 x) ≡ named bits ∷ []
+unfolding named
+flags-own bits x is = ap (λ (octet : ℕ). octet ∷ []) (omega arith)
+
+-- any octets are whole units of one
+free : (d : List ℕ) → lentCheck false 1 d ≡ Fine
+free d = rw (eq-eqb (length d % 1) 0 (omega arith))
 
 pub outline-spec : {M : Type 1} → statement M
 outline-spec =
     tie.close
     (tie.spec
     (λ c. search needs)
+    (λ c κs. search needs)
+    (λ c. search needs)
     (λ c. search needs)
     (λ c κs. search needs)
     (λ c. search needs)
@@ -20,13 +40,14 @@ outline-spec =
     (λ c. search needs)
     (λ c. search needs)
     (λ c. search needs)
+    (λ c κs. search needs)
     (λ c. search needs)
-    (λ c. rw (c .enum-told .given .1) (refl, refl, refl))
-    (λ c. rw (c .before .before .self .given .1) (c .list-type .ensures, refl, refl))
-    (λ c. rw (c .before .before .self2 .given .1) (c .list-type2 .ensures, refl, refl))
-    (λ c. rw (c .before .before .self3 .given .1) (c .list-type3 .ensures, refl, refl))
-    (λ c. rw (c .before .self4 .given .1) (refl, refl, refl))
-    (λ c. rw (c .before .self5 .given .1) (refl, refl, refl))
-    (λ c. rw (c .before .self6 .given .1) (refl, refl, refl))
-    (λ c. rw (c .before .self7 .given .1) (refl, refl, refl))
-    (λ c. rw (c .before .self8 .given .1) (refl, refl, refl)))
+    (λ c. rw (c .before .before .self .given .1) record { type = refl; own = flags-own _ _ (c .to-u8 .ensures); many = refl; start = refl; len = refl; check = free; units = omega arith })
+    (λ c. rw (c .before .before .self2 .given .1) record { type = c .either .ensures; own = refl; many = refl; start = refl; len = refl; check = λ d. refl; units = omega arith })
+    (λ c. rw (c .before .before .self3 .given .1) record { type = c .either2 .ensures; own = refl; many = refl; start = refl; len = refl; check = λ d. refl; units = omega arith })
+    (λ c. rw (c .before .before .self4 .given .1) record { type = c .either3 .ensures; own = refl; many = refl; start = refl; len = refl; check = λ d. refl; units = omega arith })
+    (λ c. rw (c .before .self5 .given .1) record { type = refl; own = refl; many = refl; start = refl; len = refl; check = free; units = omega arith })
+    (λ c. rw (c .before .self6 .given .1) record { type = refl; own = refl; many = refl; start = refl; len = refl; check = λ d. refl; units = omega arith })
+    (λ c. rw (c .before .self7 .given .1) record { type = refl; own = refl; many = refl; start = refl; len = refl; check = λ d. refl; units = omega arith })
+    (λ c. rw (c .before .before .self8 .given .1) record { type = refl; own = ap (leBytes 2) (c .as-u16 .ensures); many = refl; start = refl; len = refl; check = free; units = omega arith })
+    (λ c. rw (c .before .self9 .given .1) record { type = refl; own = refl; many = refl; start = refl; len = refl; check = free; units = omega arith }))

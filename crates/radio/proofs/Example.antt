@@ -1,0 +1,19 @@
+-- A list of calls by computation: `example`. Assumes nothing.
+use mathlib.Core.List.{flatten}
+use mathlib.Core.Path.{refl}
+use Rattle.channels.specs.Count.{count, placed}
+use Rattle.channels.specs.Hop.{mapped}
+use Rattle.channels.specs.Map.{marked, marks, channelAt, cleared}
+use Rattle.records.specs.Area.{cut, reads, before, areaOf, readArea, clean, rewritten}
+use Rattle.records.specs.Record.{named, flagsRead, uuidsRead, dataRead, upTo, recordRead, first}
+use Rattle.addresses.specs.Address.{sameOctets, sameAddress}
+use Rattle.addresses.specs.Header.{pduType}
+use Rattle.advertising.specs.Pdu.{requestOf, connectRequest, byType, decodeOf}
+use Rattle.advertising.specs.PduBuf.{bufOf, afterReading, withRecords}
+use Rattle.radio.specs.Calls.{isFor, connects, addressed, hops, startOf, startAfter, tickOf, tickAfter, packetOf, eventOf}
+use Rattle.radio.specs.Laws.{Example}
+use Rattle.radio.specs.Trace.{trace}
+
+pub example : Example
+unfolding flatten count placed mapped marked marks channelAt cleared cut reads areaOf readArea rewritten sameOctets sameAddress pduType requestOf connectRequest byType decodeOf bufOf afterReading withRecords isFor connects addressed hops startOf startAfter tickOf tickAfter packetOf eventOf trace named flagsRead uuidsRead dataRead upTo recordRead first before clean
+example = record { answers = refl; channel-1 = refl; channel-3 = refl; octets = refl }

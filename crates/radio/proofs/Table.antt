@@ -1,0 +1,30 @@
+-- The starred rows of document 01, by computation: `table`. Assumes nothing.
+use mathlib.Core.List.{flatten}
+use mathlib.Core.Path.{refl}
+use Rattle.channels.specs.Count.{count, placed}
+use Rattle.channels.specs.Hop.{unmapped, mapped, eventChannel, uses}
+use Rattle.channels.specs.Map.{marked, marks, channelAt}
+use Rattle.records.specs.Area.{cut, reads, before, areaOf, readArea, clean, rewritten}
+use Rattle.records.specs.Record.{named, flagsRead, uuidsRead, dataRead, upTo, recordRead, first, recordAt}
+use Rattle.addresses.specs.Header.{pduType}
+use Rattle.advertising.specs.Pdu.{withArea, undirected, byType, decodeOf}
+use Rattle.radio.specs.Table.{Table}
+
+pub table : Table
+unfolding flatten count placed unmapped mapped eventChannel uses marked marks channelAt cut reads before areaOf readArea clean rewritten named flagsRead uuidsRead dataRead upTo recordRead first recordAt pduType withArea undirected byType decodeOf
+table =
+    record {
+      row-1 = refl;
+      row-2 = refl;
+      row-3 = λ a b c d e f. refl;
+      row-4 = λ a b c d e f. refl;
+      row-5 = λ a b c d e. refl;
+      row-6 = λ a b c d e f. refl;
+      row-7 = refl;
+      row-7-rewritten = refl;
+      row-8 = refl;
+      row-9 = refl;
+      row-10 = refl;
+      row-11 = refl;
+      row-11-counts = refl;
+    }

@@ -1,0 +1,138 @@
+-- The laws of the device, each with the theorem of proofs/ that proves it.
+--   Demand3       Demand.demand-3          every list of calls (specs/Demand.antt)
+--   Words         Words.words              what the words of demand 3 mean
+--   Refusing      Words.refusing           a refused call changes nothing
+--   Transmits     Words.transmits          what an accepted start and tick write
+--   Hearing       Words.hearing            what a packet to an advertising device comes to
+--   Example       Example.example          a list of calls with document 01's row of the hop
+use mathlib.Core.Bool.{Bool, true}
+use mathlib.Core.List.{List, [], _∷_, _++_, map}
+use mathlib.Core.Logic.{_⊎_}
+use mathlib.Core.Path.{_≡_}
+use Prim.Native.Nat.{ℕ, _+_, _*_, _%_, _≤_}
+use lib.ListN.{length, take, drop, replicate}
+use Rattle.octets.specs.Bytes.{part, le}
+use Rattle.octets.specs.Time.{later}
+use Rattle.octets.specs.declared.error.Error.{Error}
+use Rattle.octets.specs.declared.time.Instant.{Instant}
+use Rattle.channels.specs.Hop.{eventChannel}
+use Rattle.channels.specs.Map.{marks}
+use Rattle.channels.specs.declared.phy.AdvertisingChannel.the-variants.{Channel38, Channel39}
+use Rattle.records.specs.Area.{rewritten}
+use Rattle.addresses.specs.Address.{kindNumber, kindOf, addressOf}
+use Rattle.addresses.specs.Header.{headerOf, bits, rxAdd}
+use Rattle.addresses.specs.declared.device_address.AddressKind.the-variants.{Public}
+use Rattle.addresses.specs.declared.device_address.DeviceAddress.{DeviceAddress}
+use Rattle.addresses.specs.declared.header.Header.{Header}
+use Rattle.advertising.specs.Pdu.{decodeOf}
+use Rattle.advertising.specs.PduBuf.{flagsRecord, payloadOf}
+use Rattle.advertising.specs.declared.pdu.Outcome.the-variants as outcome
+use Rattle.radio.specs.Calls.{instant, fresh, packetOf}
+use Rattle.radio.specs.Demand.{numberIn}
+use Rattle.radio.specs.Trace.{Call, start, tick, packet, event, stop, callOf, octetsOf, wellFormed, forBoard, mapIn, hopIn, connects, Entry, trace, eventOn, channelsBy, times, Strikable}
+use Rattle.radio.specs.declared.link.Answer.{Answer}
+use Rattle.radio.specs.declared.link.Answer.the-variants.{Refused, Sent, Listen, Respond, FirstEvent, NextEvent}
+use Rattle.radio.specs.declared.link.Device.{Device}
+use Rattle.radio.specs.declared.link.Mode.the-variants.{Standby, Advertising}
+
+-- a well-formed packet of type 1, 3 or 5 whose second address, the octets 6 to 11 with RxAdd's kind, is `own`, octets and kind
+pub record ForBoard (own : DeviceAddress) (h : Header) (p : List ℕ) : Type 0 where
+  pub good : wellFormed h p ≡ true
+  pub type : (bits 0 4 h ≡ 1) ⊎ ((bits 0 4 h ≡ 3) ⊎ (bits 0 4 h ≡ 5))
+  pub second : addressOf (part 6 p 6) (kindOf (rxAdd h)) ≡ own
+
+-- a CRC-good, well-formed packet of type 5 whose second address is `own`, which marks a channel in octets 28 to 32
+pub record Requests (own : DeviceAddress) (h : Header) (p : List ℕ) (crcGood : Bool) : Type 0 where
+  pub crc : crcGood ≡ true
+  pub good : wellFormed h p ≡ true
+  pub type : bits 0 4 h ≡ 5
+  pub second : addressOf (part 6 p 6) (kindOf (rxAdd h)) ≡ own
+  pub some : 1 ≤ marks (part 5 p 28)
+
+-- What the words of demand 3 mean: a fresh device is in standby, made with its own address; a packet is well-formed exactly if its header and payload
+-- decode without refusal, and for this board, or a request that begins a connection, exactly if it is as above; its map and its hop are these octets.
+pub record Words (own : DeviceAddress) (h : Header) (p : List ℕ) : Type 0 where
+  pub standby : fresh own .mode ≡ Standby
+  pub address : fresh own .«dev_addr» ≡ own
+  pub well-formed : wellFormed h p ≡ true → decodeOf h p .outcome ≡ outcome.Accepted
+  pub well-formed-if : decodeOf h p .outcome ≡ outcome.Accepted → wellFormed h p ≡ true
+  pub for-board : forBoard own h p ≡ true → ForBoard own h p
+  pub for-board-if : ForBoard own h p → forBoard own h p ≡ true
+  pub request : (end : Instant) (crcGood : Bool) → connects own (packet end h p crcGood) ≡ true → Requests own h p crcGood
+  pub request-if : (end : Instant) (crcGood : Bool) → Requests own h p crcGood → connects own (packet end h p crcGood) ≡ true
+  pub map : mapIn p ≡ part 5 p 28
+  pub hop : hopIn p ≡ le (part 1 p 33) % 32
+
+-- the octets of a call's lent buffers, as they were lent
+abbrev pub lentBy : Call → List (List ℕ)
+lentBy (start time interval records tx) = records ∷ tx ∷ []
+lentBy (tick tx) = tx ∷ []
+lentBy (packet end header payload crcGood) = payload ∷ []
+lentBy event = []
+lentBy stop = []
+
+-- A refused call, of any device, leaves the device and every buffer as they were.
+pub record Refusing (d : Device) (c : Call) (e : Error) : Type 0 where
+  pub state : callOf d c .answer ≡ Refused e → callOf d c .device ≡ d
+  pub buffers : callOf d c .answer ≡ Refused e → octetsOf d c ≡ lentBy c
+
+-- An accepted tick writes the payload at the front of the transmit buffer and keeps the octets behind it. An accepted start's payload is the own address,
+-- Flags and the records, whose undefined Flags bits are cleared.
+pub record Transmits (d : Device) (tx : List ℕ) : Type 0 where
+  pub ticking : numberIn (callOf d (tick tx) .answer) ≡ 0
+      → octetsOf d (tick tx) ≡ (payloadOf (d .adv .pdu) ++ drop (length (payloadOf (d .adv .pdu))) tx) ∷ []
+  pub starting : length (d .«dev_addr» .bytes) ≡ 6 → (time : Instant) (interval : ℕ) (records : List ℕ) → numberIn (callOf d (start time interval records tx) .answer) ≡ 0
+      → let payload : List ℕ = (d .«dev_addr» .bytes ++ flagsRecord) ++ rewritten records in
+      octetsOf d (start time interval records tx) ≡ records ∷ (payload ++ drop (length payload) tx) ∷ []
+
+-- What a packet to an advertising device comes to. Bad, malformed or foreign ones, and type 1 sent to us, keep listening; a scan request to us gets a header
+-- of type 4, own kind and length 6; a connect request to us gives event 0, at packet end + window offset + window size + 1,750 µs, with access address and
+-- CRC start, by the request's own octets.
+pub record Hearing (d : Device) (end : Instant) (h : Header) (p : List ℕ) (crcGood : Bool) : Type 0 where
+  pub bad : d .mode ≡ Advertising → Strikable (d .«dev_addr») (packet end h p crcGood)
+      → packetOf d end h p crcGood ≡ record { answer = Listen (d .adv .channel); device = d }
+  pub other : d .mode ≡ Advertising → crcGood ≡ true → ForBoard (d .«dev_addr») h p → bits 0 4 h ≡ 1
+      → packetOf d end h p crcGood ≡ record { answer = Listen (d .adv .channel); device = d }
+  pub scan : d .mode ≡ Advertising → crcGood ≡ true → ForBoard (d .«dev_addr») h p → bits 0 4 h ≡ 3
+      → packetOf d end h p crcGood ≡ record { answer = Respond (headerOf (0x0604 + 64 * kindNumber (d .«dev_addr» .kind))) (d .adv .channel); device = d }
+  pub request : d .mode ≡ Advertising → Requests (d .«dev_addr») h p crcGood
+      → packetOf d end h p crcGood .answer
+      ≡ FirstEvent (record { index = eventChannel (part 5 p 28) (le (part 1 p 33) % 32) 0 })
+      (instant (later (end .0) (le (part 2 p 20) * 1250 + le (part 1 p 19) * 1250 + 1750))) (le (part 4 p 12)) (le (part 3 p 16))
+
+-- A list of calls: a start at 4294967290 with an interval of 100, a tick, a connect request at 1000 with window size 2, window offset 3, map
+-- 0A 00 00 00 00 and hop 5, and 36 events.
+abbrev pub board : DeviceAddress
+board = addressOf (1 ∷ 2 ∷ 3 ∷ 4 ∷ 5 ∷ 6 ∷ []) Public
+
+abbrev pub request : List ℕ
+request =
+    0x11 ∷ 0x12 ∷ 0x13 ∷ 0x14 ∷ 0x15 ∷ 0x16 ∷ 0x01 ∷ 0x02 ∷ 0x03 ∷ 0x04 ∷ 0x05 ∷ 0x06 ∷ 0xD6 ∷ 0xBE ∷ 0x89 ∷ 0x8E ∷ 0x56 ∷ 0x34 ∷ 0x12 ∷ 0x02 ∷ 0x03 ∷ 0x00
+    ∷ 0x18 ∷ 0x00 ∷ 0x00 ∷ 0x00 ∷ 0x64 ∷ 0x00 ∷ 0x0A ∷ 0x00 ∷ 0x00 ∷ 0x00 ∷ 0x00 ∷ 0x05 ∷ []
+
+abbrev pub exampleTrace : List Entry
+exampleTrace =
+    trace board (
+    start (instant 4294967290) 100 (0x02 ∷ 0x0A ∷ 0x00 ∷ []) (replicate 14 0xFF)
+    ∷ tick (replicate 12 0)
+    ∷ packet (instant 1000) (headerOf 0x2205) request true
+    ∷ replicate 36 event
+    )
+
+abbrev pub exampleAnswers : List Answer
+exampleAnswers = map (λ (e : Entry). e .result .answer) exampleTrace
+
+-- the start on 38 and the tick on 39; then channels 3 and 1, and in the 37 events channel 1 has 20 and channel 3 has 17; what the start and the tick write
+pub record Example : Type 0 where
+  pub answers : take 4 exampleAnswers
+      ≡ Sent (headerOf 0x0C00) Channel38 (instant 94)
+      ∷ Sent (headerOf 0x0C00) Channel39 (instant 194)
+      ∷ FirstEvent (record { index = 3 }) (instant 9000) 0x8E89BED6 0x123456
+      ∷ NextEvent (record { index = 1 })
+      ∷ []
+  pub channel-1 : times 1 2 37 (channelsBy eventOn exampleTrace) ≡ 20
+  pub channel-3 : times 3 2 37 (channelsBy eventOn exampleTrace) ≡ 17
+  pub octets : map (λ (e : Entry). e .octets) (take 2 exampleTrace)
+      ≡ ((0x02 ∷ 0x0A ∷ 0x00 ∷ []) ∷ (0x01 ∷ 0x02 ∷ 0x03 ∷ 0x04 ∷ 0x05 ∷ 0x06 ∷ 0x02 ∷ 0x01 ∷ 0x06 ∷ 0x02 ∷ 0x0A ∷ 0x00 ∷ 0xFF ∷ 0xFF ∷ []) ∷ [])
+      ∷ ((0x01 ∷ 0x02 ∷ 0x03 ∷ 0x04 ∷ 0x05 ∷ 0x06 ∷ 0x02 ∷ 0x01 ∷ 0x06 ∷ 0x02 ∷ 0x0A ∷ 0x00 ∷ []) ∷ [])
+      ∷ []

@@ -1,0 +1,3 @@
+pub mod TakenApart
+pub mod Through
+pub mod Rows

@@ -1,0 +1,12 @@
+-- Two records, one after the other: `rows`, by computation.
+-- Assumes nothing.
+use mathlib.Core.Path.{refl}
+use mathlib.Core.List.{List}
+use Prim.Native.Nat.{ℕ}
+use denote.Ref.{RefT}
+use Rattle.records.specs.Record.{named, flagsRead, uuidsRead, dataRead, upTo, recordRead, first, recordAt}
+use Rattle.record_iter.specs.Laws.{movedBy, Rows}
+
+pub rows : (r : RefT (List ℕ)) → Rows r
+unfolding named flagsRead uuidsRead dataRead upTo recordRead first recordAt movedBy
+rows r = record { flags = refl; left = refl; list = refl; end = refl; stays = refl }

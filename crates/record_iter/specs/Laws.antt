@@ -1,0 +1,80 @@
+-- Going through the iterator from the front finds exactly the records of the area, in order, as `read_area` counts them.
+--   nextOf it, restOf it    == what `next` answers, and the octets that `into_rest` hands out
+--   movedBy k it            == the iterator after k moves
+--   answerAt rs k           == answer k of going through records that read as rs: a refusal or the end stays
+--   Through area n last     == the first n answers are records, and the one after them is `last`
+--   GoesThrough area        == the law
+--   Rows r                  == document 01's rows `02 01 86` and `01 03`, one after the other
+use mathlib.Core.Path.{_≡_}
+use mathlib.Core.Bool.{true}
+use Prim.Native.Nat.{ℕ, zero, suc, _<_}
+use mathlib.Core.List.{List, [], _∷_}
+use lib.ListN.{drop}
+use denote.Ref.{RefT, now}
+use Rattle.octets.specs.declared.error.Error.{Error}
+use Rattle.records.specs.declared.ad_structure.AdStructure.the-variants.{Flags, ServiceUuids16}
+use Rattle.records.specs.declared.ad_structure.Read.{Read}
+use Rattle.records.specs.declared.ad_structure.Read.the-variants.{Record, End}
+use Rattle.records.specs.declared.area.Area.{Area}
+use Rattle.records.specs.declared.area.Area.the-variants.{Accepted}
+use Rattle.records.specs.Record.{recordAt}
+use Rattle.records.specs.Area.{records, reads, readArea}
+use Rattle.record_iter.specs.Iter.{front, onward}
+use Rattle.record_iter.specs.declared.Records.{Records}
+
+abbrev pub nextOf : Records → Read
+nextOf it = recordAt (now (it .records)) (it .at)
+
+abbrev pub restOf : Records → List ℕ
+restOf it = drop (it .at) (now (it .records))
+
+unfoldable pub movedBy : ℕ → Records → Records
+movedBy zero it = it
+movedBy (suc k) it = movedBy k (onward it)
+
+unfoldable pub answerAt : List Read → ℕ → Read
+answerAt [] k = End
+answerAt (r ∷ rs) zero = r
+answerAt (Record a next ∷ rs) (suc k) = answerAt rs k
+answerAt (End ∷ rs) (suc k) = End
+answerAt (Read.Refused e ∷ rs) (suc k) = Read.Refused e
+
+abbrev pub IsRecord : Read → Type 0
+IsRecord (Record a next) = Unit {0}
+IsRecord End = ⊥
+IsRecord (Read.Refused e) = ⊥
+
+-- what `next` answers after k moves from the front
+abbrev pub answer : RefT (List ℕ) → ℕ → Read
+answer area k = nextOf (movedBy k (front area))
+
+pub record Through (area : RefT (List ℕ)) (n : ℕ) (last : Read) : Type 0 where
+  pub found : (k : ℕ) → k < n → IsRecord (answer area k)
+  pub then : answer area n ≡ last
+
+pub record Stopped (area : RefT (List ℕ)) (e : Error) : Type 0 where
+  pub count : ℕ
+  pub through : Through area count (Read.Refused e)
+
+-- by what `read_area` answers
+abbrev pub Counted : RefT (List ℕ) → Area → Type 0
+Counted area (Accepted n) = Through area n End
+Counted area (Area.Refused e) = Stopped area e
+
+pub record GoesThrough (area : RefT (List ℕ)) : Type 0 where
+  -- after k moves `next` answers what reading record k of the area finds
+  pub in-order : (k : ℕ) → answer area k ≡ answerAt (reads (records (now area)) 0) k
+  pub counted : Counted area (readArea (now area))
+  -- what is left behind k records is the records from k on
+  pub left : (k : ℕ) → ((j : ℕ) → j < k → IsRecord (answer area j)) → records (restOf (movedBy k (front area))) ≡ drop k (records (now area))
+
+-- the two rows as an area, lent where r lies
+abbrev pub twoRows : RefT (List ℕ) → RefT (List ℕ)
+twoRows r = record { ptr = r .ptr; name = r .name; now = 0x02 ∷ 0x01 ∷ 0x86 ∷ 0x01 ∷ 0x03 ∷ [] }
+
+pub record Rows (r : RefT (List ℕ)) : Type 0 where
+  pub flags : answer (twoRows r) 0 ≡ Record (Flags (record { bits = 0x06 })) 3
+  pub left : restOf (movedBy 1 (front (twoRows r))) ≡ 0x01 ∷ 0x03 ∷ []
+  pub list : answer (twoRows r) 1 ≡ Record (ServiceUuids16 true 5 0) 5
+  pub end : answer (twoRows r) 2 ≡ End
+  pub stays : answer (twoRows r) 3 ≡ End

@@ -1,0 +1,2 @@
+pub mod Iter
+pub mod Laws
