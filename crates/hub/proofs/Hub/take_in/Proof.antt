@@ -1,0 +1,64 @@
+-- `hub::Hub::take_in` meets its contract. Assumes nothing.
+use mathlib.Core.Path.{_≡_, sym, ap, _∙_}
+use mathlib.Core.Bool.{Bool, true, false, cond, _&&_}
+use mathlib.Core.List.{List}
+use Prim.Native.Nat.{ℕ, _≤_}
+use lib.Dec.{leb}
+use lib.ListN.{length, take}
+use borrow.Author.Needs.{needs}
+use borrow.Author.Tests.{leb-true}
+use Rattle.octets.proofs.Sequences.{both-true}
+use Rattle.hub.specs.Line.{roomFor}
+use Rattle.hub.specs.Log.{turnOf, Counted, isReady, restIn, linesIn, takenIn, restAfter, linesAfter}
+use Rattle.hub.specs.declared.Hub.{Hub}
+use Rattle.hub.specs.declared.TakenIn.{TakenIn}
+use Rattle.hub.specs.declared.TakenIn.the-variants as taken
+use Rattle.hub.specs.declared.Turn.{Turn}
+use Rattle.hub.proofs.Hub.take_in.Statement.{statement}
+use Rattle.hub.proofs.Hub.take_in.Tie as tie
+
+module _ (h : Hub) (buf : List ℕ) (filled : ℕ) (out : List ℕ) where
+  abbrev ready : Bool
+  ready = isReady h filled (length buf) (length out)
+
+  all-ready : ready ≡ true → Counted h × ((filled ≤ length buf) × (roomFor filled ≤ length out))
+  all-ready e =
+      let items = both-true (leb (h .items) 999999) (leb (h .reports) (h .items) && (leb filled (length buf) && leb (roomFor filled) (length out))) e in
+      let reports = both-true (leb (h .reports) (h .items)) (leb filled (length buf) && leb (roomFor filled) (length out)) (items .1) in
+      let size = both-true (leb filled (length buf)) (leb (roomFor filled) (length out)) (reports .1) in
+      ((leb-true (h .items) 999999 (items .0), leb-true (h .reports) (h .items) (reports .0)), (leb-true filled (length buf) (size .0), leb-true (roomFor filled) (length out) (size .1)))
+
+  -- what the contract says
+  Takes : TakenIn → List ℕ → List ℕ → Type 0
+  Takes r buf′ out′ = (r ≡ takenIn h buf filled out) × ((buf′ ≡ restAfter h buf filled out) × (out′ ≡ linesAfter h buf filled out))
+
+  turned : {t : Turn} {buf′ out′ : List ℕ} → ready ≡ true → (t ≡ turnOf h (take filled buf)) × ((buf′ ≡ restIn h buf filled) × (out′ ≡ linesIn h (take filled buf) out))
+      → Takes (taken.Turn t) buf′ out′
+  unfolding Takes
+  turned is e =
+      (ap taken.Turn (e .0) ∙ ap (λ (b : Bool). cond b (taken.Turn (turnOf h (take filled buf))) taken.Refused) (sym is), (e .1 .0 ∙ ap (λ (b : Bool). cond b (restIn h buf filled) buf) (sym is), e .1 .1 ∙ ap (λ (b : Bool). cond b (linesIn h (take filled buf) out) out) (sym is)))
+
+  refused : ready ≡ false → Takes taken.Refused buf out
+  unfolding Takes
+  refused is =
+      (ap (λ (b : Bool). cond b (taken.Turn (turnOf h (take filled buf))) taken.Refused) (sym is), (ap (λ (b : Bool). cond b (restIn h buf filled) buf) (sym is), ap (λ (b : Bool). cond b (linesIn h (take filled buf) out) out) (sym is)))
+
+take-turn-requires : tie.Need-take-turn-requires
+take-turn-requires c κs =
+    let start = c .before .before .before .before .before .before in
+    all-ready (start .args .self) (start .args .buf .now) (start .args .filled) (start .args .out .now) (sym (c .before .before .before .is-ready .ensures) ∙ c .before .before .if1 .taken)
+
+returns : tie.Need-returns
+unfolding Takes
+returns c =
+    let a = c .before .before .before .before .before .before .before .before .before .before .before .args in
+    turned (a .self) (a .buf .now) (a .filled) (a .out .now) (sym (c .before .before .before .before .before .before .before .before .is-ready .ensures) ∙ c .before .before .before .before .before .before .before .if1 .taken) (c .before .before .before .before .take-turn .ensures)
+
+returns-2 : tie.Need-returns-2
+unfolding Takes
+returns-2 c =
+    let a = c .before .before .before .before .args in
+    refused (a .self) (a .buf .now) (a .filled) (a .out .now) (sym (c .before .is-ready .ensures) ∙ c .if1 .left)
+
+pub take-in-spec : {M : Type 1} → statement M
+take-in-spec = tie.close (tie.spec (λ c κs. search needs) take-turn-requires (λ c. search needs) (λ c. search needs) returns returns-2)

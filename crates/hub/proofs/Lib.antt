@@ -1,0 +1,4 @@
+pub mod Pieces
+pub mod Reports
+pub mod AnyReads
+pub mod Samples

@@ -1,0 +1,62 @@
+-- `hub::log_scanned` meets its contract. Assumes nothing.
+use mathlib.Core.Path.{_≡_, refl, sym, ap, _∙_}
+use mathlib.Core.Bool.{Bool, false, cond}
+use mathlib.Core.List.{List, []}
+use Prim.Native.Nat.{ℕ}
+use native.Mathlib.Omega.{arith}
+use borrow.Author.Needs.{needs}
+use Rattle.octets.specs.Bytes.{written}
+use Rattle.beacon.specs.declared.beacon.Report.{Report}
+use Rattle.beacon.specs.declared.beacon.Report.the-variants as report
+use Rattle.beacon.specs.declared.beacon.Scanned.{Scanned}
+use Rattle.hub.specs.Line.{isReport, reportLine, line, reportsIn}
+use Rattle.hub.proofs.Pieces.{nothing-yet}
+use Rattle.hub.proofs.log_scanned.Statement.{statement}
+use Rattle.hub.proofs.log_scanned.Tie as tie
+
+module _ (number : ℕ) (s : Scanned) (out : List ℕ) (at : ℕ) where
+  one : s .report ≡ report.Beacon → reportsIn s ≡ 1
+  unfolding reportsIn
+  one is = rw is refl
+
+  reported : {out′ : List ℕ} → s .report ≡ report.Beacon → out′ ≡ written (reportLine number (s .sender) (s .«adv_data» .count)) out at
+      → (1 ≡ reportsIn s) × (out′ ≡ written (line number s) out at)
+  unfolding line
+  reported is wrote = (sym (one is), wrote ∙ ap (λ (r : Report). written (cond (isReport r) (reportLine number (s .sender) (s .«adv_data» .count)) []) out at) (sym is))
+
+  unheard : isReport (s .report) ≡ false → (0 ≡ reportsIn s) × (out ≡ written (line number s) out at)
+  unfolding line reportsIn
+  unheard is = (rw is refl, nothing-yet out at .contents ∙ ap (λ (b : Bool). written (cond b (reportLine number (s .sender) (s .«adv_data» .count)) []) out at) (sym is))
+
+put-line-requires : tie.Need-put-line-requires
+put-line-requires c κs =
+    let start = c .before .before .before .before .before .before in
+    omega (arith, one (start .args .number) (start .args .scanned) (start .args .out .now) (start .args .at) (c .before .before .before .enum-told .given .1), start .pre)
+
+returns : tie.Need-returns
+returns c =
+    let a = c .before .before .before .before .before .before .before .before .before .args in
+    reported (a .number) (a .scanned) (a .out .now) (a .at) (c .before .before .before .before .before .before .enum-told .given .1) (c .before .before .put-line .ensures)
+
+returns-2 : tie.Need-returns-2
+returns-2 c =
+    let a = c .before .before .before .args in
+    unheard (a .number) (a .scanned) (a .out .now) (a .at) (ap isReport (c .enum-told2 .given .1))
+
+returns-3 : tie.Need-returns-3
+returns-3 c =
+    let a = c .before .before .before .args in
+    unheard (a .number) (a .scanned) (a .out .now) (a .at) (ap isReport (c .enum-told3 .given .1))
+
+pub log-scanned-spec : {M : Type 1} → statement M
+log-scanned-spec =
+    tie.close
+    (tie.spec
+    (λ c. search needs)
+    put-line-requires
+    (λ c. search needs)
+    (λ c. search needs)
+    (λ c. search needs)
+    returns
+    returns-2
+    returns-3)

@@ -1,0 +1,4 @@
+pub mod Line
+pub mod Log
+pub mod Reads
+pub mod Sample

@@ -1,0 +1,34 @@
+-- The log does not depend on the pieces in which the input is read.
+use mathlib.Core.Path.{_≡_}
+use mathlib.Core.Bool.{false, cond}
+use mathlib.Core.List.{List, [], _∷_, _++_, flatten}
+use Prim.Native.Nat.{ℕ, _<_, _≤_}
+use lib.ListN.{length, take}
+use Rattle.hub.specs.Line.{roomFor}
+use Rattle.hub.specs.Log.{fresh, linesOf, restOf, turnOf, lastLine, logOf, Counted, takenIn}
+use Rattle.hub.specs.declared.Hub.{Hub}
+use Rattle.hub.specs.declared.TakenIn.the-variants as taken
+
+-- what the program writes for these reads, `kept` being left over of the octets before: each turn takes in what was left over with what was
+-- read, and writes the lines; the last line is written at the end of the input, or as soon as a turn says that reading stops
+unfoldable pub writtenFor : Hub → List ℕ → List (List ℕ) → List ℕ
+writtenFor h kept [] = lastLine h (length kept)
+writtenFor h kept (read ∷ reads) =
+    linesOf h (kept ++ read)
+    ++ cond (turnOf h (kept ++ read) .«is_stopped»)
+    (lastLine (turnOf h (kept ++ read) .hub) (turnOf h (kept ++ read) .kept))
+    (writtenFor (turnOf h (kept ++ read) .hub) (restOf h (kept ++ read)) reads)
+
+-- however an input is cut into reads, the log of the input is written
+abbrev pub AnyReads : Type 0
+AnyReads = (reads : List (List ℕ)) → writtenFor fresh [] reads ≡ logOf (flatten reads)
+
+-- A hub that counts as a run does, with room for the lines, is never refused; and what a turn leaves for the next.
+pub record Turning (h : Hub) (s : List ℕ) : Type 0 where
+  pub accepted : (buf : List ℕ) (filled : ℕ) (out : List ℕ) → Counted h → filled ≤ length buf → roomFor filled ≤ length out
+      → takenIn h buf filled out ≡ taken.Turn (turnOf h (take filled buf))
+  pub counted : Counted h → Counted (turnOf h s .hub)
+  pub room : turnOf h s .written ≤ roomFor (length s)
+  pub kept : turnOf h s .kept ≤ length s
+  -- fewer octets than the longest item has, so that a longer buffer always has room for a read
+  pub short : turnOf h s .«is_stopped» ≡ false → turnOf h s .kept < 66

@@ -1,0 +1,318 @@
+// The hub's log: octets in, lines out, whatever pieces the octets come in.
+ghost use mathlib.Core.Path.{_≡_};
+ghost use mathlib.Core.List.{_++_, map, flatten};
+ghost use Prim.Native.Nat.{_+_, _-_, _*_, _≤_};
+ghost use lib.ListN.{length, take, drop};
+ghost use Rattle.octets.specs.Bytes.{written};
+ghost use Rattle.addresses.specs.Address.{kindNumber};
+ghost use Rattle.columns.specs.Column.{column};
+ghost use Rattle.hub.specs.Line.{reportLine, line, reportsIn, lineSize, lastSize, roomFor};
+ghost use Rattle.hub.specs.Log.{start, heardIn, scannerAfter, leftOver, lastLine, fresh, isStuck, loggedOf, turnOf, Counted, isReady, takenIn, restIn, linesIn, restAfter, linesAfter};
+use addresses::device_address::DeviceAddress;
+use addresses::header::Header;
+use addresses::header::HeaderMade;
+use beacon::beacon::BeaconScanner;
+use beacon::beacon::Report;
+use beacon::beacon::Scanned;
+use octets::time::Instant;
+
+// The highest item number that six columns hold.
+const MOST_ITEMS: usize = 999_999;
+
+// The octets of a report's line, of the last line, and of lines for each octet of items.
+const LINE: usize = 36;
+
+const LAST: usize = 15;
+
+const ROOM: usize = 4;
+
+// What the hub has counted, and the scanner that it listens with.
+pub struct Hub {
+    items: usize,
+    reports: usize,
+    scanner: BeaconScanner,
+}
+
+// What logging the items of a block did.
+struct Logged {
+    hub: Hub,
+    // The octets of the whole items.
+    taken: usize,
+    // The octets of the lines.
+    written: usize,
+}
+
+// What taking in the octets that a read brought did.
+pub struct Turn {
+    pub hub: Hub,
+    // The octets of the lines.
+    pub written: usize,
+    // The octets that are left over, at the front of the buffer.
+    pub kept: usize,
+    // No octets that may follow change the log.
+    pub is_stopped: bool,
+}
+
+// A turn, or none: the buffer has fewer octets than it is said to hold, there is too little room for lines, or no run counts as this hub does.
+pub enum TakenIn {
+    Turn(Turn),
+    Refused,
+}
+
+// Writes n to the next `width` columns of `out`, from `at` on, and answers where the next column begins.
+fn put_next(n: usize, width: usize, out: &mut [u8], at: usize) -> usize
+    requires { ⌜ at + width ≤ length (now out) ⌝ }
+    ensures { λ r. ⌜ (r ≡ at + width) × (now (out .exit) ≡ written (column width n) (now (out .entry)) at) ⌝ }
+{
+    let end = at + width;
+    columns::put_column(n, &mut out[at..end]);
+    end
+}
+
+fn wide(octet: u8) -> usize
+    ensures { λ r. ⌜ r ≡ octet ⌝ }
+{
+    octet as usize
+}
+
+// Writes each octet to the next four columns.
+fn put_octets(octets: &[u8], out: &mut [u8], at: usize) -> usize
+    requires { ⌜ at + 4 * length (now octets) ≤ length (now out) ⌝ }
+    ensures { λ r. ⌜ (r ≡ at + 4 * length (now (octets .entry))) × (now (out .exit) ≡ written (flatten (map (column 4) (now (octets .entry)))) (now (out .entry)) at) ⌝ }
+{
+    let mut i = 0;
+    let mut next = at;
+    while i < octets.len() {
+        next = put_next(wide(octets[i]), 4, out, next);
+        i += 1;
+    }
+    next
+}
+
+// The kind of an address as it is printed: 0 public, 1 random.
+fn kind_number(address: DeviceAddress) -> usize
+    ensures { λ r. ⌜ r ≡ kindNumber (address .kind) ⌝ }
+{
+    if address.is_random() { 1 } else { 0 }
+}
+
+// Writes a report's line, from `at` on.
+fn put_line(number: usize, sender: DeviceAddress, records: usize, out: &mut [u8], at: usize)
+    requires { ⌜ at + lineSize ≤ length (now out) ⌝ }
+    ensures { λ _. ⌜ now (out .exit) ≡ written (reportLine number sender records) (now (out .entry)) at ⌝ }
+{
+    let octets = sender.raw();
+    let mut next = put_next(number, 6, out, at);
+    next = put_next(kind_number(sender), 2, out, next);
+    next = put_octets(&octets, out, next);
+    next = put_next(records, 3, out, next);
+    out[next] = b'\n';
+}
+
+// Writes the line of what the scanner answered, if it has one, from `at` on, and answers how many reports that is.
+fn log_scanned(number: usize, scanned: Scanned, out: &mut [u8], at: usize) -> usize
+    requires { ⌜ at + lineSize * reportsIn scanned ≤ length (now out) ⌝ }
+    ensures { λ r. ⌜ (r ≡ reportsIn scanned) × (now (out .exit) ≡ written (line number scanned) (now (out .entry)) at) ⌝ }
+{
+    let report = scanned.report;
+    match report {
+        Report::Beacon => {
+            let sender = scanned.sender;
+            let place = scanned.adv_data;
+            put_line(number, sender, place.count, out, at);
+            1
+        }
+        Report::Nothing => 0,
+        Report::Refused(_) => 0,
+    }
+}
+
+// Has the scanner hear an item. A tick is no packet.
+fn log_item(number: usize, scanner: BeaconScanner, item: &[u8], out: &mut [u8], at: usize) -> usize
+    requires { ⌜ at + roomFor (length (now item)) ≤ length (now out) ⌝ }
+    ensures { λ r. ⌜ (r ≡ reportsIn (heardIn scanner (now (item .entry)))) × (now (out .exit) ≡ written (line number (heardIn scanner (now (item .entry)))) (now (out .entry)) at) ⌝ }
+{
+    if item.len() < 3 {
+        return 0;
+    }
+    match Header::parse(&item[1..3]) {
+        HeaderMade::Header(header) => {
+            let scanned = scanner.process_adv_packet(
+                header,
+                &item[3..],
+                item[0] == items::CRC_GOOD,
+                &item[..0],
+            );
+            log_scanned(number, scanned, out, at)
+        }
+        HeaderMade::Refused(_) => 0,
+    }
+}
+
+// The input has ticks and no times.
+fn start() -> Instant
+    ensures { λ r. ⌜ r ≡ start ⌝ }
+{
+    Instant::from_raw_micros(0)
+}
+
+// The scanner after an item: a tick moves it to the next channel.
+fn listen(scanner: BeaconScanner, item: &[u8]) -> BeaconScanner
+    ensures { λ r. ⌜ r ≡ scannerAfter scanner (now (item .entry)) ⌝ }
+{
+    if item.len() == 0 {
+        return scanner;
+    }
+    if item[0] == items::TICK {
+        let updated = scanner.timer_update(start());
+        return updated.scanner;
+    }
+    scanner
+}
+
+// Logs the whole items at the front of s.
+fn log_items(hub: Hub, s: &[u8], out: &mut [u8]) -> Logged
+    requires { ⌜ Counted hub × (roomFor (length (now s)) ≤ length (now out)) ⌝ }
+    ensures { λ r. ⌜ (r ≡ loggedOf hub (now (s .entry))) × (now (out .exit) ≡ linesIn hub (now (s .entry)) (now (out .entry))) ⌝ }
+{
+    let mut items = hub.items;
+    let mut reports = hub.reports;
+    let mut scanner = hub.scanner;
+    let mut at = 0;
+    let mut written = 0;
+    while items < MOST_ITEMS {
+        let size = items::whole_size(s, at);
+        if size == 0 {
+            break;
+        }
+        let next = at + size;
+        items += 1;
+        let item = &s[at..next];
+        let heard = log_item(items, scanner, item, out, written);
+        reports += heard;
+        scanner = listen(scanner, item);
+        written += LINE * heard;
+        at = next;
+    }
+    Logged {
+        hub: Hub {
+            items,
+            reports,
+            scanner,
+        },
+        taken: at,
+        written,
+    }
+}
+
+// No item can begin with these octets any more, whatever follows them.
+fn is_stuck(items: usize, rest: &[u8]) -> bool
+    ensures { λ r. ⌜ r ≡ isStuck items (now (rest .entry)) ⌝ }
+{
+    if rest.len() == 0 {
+        return false;
+    }
+    if MOST_ITEMS <= items {
+        return true;
+    }
+    items::CRC_BAD < rest[0]
+}
+
+// Moves the octets from `from` to `end` to the front.
+fn keep(buf: &mut [u8], from: usize, end: usize)
+    requires { ⌜ (from ≤ end) × (end ≤ length (now buf)) ⌝ }
+    ensures { λ _. ⌜ now (buf .exit) ≡ take (end - from) (drop from (now (buf .entry))) ++ drop (end - from) (now (buf .entry)) ⌝ }
+{
+    let mut i = 0;
+    while i < end - from {
+        buf[i] = buf[from + i];
+        i += 1;
+    }
+}
+
+// `take_in` where all is ready.
+fn take_turn(hub: Hub, buf: &mut [u8], filled: usize, out: &mut [u8]) -> Turn
+    requires { ⌜ Counted hub × ((filled ≤ length (now buf)) × (roomFor filled ≤ length (now out))) ⌝ }
+    ensures { λ r. ⌜ (r ≡ turnOf hub (take filled (now (buf .entry)))) × ((now (buf .exit) ≡ restIn hub (now (buf .entry)) filled) × (now (out .exit) ≡ linesIn hub (take filled (now (buf .entry))) (now (out .entry)))) ⌝ }
+{
+    let logged = log_items(hub, &buf[..filled], out);
+    let after = logged.hub;
+    let taken = logged.taken;
+    let is_stopped = is_stuck(after.items, &buf[taken..filled]);
+    keep(buf, taken, filled);
+    Turn {
+        hub: after,
+        written: logged.written,
+        kept: filled - taken,
+        is_stopped,
+    }
+}
+
+// Writes the last line to all of `out`.
+fn put_last_line(hub: Hub, kept: usize, out: &mut [u8])
+    requires { ⌜ length (now out) ≡ lastSize ⌝ }
+    ensures { λ _. ⌜ now (out .exit) ≡ lastLine hub kept ⌝ }
+{
+    let mut next = put_next(hub.items, 6, out, 0);
+    next = put_next(hub.reports, 6, out, next);
+    next = put_next(left_over(kept), 2, out, next);
+    out[next] = b'\n';
+}
+
+// 1 where octets are left over.
+fn left_over(kept: usize) -> usize
+    ensures { λ r. ⌜ r ≡ leftOver kept ⌝ }
+{
+    if kept == 0 { 0 } else { 1 }
+}
+
+impl Hub {
+    // A hub that has heard nothing, and listens on the first channel for every sender.
+    pub fn new() -> Hub
+        ensures { λ r. ⌜ r ≡ fresh ⌝ }
+    {
+        let configured = BeaconScanner::new().configure(start(), 0);
+        let scanner = configured.scanner;
+        Hub {
+            items: 0,
+            reports: 0,
+            scanner,
+        }
+    }
+
+    // Whether the hub counts as a run does, `filled` octets are there and so is room for their lines.
+    fn is_ready(self, filled: usize, size: usize, space: usize) -> bool
+        ensures { λ r. ⌜ r ≡ isReady self filled size space ⌝ }
+    {
+        if MOST_ITEMS < self.items {
+            return false;
+        }
+        if self.items < self.reports {
+            return false;
+        }
+        if size < filled {
+            return false;
+        }
+        filled <= space / ROOM
+    }
+
+    // Takes in the first `filled` octets of `buf`: writes the lines of the whole items among them to the front of `out`, and moves the octets
+    // behind these items to the front of `buf`.
+    pub fn take_in(self, buf: &mut [u8], filled: usize, out: &mut [u8]) -> TakenIn
+        ensures { λ r. ⌜ (r ≡ takenIn self (now (buf .entry)) filled (now (out .entry))) × ((now (buf .exit) ≡ restAfter self (now (buf .entry)) filled (now (out .entry))) × (now (out .exit) ≡ linesAfter self (now (buf .entry)) filled (now (out .entry)))) ⌝ }
+    {
+        if self.is_ready(filled, buf.len(), out.len()) {
+            return TakenIn::Turn(take_turn(self, buf, filled, out));
+        }
+        TakenIn::Refused
+    }
+
+    // The last line, where `kept` octets are left over.
+    pub fn last_line(self, kept: usize) -> [u8; 15]
+        ensures { λ r. ⌜ r ≡ lastLine self kept ⌝ }
+    {
+        let mut out = [0u8; LAST];
+        put_last_line(self, kept, &mut out);
+        out
+    }
+}

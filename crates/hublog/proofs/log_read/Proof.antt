@@ -1,0 +1,52 @@
+-- `hublog::log_read` meets its contract: the hub is never refused, so the last arm is never taken. Assumes nothing.
+use mathlib.Core.Path.{_≡_, sym, ap, _∙_}
+use Prim.Native.Nat.{ℕ, _≤_}
+use native.Mathlib.Omega.{arith}
+use lib.ListN.{length, take, length-take}
+use borrow.Author.Needs.{needs}
+use Rattle.hub.proofs.AnyReads.{turning}
+use Rattle.hub.specs.Log.{turnOf}
+use Rattle.hub.specs.declared.TakenIn.the-variants as taken
+use Rattle.hub.specs.declared.Turn.{Turn}
+use Rattle.hublog.proofs.log_read.Statement.{statement}
+use Rattle.hublog.proofs.log_read.Tie as tie
+
+same-turn : {t u : Turn} → taken.Turn t ≡ taken.Turn u → t ≡ u
+same-turn e = cc
+
+no-refusal : {t : Turn} → taken.Refused ≡ taken.Turn t → ⊥
+no-refusal e = let z : _≡_ {A = ℕ} 0 1 = cc in omega arith
+
+-- what is taken in
+taken-in : (c : tie.After-take-in) → let a = c .before .before .before .before .before .args in c .take-in .result ≡ taken.Turn (turnOf (a .hub) (take (a .filled) (a .buf .now)))
+taken-in c =
+    let start = c .before .before .before .before .before in
+    let a = start .args in
+    c .take-in .ensures .0 ∙ turning (a .hub) (a .buf .now) .accepted (a .buf .now) (a .filled) (a .out .now) (start .pre .0) (start .pre .1 .0) (start .pre .1 .1)
+
+is-turn : (c : tie.After-turn) → let a = c .before .before .before .before .before .before .before .before .before .before .before .args in c .turn .given .0 .0 ≡ turnOf (a .hub) (take (a .filled) (a .buf .now))
+is-turn c = same-turn (sym (c .turn .given .1) ∙ taken-in (c .before .before .before .before .before .before))
+
+written-fits : (c : tie.After-turn) → c .turn .given .0 .0 .written ≤ length (c .before .before .before .before .before .before .before .before .before .before .before .args .out .now)
+written-fits c =
+    let start = c .before .before .before .before .before .before .before .before .before .before .before in
+    let a = start .args in
+    omega (arith, ap (λ (t : Turn). t .written) (is-turn c), turning (a .hub) (take (a .filled) (a .buf .now)) .room, length-take (a .filled) (a .buf .now), start .pre .1)
+
+pub log-read-spec : {M : Type 1} → statement M
+log-read-spec =
+    tie.close
+    (tie.spec
+    (λ c κs. search needs)
+    (λ c. search needs)
+    (λ c. omega (arith, written-fits (c .before)))
+    (λ c. sym (simp length-take (omega (arith, written-fits (c .before .before)))))
+    (λ c κs. search needs)
+    (λ c. search needs)
+    (λ c κs. search needs)
+    (λ c. search needs)
+    (λ c. search needs)
+    (λ c. is-turn (c .before .before .before))
+    (λ c. search needs)
+    (λ c. search needs)
+    (λ c. absurd (no-refusal (sym (c .before .enum-told .given .1) ∙ taken-in (c .before .before .before .before .before .before .before)))))
