@@ -1,10 +1,10 @@
--- `pdus::octets_of` meets its contract: the index stays below the length. Assumes nothing.
+-- `replay::octets` meets its contract: the index stays below the length. Assumes nothing.
 use mathlib.Core.Path.{_≡_}
 use Prim.Native.Nat.{_-_}
 use lib.ListN.{length}
 use borrow.Author.Needs.{needs}
-use Rattle.pdus.proofs.octets_of.Statement.{statement}
-use Rattle.pdus.proofs.octets_of.Tie as tie
+use Rattle.replay.proofs.octets.Statement.{statement}
+use Rattle.replay.proofs.octets.Tie as tie
 
 abbrev Inv-loop : tie.InvT-loop
 Inv-loop s i₀ i-end i = i-end ≡ length s
@@ -12,8 +12,8 @@ Inv-loop s i₀ i-end i = i-end ≡ length s
 abbrev μ-loop : tie.MeasureT-loop
 μ-loop s i₀ i-end i = i-end - i
 
-pub octets-of-spec : {M : Type 1} → statement M
-octets-of-spec =
+pub octets-spec : {M : Type 1} → statement M
+octets-spec =
     tie.close
     (tie.spec
     Inv-loop
