@@ -1,0 +1,2 @@
+// Stand-in: no compared path maps channels.
+pub trait ChannelMapper {}

@@ -1,0 +1,1 @@
+// Stand-in: no compared path has a responder.

@@ -1,0 +1,172 @@
+//! Requests, and smaller ones than a given one.
+
+/// The kinds of requests: numbers and octets that each takes, and what is answered.
+#[derive(Copy, Clone, Debug, PartialEq, Eq, Hash)]
+#[repr(u8)]
+pub enum Kind {
+    /// | header, payload: a PDU with all fields
+    Decode,
+    /// | header: what it says
+    Header,
+    /// TxAdd, RxAdd, length | header: the header set so
+    SetHeader,
+    /// type, TxAdd, RxAdd, length: a new header set so
+    NewHeader,
+    /// builder, random | address, records: header and payload
+    Build,
+    /// random, random | address, address: header and payload
+    BuildDirected,
+    /// random | list, address: whether the list holds it
+    Whitelist,
+    /// | area: the number of records
+    Area,
+    /// | area: each record, up to the end or a refusal
+    Records,
+    /// | area: each record read on to the kind that its type names
+    Known,
+    /// kind, complete, value, start, len, position, space | data: a record written
+    Write,
+    /// space | area: the records written again
+    Rewrite,
+    /// octet: what Flags say
+    Flags,
+    /// | octets: whether they are UTF-8
+    Utf8,
+    /// number: the full UUID
+    Uuid16,
+    Uuid32,
+    /// | list data: each UUID
+    UuidList,
+    /// instant, microseconds: later
+    Later,
+    /// instant, earlier instant: microseconds between
+    Since,
+    /// cycles: an advertising channel
+    AdvertisingChannel,
+    /// index: a data channel
+    DataChannel,
+    /// | map: its octets and count, and each channel and place
+    Map,
+    /// hop, events | map: the channels of a connection's events
+    Events,
+    /// random, space | address, records: a beacon sent
+    Beacon,
+    /// filter in use, updates, CRC good | list, header, payload: a report
+    Scan,
+    /// time, interval, updates: channel and next instant
+    Scanner,
+    /// random, first and second buffer | address, calls of 80 octets: each call's answer and both buffers
+    Calls,
+}
+
+pub const KINDS: [Kind; 27] = [
+    Kind::Decode, Kind::Header, Kind::SetHeader, Kind::NewHeader, Kind::Build, Kind::BuildDirected, Kind::Whitelist,
+    Kind::Area, Kind::Records, Kind::Known, Kind::Write, Kind::Rewrite, Kind::Flags, Kind::Utf8, Kind::Uuid16,
+    Kind::Uuid32, Kind::UuidList, Kind::Later, Kind::Since, Kind::AdvertisingChannel, Kind::DataChannel, Kind::Map,
+    Kind::Events, Kind::Beacon, Kind::Scan, Kind::Scanner, Kind::Calls,
+];
+
+/// Octets of a call in a list of calls.
+pub const CALL: usize = 80;
+
+#[derive(Clone, Debug, PartialEq, Eq)]
+pub struct Request {
+    pub kind: Kind,
+    pub numbers: Vec<u64>,
+    pub parts: Vec<Vec<u8>>,
+}
+
+impl Request {
+    pub fn new(kind: Kind, numbers: &[u64], parts: &[&[u8]]) -> Self {
+        Request { kind, numbers: numbers.to_vec(), parts: parts.iter().map(|p| p.to_vec()).collect() }
+    }
+
+    /// The number of results that are compared.
+    pub fn results(&self) -> u64 {
+        match self.kind {
+            Kind::Calls => (self.parts[1].len() / CALL) as u64,
+            Kind::Events => self.numbers[1],
+            _ => 1,
+        }
+    }
+
+    /// Parts whose length is fixed: addresses and maps.
+    fn fixed(&self, part: usize) -> bool {
+        match self.kind {
+            Kind::Build | Kind::Beacon | Kind::Calls => part == 0,
+            Kind::BuildDirected | Kind::Map | Kind::Events => true,
+            Kind::Whitelist => part == 1,
+            Kind::Scan => part == 1,
+            _ => false,
+        }
+    }
+
+    /// Requests that are a little smaller.
+    pub fn smaller(&self) -> Vec<Request> {
+        let mut found = Vec::new();
+        for (p, part) in self.parts.iter().enumerate() {
+            let unit = if self.kind == Kind::Calls && p == 1 { CALL } else { 1 };
+            if !self.fixed(p) {
+                for size in [part.len() / 2, unit] {
+                    let size = size / unit * unit;
+                    if size == 0 {
+                        continue;
+                    }
+                    for at in (0..part.len()).step_by(size) {
+                        let mut r = self.clone();
+                        r.parts[p].drain(at..(at + size).min(part.len()));
+                        found.push(r);
+                    }
+                }
+            }
+            for at in 0..part.len() {
+                for less in [0, part[at] / 2, part[at].saturating_sub(1)] {
+                    if less < part[at] {
+                        let mut r = self.clone();
+                        r.parts[p][at] = less;
+                        found.push(r);
+                    }
+                }
+            }
+        }
+        for n in 0..self.numbers.len() {
+            for less in [0, self.numbers[n] / 2, self.numbers[n].saturating_sub(1)] {
+                if less < self.numbers[n] {
+                    let mut r = self.clone();
+                    r.numbers[n] = less;
+                    found.push(r);
+                }
+            }
+        }
+        // A header and the payload that it counts shrink together.
+        if self.kind == Kind::Decode && self.parts[0].len() == 2 && !self.parts[1].is_empty() && self.parts[0][1] > 0 {
+            for at in 0..self.parts[1].len() {
+                let mut r = self.clone();
+                r.parts[1].remove(at);
+                r.parts[0][1] -= 1;
+                found.push(r);
+            }
+        }
+        found
+    }
+}
+
+/// A line of text: kind, numbers and octets, in hexadecimal; an empty part is a dash.
+pub fn line(r: &Request) -> String {
+    let mut text = format!("{:02x}", r.kind as u8);
+    for n in &r.numbers {
+        text += &format!(" {n:x}");
+    }
+    for p in &r.parts {
+        text += " ";
+        text += &hex(p);
+    }
+    text
+}
+
+pub fn hex(octets: &[u8]) -> String {
+    if octets.is_empty() {
+        return "-".to_string();
+    }
+    octets.iter().map(|b| format!("{b:02x}")).collect()
+}

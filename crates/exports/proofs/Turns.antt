@@ -1,0 +1,50 @@
+-- A call's octets name a call, and turn after turn of a list gives `ran`. Assumes nothing.
+use mathlib.Core.Bool.{Bool, true, false}
+use mathlib.Core.List.{List}
+use mathlib.Core.Path.{_≡_, refl, sym, ap, _∙_}
+use Prim.Native.Nat.{ℕ, _+_, _*_, _^_, _≤_, _<_}
+use native.Mathlib.Numerals.{add-one}
+use lib.Dec.{eqb}
+use lib.ListN.{length, getD}
+use Rattle.addresses.specs.declared.header.Header.{Header}
+use Rattle.radio.specs.Calls.{instant}
+use Rattle.radio.specs.Trace.{Call, start, tick, packet, event, stop}
+use Rattle.radio.specs.declared.link.Called.{Called}
+use Rattle.radio.specs.declared.link.Device.{Device}
+use Rattle.exports.specs.Lists.{partAt, timeIn, intervalIn, headerIn, octetsIn, callIn, State, state, calledBy, stepOf, ran}
+
+module _ (c tx : List ℕ) where
+  pub as-start : {t i : ℕ} {o : List ℕ} → getD c 0 0 ≡ 0 → t ≡ timeIn c → i ≡ intervalIn c → o ≡ octetsIn c → start (instant t) i o tx ≡ callIn c tx
+  unfolding callIn
+  as-start k t i o = (λ j. start (instant (t j)) (i j) (o j) tx) ∙ rw k
+
+  pub as-tick : getD c 0 0 ≡ 1 → tick tx ≡ callIn c tx
+  unfolding callIn
+  as-tick k = rw k
+
+  pub as-packet : {t : ℕ} {h : Header} {o : List ℕ} {b : Bool} → getD c 0 0 ≡ 2 → t ≡ timeIn c → h ≡ headerIn c → o ≡ octetsIn c → b ≡ eqb (getD c 1 0) 1
+      → packet (instant t) h o b ≡ callIn c tx
+  unfolding callIn
+  as-packet k t h o b = (λ j. packet (instant (t j)) (h j) (o j) (b j)) ∙ rw k
+
+  pub as-event : getD c 0 0 ≡ 3 → event ≡ callIn c tx
+  unfolding callIn
+  as-event k = rw k
+
+  pub as-stop : eqb (getD c 0 0) 0 ≡ false → eqb (getD c 0 0) 1 ≡ false → eqb (getD c 0 0) 2 ≡ false → eqb (getD c 0 0) 3 ≡ false → stop ≡ callIn c tx
+  unfolding callIn
+  as-stop a b d e = rw (a, b, d, e)
+
+-- i calls of a list have been made, from a state on
+pub record Turn (s : State) (calls : List ℕ) (n : ℕ) (first second : List ℕ) (device : Device) (i : ℕ) : Type 0 where
+  pub below : i ≤ n
+  pub small : n < 2 ^ 64
+  pub reached : state device first second ≡ ran s calls i
+  pub long-first : length first ≡ length (s .first)
+  pub long-second : length second ≡ length (s .second)
+
+pub turned : (s : State) (calls : List ℕ) (i : ℕ) {d : Device} {a b : List ℕ} {p : List ℕ} {r : Called} {a′ b′ : List ℕ} → state d a b ≡ ran s calls i → p ≡ partAt 80 calls (80 * i)
+    → r ≡ calledBy p (state d a b) → a′ ≡ stepOf p (state d a b) .first → b′ ≡ stepOf p (state d a b) .second → state (r .device) a′ b′ ≡ ran s calls (i + 1)
+unfolding ran stepOf
+turned s calls i {d} {a} {b} {p} so part r first second =
+    (λ j. state (r j .device) (first j) (second j)) ∙ ap (stepOf p) so ∙ ap (λ (q : List ℕ). stepOf q (ran s calls i)) part ∙ ap (ran s calls) (sym (add-one i))

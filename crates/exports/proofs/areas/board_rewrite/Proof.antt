@@ -1,0 +1,11 @@
+use mathlib.Core.Path.{ap, _∙_}
+use Rattle.exports.specs.Got.{writtenGot}
+use borrow.Author.Needs.{needs}
+use Rattle.exports.proofs.areas.board_rewrite.Statement.{statement}
+use Rattle.exports.proofs.areas.board_rewrite.Tie as tie
+
+returns : tie.Need-returns
+returns c = (c .written .ensures ∙ ap writtenGot (c .before .before .before .rewrite-area .ensures .0), c .before .before .before .rewrite-area .ensures .1)
+
+pub board-rewrite-spec : {M : Type 1} → statement M
+board-rewrite-spec = tie.close (tie.spec (λ c κs. search needs) (λ c κs. search needs) (λ c. search needs) returns)

@@ -1,0 +1,9 @@
+use borrow.Author.Needs.{needs}
+use Rattle.exports.proofs.areas.say_refused.Statement.{statement}
+use Rattle.exports.proofs.areas.say_refused.Tie as tie
+
+returns : tie.Need-returns
+returns c = rw (c .number .ensures)
+
+pub say-refused-spec : {M : Type 1} → statement M
+say-refused-spec = tie.close (tie.spec (λ c κs. search needs) returns)

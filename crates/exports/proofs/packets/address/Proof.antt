@@ -1,0 +1,10 @@
+use mathlib.Core.Path.{_∙_}
+use borrow.Author.Needs.{needs}
+use Rattle.exports.proofs.packets.address.Statement.{statement}
+use Rattle.exports.proofs.packets.address.Tie as tie
+
+returns : tie.Need-returns
+returns c = c .new .ensures ∙ rw (c .before .of .ensures)
+
+pub address-spec : {M : Type 1} → statement M
+address-spec = tie.close (tie.spec (λ c κs. search needs) (λ c κs. search needs) returns)

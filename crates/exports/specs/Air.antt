@@ -1,0 +1,111 @@
+-- Beacons and scanners as numbers.
+--   beaconSent made tx, beaconAfter made tx == what is transmitted of a beacon that was made, or not, and the transmit buffer afterwards
+--   scannerAfter f t i n      == a scanner with a filter or without, configured at time t with interval i, after up to 3 timer updates at time t
+--   heardFrom s made p crc l  == what a scanner says of a packet whose header was made, or not
+use mathlib.Core.Bool.{Bool, true, false, cond}
+use mathlib.Core.List.{List, [], _∷_}
+use Prim.Native.Nat.{ℕ}
+use lib.Dec.{eqb}
+use Rattle.octets.specs.Error.{numberOf}
+use Rattle.octets.specs.declared.error.Error.{Error}
+use Rattle.octets.specs.declared.time.Instant.{Instant}
+use Rattle.channels.specs.Phy.{indexOf}
+use Rattle.addresses.specs.Address.{isRandom}
+use Rattle.addresses.specs.declared.filter.AddressFilter.{AddressFilter}
+use Rattle.addresses.specs.declared.filter.AddressFilter.the-variants.{AllowAll, Whitelist}
+use Rattle.addresses.specs.declared.header.HeaderMade.{HeaderMade}
+use Rattle.addresses.specs.declared.header.HeaderMade.the-variants as made
+use Rattle.advertising.specs.PduBuf.{payloadAfter}
+use Rattle.advertising.specs.declared.pdu.Outcome.{Outcome}
+use Rattle.advertising.specs.declared.pdu.Outcome.the-variants as outcome
+use Rattle.beacon.specs.Scanner.{scannerOf, configured, timerUpdated, scanned}
+use Rattle.beacon.specs.Sending.{broadcastOf}
+use Rattle.beacon.specs.declared.beacon.Beacon.{Beacon}
+use Rattle.beacon.specs.declared.beacon.BeaconScanner.{BeaconScanner}
+use Rattle.beacon.specs.declared.beacon.Broadcast.{Broadcast}
+use Rattle.beacon.specs.declared.beacon.Broadcast.the-variants as broadcast
+use Rattle.beacon.specs.declared.beacon.Made.{Made}
+use Rattle.beacon.specs.declared.beacon.Report.{Report}
+use Rattle.beacon.specs.declared.beacon.Report.the-variants as report
+use Rattle.beacon.specs.declared.beacon.Scanned.{Scanned}
+use Rattle.beacon.specs.declared.beacon.Updated.{Updated}
+use Rattle.exports.specs.Got.{found}
+use Rattle.exports.specs.declared.air.Heard.{Heard}
+use Rattle.exports.specs.declared.air.Sent.{Sent}
+use Rattle.exports.specs.declared.got.Got.{Got}
+
+abbrev pub notSent : Error → Sent
+notSent e = record { number = numberOf e; header = 0; first = 0; second = 0; third = 0 }
+
+abbrev pub broadcastSent : Broadcast → Sent
+broadcastSent (broadcast.Transmit h c) =
+    record { number = 0; header = h .0; first = indexOf (c .first); second = indexOf (c .second); third = indexOf (c .third) }
+broadcastSent (broadcast.Refused e) = notSent e
+
+abbrev pub sentBy : Beacon → List ℕ → Outcome → Sent
+sentBy b tx outcome.Accepted = broadcastSent (broadcastOf b tx)
+sentBy b tx (outcome.Refused e) = notSent e
+
+abbrev pub afterBy : Beacon → List ℕ → Outcome → List ℕ
+afterBy b tx outcome.Accepted = payloadAfter (b .pdu) tx
+afterBy b tx (outcome.Refused e) = tx
+
+abbrev pub beaconSent : Made → List ℕ → Sent
+beaconSent m tx = sentBy (m .beacon) tx (m .outcome)
+
+abbrev pub beaconAfter : Made → List ℕ → List ℕ
+beaconAfter m tx = afterBy (m .beacon) tx (m .outcome)
+
+abbrev pub filterFor : Bool → AddressFilter
+filterFor filtered = cond filtered Whitelist AllowAll
+
+-- one more update
+abbrev pub updated : Instant → Updated → Updated
+updated t u = timerUpdated (u .scanner) t
+
+abbrev pub updatedTimes : ℕ → Instant → Updated → Updated
+updatedTimes n t u =
+    cond (eqb n 0) u
+    (cond (eqb n 1) (updated t u)
+    (cond (eqb n 2) (updated t (updated t u))
+    (updated t (updated t (updated t u)))))
+
+abbrev pub at : ℕ → Instant
+at t = record { 0 = t }
+
+unfoldable pub scannerAfter : Bool → ℕ → ℕ → ℕ → Updated
+scannerAfter filtered t interval n = updatedTimes n (at t) (configured (scannerOf (filterFor filtered)) (at t) interval)
+
+abbrev pub updatedGot : Updated → Got
+updatedGot u = found (indexOf (u .cmd .channel)) (u .cmd .«next_update» .0)
+
+abbrev pub reportNumber : Report → ℕ
+reportNumber report.Beacon = 0
+reportNumber report.Nothing = 0
+reportNumber (report.Refused e) = numberOf e
+
+abbrev pub isReport : Report → Bool
+isReport report.Beacon = true
+isReport report.Nothing = false
+isReport (report.Refused e) = false
+
+abbrev pub heardOf : Scanned → Heard
+heardOf s =
+    record {
+      number = reportNumber (s .report);
+      reported = isReport (s .report);
+      random = isRandom (s .sender .kind);
+      sender = s .sender .bytes;
+      start = s .«adv_data» .start;
+      len = s .«adv_data» .len;
+      count = s .«adv_data» .count;
+      channel = indexOf (s .channel);
+    }
+
+abbrev pub unheard : Error → Heard
+unheard e =
+    record { number = numberOf e; reported = false; random = false; sender = 0 ∷ 0 ∷ 0 ∷ 0 ∷ 0 ∷ 0 ∷ []; start = 0; len = 0; count = 0; channel = 0 }
+
+abbrev pub heardFrom : BeaconScanner → HeaderMade → List ℕ → Bool → List ℕ → Heard
+heardFrom s (made.Header h) p crcOk list = heardOf (scanned s h p crcOk list)
+heardFrom s (made.Refused e) p crcOk list = unheard e

@@ -1,0 +1,6 @@
+pub mod Got
+pub mod Leaves
+pub mod Areas
+pub mod Packets
+pub mod Air
+pub mod Lists
