@@ -141,7 +141,9 @@ pub fn packet(rng: &mut Rng) -> (Vec<u8>, Vec<u8>) {
     (header, p)
 }
 
-const KIND_NUMBERS: [u8; 16] = [0, 0, 1, 1, 1, 2, 2, 2, 2, 2, 2, 3, 3, 3, 4, 5];
+// Calls that are likely in standby, advertising and connected.
+const KIND_NUMBERS: [[u8; 10]; 3] =
+    [[0, 0, 0, 0, 0, 0, 1, 2, 3, 4], [0, 1, 1, 1, 2, 2, 2, 2, 3, 5], [0, 1, 2, 3, 3, 3, 3, 3, 3, 4]];
 
 /// A list of calls. Packets are often for the device and often well-formed.
 pub fn calls(rng: &mut Rng) -> Request {
@@ -149,8 +151,10 @@ pub fn calls(rng: &mut Rng) -> Request {
     let random = rng.bit();
     let count = 1 + rng.below(16);
     let mut list = Vec::new();
+    // The mode as the calls are likely to make it.
+    let mut mode = 0;
     for _ in 0..count {
-        let kind = rng.pick(&KIND_NUMBERS);
+        let kind = rng.pick(&KIND_NUMBERS[mode]);
         let mut c = vec![0; CALL];
         c[0] = kind;
         c[1] = (rng.below(6) != 0) as u8;
@@ -158,6 +162,11 @@ pub fn calls(rng: &mut Rng) -> Request {
         for octet in &mut c[4..12] {
             *octet = if rng.bit() == 0 { rng.octet() } else { rng.pick(&[0, 0xFF]) };
         }
+        mode = match kind {
+            0 => 1,
+            4.. => 0,
+            _ => mode,
+        };
         let octets = match kind {
             0 => {
                 let n = match rng.below(4) {
@@ -175,7 +184,10 @@ pub fn calls(rng: &mut Rng) -> Request {
             2 => {
                 let (mut header, mut p) = packet(rng);
                 if rng.below(4) != 0 {
-                    let ty = rng.pick(&[1, 3, 3, 5, 5, 5]);
+                    let ty = rng.pick(&[1, 1, 3, 3, 3, 5]);
+                    if ty == 5 && mode == 1 {
+                        mode = 2;
+                    }
                     let mut to = own.clone();
                     if rng.below(8) == 0 {
                         damage(rng, &mut to);

@@ -1,4 +1,4 @@
-//! Compares the translation with rubble: `compare [SEED]`. Exits with 1 at the first difference, and prints the smallest request that it finds.
+//! Compares the translation with rubble: `compare [SEED [WORD]]`, with a word only the parts whose name has it. Exits with 1 at the first difference, and prints the smallest request that it finds.
 use compare::made::{self, Share};
 use compare::request::{hex, line, Kind, Request, KINDS};
 use compare::{ours, theirs};
@@ -37,17 +37,23 @@ impl Both {
         if !self.agree(r) {
             self.report(r);
         }
+        let results = match r.kind {
+            // A call's answer has 19 octets and both buffers, an event's two.
+            Kind::Calls => self.ours.len() as u64 / (19 + r.numbers[1] + r.numbers[2]),
+            Kind::Events => self.ours.len() as u64 / 2,
+            _ => 1,
+        };
         let row = &mut self.tally[r.kind as usize];
         match r.kind {
             Kind::Calls => {
                 let size = 19 + (r.numbers[1] + r.numbers[2]) as usize;
                 self.ours.chunks_exact(size).for_each(|a| row[a[0] as usize % 10] += 1);
             }
-            Kind::Uuid16 | Kind::Uuid32 | Kind::Later | Kind::Since | Kind::Map | Kind::Flags => row[0] += 1,
-            Kind::Events => row[self.ours[0] as usize % 10] += r.results(),
+            Kind::Uuid16 | Kind::Uuid32 | Kind::Later | Kind::Since | Kind::Map | Kind::Flags | Kind::Utf8 => row[0] += 1,
+            Kind::Events => row[self.ours[0] as usize % 10] += results,
             _ => row[self.ours[0] as usize % 10] += 1,
         }
-        self.counted += r.results();
+        self.counted += results;
         if self.counted >= 4096 {
             RESULTS.fetch_add(self.counted, Ordering::Relaxed);
             self.counted = 0;
@@ -90,6 +96,7 @@ fn main() {
         Some(text) => text.parse().expect("a seed is a number"),
         None => 1,
     };
+    let word = std::env::args().nth(2).unwrap_or_default();
     // rubble's panics are answers here.
     std::panic::set_hook(Box::new(|_| {}));
     let shares = std::thread::available_parallelism().map_or(2, |n| n.get()) as u64;
@@ -103,12 +110,12 @@ fn main() {
         ("areas of every length, builders, beacons", |s, e| made::areas(s, 2_000, e)),
         ("records written", |s, e| made::writers(s, 40, e)),
         ("maps and all hops", |s, e| made::maps(s, 40, e)),
-        ("lists of calls", |s, e| made::lists(s, 400_000, e)),
+        ("lists of calls", |s, e| made::lists(s, 1_000_000, e)),
         ("scanner and filters", |s, e| made::scans(s, 2_000_000, e)),
         ("headers, UUIDs, channels, Flags, instants", |s, e| made::small_things(s, e)),
         ("UTF-8", |s, e| made::strings(s, e)),
     ];
-    for (name, suite) in suites {
+    for (name, suite) in suites.into_iter().filter(|s| s.0.contains(&word)) {
         let before = RESULTS.load(Ordering::Relaxed);
         let started = Instant::now();
         std::thread::scope(|scope| {
@@ -144,7 +151,7 @@ fn main() {
         println!("{name}: {count} comparisons, {:.1} s", started.elapsed().as_secs_f64());
     }
     println!("by kind, with its refusals by number:");
-    for (kind, row) in KINDS.iter().zip(*TALLY.lock().unwrap()) {
+    for (kind, row) in KINDS.iter().zip(*TALLY.lock().unwrap()).filter(|k| k.1.iter().any(|n| *n > 0)) {
         let refused: Vec<String> = (1..10).filter(|n| row[*n] > 0).map(|n| format!("{n}: {}", row[n])).collect();
         println!("  {kind:?} {} {}", row.iter().sum::<u64>(), refused.join(", "));
     }

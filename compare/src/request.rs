@@ -81,15 +81,6 @@ impl Request {
         Request { kind, numbers: numbers.to_vec(), parts: parts.iter().map(|p| p.to_vec()).collect() }
     }
 
-    /// The number of results that are compared.
-    pub fn results(&self) -> u64 {
-        match self.kind {
-            Kind::Calls => (self.parts[1].len() / CALL) as u64,
-            Kind::Events => self.numbers[1],
-            _ => 1,
-        }
-    }
-
     /// Parts whose length is fixed: addresses and maps.
     fn fixed(&self, part: usize) -> bool {
         match self.kind {
