@@ -1,43 +1,224 @@
-//! Prints a sample of requests with rubble's answers. From each suite the first requests of each kind and refusal are taken.
+//! Prints requests for `crates/replay` with rubble's answers, a line for each: first the request, then its answer. From each suite the first
+//! requests that show a refusal, a type, a builder, a kind of record or a call's answer are taken.
 use compare::made::{self, Share};
-use compare::request::{Kind, Request, CALL, KINDS};
+use compare::ours::pattern;
+use compare::request::{Kind, Request, CALL};
 use compare::theirs;
 use std::collections::HashMap;
 
-/// How many requests of one kind with one refusal.
-const EACH: usize = 48;
+/// A line of the sample: what it shows, the request and the answer.
+struct Line {
+    shows: (u8, u8, u8),
+    request: String,
+    answer: String,
+}
 
-fn line(r: &Request, answer: &[u8]) -> String {
-    let digits = |octets: &[u8]| octets.iter().map(|b| format!("{b:02x}")).collect::<String>();
-    let mut text = format!("{:02x} {:x}", r.kind as u8, r.numbers.len());
-    for n in &r.numbers {
-        text += &format!(" {n:08x}");
-    }
-    text += &format!(" {:x}", r.parts.len());
-    for part in r.parts.iter().map(|p| &p[..]).chain([answer]) {
-        text += &format!(" {:04x}", part.len());
-        if !part.is_empty() {
-            text += " ";
-            text += &digits(part);
-        }
+/// Octets that a request may have, and octets of room that it may ask for.
+const MOST: usize = 300;
+const ROOM: usize = 64;
+
+fn asked(letter: char, parts: &[&[u8]]) -> String {
+    let mut text = String::from(letter);
+    for octet in parts.iter().flat_map(|p| p.iter()) {
+        text += &format!(" {octet:02X}");
     }
     text
 }
 
-/// What a request shows: its kind with the refusal, of a list of calls that of each call with the answer's kind, of a PDU its type.
-fn shows(r: &Request, answer: &[u8]) -> Vec<(Kind, u8, u8)> {
+fn octets(s: &[u8]) -> String {
+    s.iter().map(|b| format!(" {b:02x}")).collect()
+}
+
+fn address(random: bool, six: &[u8]) -> String {
+    format!(" {}{}", if random { "random" } else { "public" }, octets(six))
+}
+
+fn word(s: &[u8], at: usize) -> u32 {
+    u32::from_le_bytes(s[at..at + 4].try_into().unwrap())
+}
+
+fn rubble(r: &Request) -> Vec<u8> {
+    let mut out = Vec::new();
+    theirs::answer(r, &mut out);
+    out
+}
+
+/// A lent buffer as replay prints it: what was written, and FF where rubble's buffer kept what it held.
+fn lent(buffer: &[u8], written: usize) -> String {
+    assert_eq!(buffer[written..], pattern(buffer.len())[written..]);
+    octets(&buffer[..written]) + &octets(&vec![0xFF; buffer.len() - written])
+}
+
+fn line(letter: char, shows: (u8, u8), parts: &[&[u8]], answer: String) -> Vec<Line> {
+    if parts.iter().map(|p| p.len()).sum::<usize>() > MOST {
+        return Vec::new();
+    }
+    vec![Line { shows: (letter as u8, shows.0, shows.1), request: asked(letter, parts), answer: format!("{letter}{answer}") }]
+}
+
+fn decode(r: &Request) -> Vec<Line> {
+    let a = rubble(r);
+    // A header slice of under two octets comes without a payload.
+    let payload: &[u8] = if r.parts[0].len() < 2 { &[] } else { &r.parts[1] };
+    let parts: [&[u8]; 2] = [&r.parts[0], payload];
+    if a[0] != 0 {
+        return line('d', (a[0], 0), &parts, format!(" refused {}", a[0]));
+    }
+    let mut text = format!(" type {}{}", a[1], address(a[2] == 1, &a[3..9]));
+    if a[9] == 1 {
+        text += &format!(" to{}", address(a[10] == 1, &a[11..17]));
+    } else {
+        text += &format!(" records {}", a[19]);
+    }
+    if a[1] == 5 {
+        let n = |i: usize| word(&a, 20 + 4 * i);
+        text += &format!(" {:08x} {:06x} {} {} {} {} {}", n(0), n(1), n(2), n(3), n(5), n(6), n(7));
+        text += &format!("{} {}", octets(&a[52..57]), a[58]);
+    }
+    line('d', (0, a[1]), &parts, text)
+}
+
+/// The number and the position of an answer, and the buffer behind them.
+fn written(a: &[u8]) -> (u8, String) {
+    let to = word(a, 1) as usize;
+    match a[0] {
+        0 => (0, format!(" to {to}{}", lent(&a[17..], to))),
+        n => (n, format!(" refused {n}{}", lent(&a[17..], 0))),
+    }
+}
+
+fn write(r: &Request) -> Vec<Line> {
+    let n = &r.numbers;
+    let (start, len, space) = (n[3] as usize, n[4] as usize, n[6] as usize);
+    let data = match r.parts[0].get(start..).and_then(|rest| rest.get(..len)) {
+        Some(data) if n[5] == 0 && space <= ROOM => data,
+        _ => return Vec::new(),
+    };
+    let kind = n[0] as u8 + if n[1] == 1 { 16 } else { 0 };
+    let front = [kind, n[2] as u8, (n[2] >> 8) as u8, space as u8];
+    let s = [&front[..], data].concat();
+    let a = rubble(&Request::new(Kind::Write, &[n[0], n[1], n[2], 4, len as u64, 0, n[6]], &[&s]));
+    let (number, text) = written(&a);
+    line('w', (number, kind), &[&s], text)
+}
+
+fn build(r: &Request) -> Vec<Line> {
+    let a = rubble(r);
+    let ty = [0, 7, 2, 2, 4, 6][r.numbers[0].min(5) as usize];
+    let outcome = if a[0] == 0 { " accepted".to_string() } else { format!(" refused {}", a[0]) };
+    let header = u16::from_le_bytes([a[1], a[2]]);
+    let parts: [&[u8]; 3] = [&[ty, r.numbers[1] as u8], &r.parts[0], &r.parts[1]];
+    line('b', (a[0], ty), &parts, format!("{outcome} {header:04x}{}", octets(&a[3..40])))
+}
+
+fn map(r: &Request) -> Vec<Line> {
+    let a = rubble(r);
+    line('m', (0, 0), &[&r.parts[0]], format!(" {}{}", a[5], octets(&a[..5])))
+}
+
+/// Single hops, from the channels of a connection's first events.
+fn hops(r: &Request) -> Vec<Line> {
+    let hop = r.numbers[0] as u8;
+    let step = (hop % 32) as usize;
+    let a = rubble(&Request::new(Kind::Events, &[r.numbers[0], 3], &[&r.parts[0]]));
+    let mut lines = Vec::new();
+    for (k, event) in a.chunks_exact(2).enumerate() {
+        let from = [(k * step % 37) as u8, hop];
+        let text = match event[0] {
+            0 => format!(" {} {}", (k + 1) * step % 37, event[1]),
+            n => format!(" refused {n}"),
+        };
+        lines.extend(line('h', (event[0], step as u8), &[&r.parts[0], &from], text));
+    }
+    lines
+}
+
+fn beacon(r: &Request) -> Vec<Line> {
+    let made = rubble(&Request::new(Kind::Build, &[3, r.numbers[0]], &[&r.parts[0], &r.parts[1]]));
+    if made[0] != 0 || r.numbers[1] as usize > ROOM {
+        return Vec::new();
+    }
+    let a = rubble(r);
+    let header = u16::from_le_bytes([a[1], a[2]]);
+    let text = match a[0] {
+        0 => format!(" accepted {header:04x} on {} on {} on {}{}", a[3], a[4], a[5], lent(&a[6..], (header >> 8) as usize & 63)),
+        n => format!(" accepted refused {n}{}", lent(&a[6..], 0)),
+    };
+    let parts: [&[u8]; 4] = [&[r.numbers[0] as u8], &r.parts[0], &[r.numbers[1] as u8], &r.parts[1]];
+    line('k', (a[0], 0), &parts, text)
+}
+
+fn scan(r: &Request) -> Vec<Line> {
+    if r.numbers[0] == 1 || r.numbers[1] != 0 || r.parts[1].len() != 2 {
+        return Vec::new();
+    }
+    let a = rubble(r);
+    let text = match a[1] {
+        1 => address(a[2] == 1, &a[3..9]) + &octets(&r.parts[2][6..]),
+        _ => " nothing".to_string(),
+    };
+    line('c', (0, a[1]), &[&[r.numbers[2] as u8], &r.parts[1], &r.parts[2]], text)
+}
+
+/// A list of calls: a new device, and each call. A tick while connected is left out of rubble.
+fn calls(r: &Request) -> Vec<Line> {
+    let sizes = [r.numbers[1] as usize, r.numbers[2] as usize];
+    if sizes.iter().any(|s| *s > ROOM) {
+        return Vec::new();
+    }
+    let a = rubble(r);
+    let mut lines = line('n', (0, 0), &[&[r.numbers[0] as u8], &r.parts[0]], String::new());
+    for (c, a) in r.parts[1].chunks_exact(CALL).zip(a.chunks_exact(19 + sizes[0] + sizes[1])) {
+        let buffer = if c[2] == 1 { &a[19 + sizes[0]..] } else { &a[19..19 + sizes[0]] };
+        let room = [buffer.len() as u8];
+        let header = u16::from_le_bytes([a[5], a[6]]);
+        let part = c.get(14..14 + c[3] as usize).unwrap_or(&[]);
+        let answer = match (a[0], a[1]) {
+            (0, 1) => {
+                let n = (header >> 8) as usize & 63;
+                let kept = octets(&vec![0xFF; buffer.len() - n]);
+                format!(" {header:04x} on {} at {}{}{kept}", a[4], word(a, 7), octets(&buffer[..n]))
+            }
+            (0, 2) => format!(" listens on {}", a[4]),
+            (0, 3) => format!(" {header:04x} on {}", a[4]),
+            (0, 4) => format!(" {} at {} {:08x} {:06x}", a[4], word(a, 7), word(a, 11), word(a, 15)),
+            (0, 5) => format!(" {}", a[4]),
+            (0, _) => " stopped".to_string(),
+            (n, _) if c[0] < 2 => format!(" refused {n}{}", octets(&vec![0xFF; buffer.len()])),
+            (n, _) => format!(" refused {n}"),
+        };
+        let shows = (a[0], a[1]);
+        lines.extend(match c[0] {
+            0 => line('s', shows, &[&c[4..12], &room, part], answer),
+            1 => line('t', shows, &[&room], answer),
+            2 => line('p', shows, &[&c[4..8], &c[1..2], &c[12..14], part], answer),
+            3 => line('e', shows, &[], answer),
+            _ => line('x', shows, &[], answer),
+        });
+    }
+    lines
+}
+
+fn lines(r: &Request) -> Vec<Line> {
     match r.kind {
-        Kind::Calls => {
-            let size = 19 + (r.numbers[1] + r.numbers[2]) as usize;
-            let kinds = r.parts[1].chunks_exact(CALL).map(|c| c[0]);
-            answer.chunks_exact(size).zip(kinds).map(|(a, call)| (r.kind, a[0] * 8 + a[1], call)).collect()
+        Kind::Decode => decode(r),
+        Kind::Area => {
+            let a = rubble(r);
+            let text = if a[0] == 0 { format!(" {}", word(&a, 1)) } else { format!(" refused {}", a[0]) };
+            line('a', (a[0], 0), &[&r.parts[0]], text)
         }
-        Kind::Decode if answer[0] == 0 => vec![(r.kind, 0, answer[1])],
-        Kind::Write => vec![(r.kind, answer[0], r.numbers[0] as u8)],
-        Kind::Build => vec![(r.kind, answer[0], r.numbers[0] as u8)],
-        Kind::Records | Kind::Known => vec![(r.kind, answer[0], answer[1])],
-        Kind::Uuid16 | Kind::Uuid32 | Kind::Later | Kind::Since | Kind::Map | Kind::Flags => vec![(r.kind, 0, 0)],
-        _ => vec![(r.kind, answer[0], 0)],
+        Kind::Rewrite if r.numbers[0] as usize <= ROOM => {
+            let (number, text) = written(&rubble(r));
+            line('r', (number, 0), &[&[r.numbers[0] as u8], &r.parts[0]], text)
+        }
+        Kind::Write => write(r),
+        Kind::Build => build(r),
+        Kind::Map => map(r),
+        Kind::Events => hops(r),
+        Kind::Beacon => beacon(r),
+        Kind::Scan => scan(r),
+        Kind::Calls => calls(r),
+        _ => Vec::new(),
     }
 }
 
@@ -45,47 +226,30 @@ fn main() {
     std::panic::set_hook(Box::new(|_| {}));
     let seed = std::env::args().nth(1).map_or(1, |text| text.parse().expect("a seed is a number"));
     let share = Share { mine: 0, shares: 1, seed };
-    let mut seen: HashMap<(Kind, u8, u8), usize> = HashMap::new();
-    let mut lines: Vec<(Kind, String)> = Vec::new();
+    let mut seen: HashMap<(u8, u8, u8), usize> = HashMap::new();
+    let mut count = 0;
+    // All the lines of a request, where one of them shows something that few did before.
     let mut each = |r: &Request, limit: usize| {
-        if r.parts.iter().any(|p| p.len() > 1000) {
-            return;
-        }
-        let mut answer = Vec::new();
-        theirs::answer(r, &mut answer);
-        let shows = shows(r, &answer);
-        if shows.iter().any(|s| *seen.get(s).unwrap_or(&0) < limit) {
-            for s in shows {
-                *seen.entry(s).or_default() += 1;
+        let found = lines(r);
+        if found.iter().any(|l| l.shows.0 != b'n' && *seen.get(&l.shows).unwrap_or(&0) < limit) {
+            for l in found {
+                *seen.entry(l.shows).or_default() += 1;
+                println!("{}\n{}", l.request, l.answer);
+                count += 1;
             }
-            lines.push((r.kind, line(r, &answer)));
         }
     };
-    made::packets(&share, 60_000, &mut |r| each(r, EACH));
+    made::packets(&share, 60_000, &mut |r| each(r, 24));
     made::areas(&share, 30, &mut |r| each(r, 24));
-    made::writers(&share, 2, &mut |r| each(r, 16));
-    made::scans(&share, 2_000, &mut |r| each(r, EACH));
-    made::lists(&share, 8_000, &mut |r| each(r, 40));
-    // Of the suites that try all of a kind, every so many.
-    for mine in [0, 5, 37, 64, 96] {
-        made::small_things(&Share { mine, shares: 97, seed }, &mut |r| each(r, EACH));
-    }
+    made::writers(&share, 2, &mut |r| each(r, 6));
+    made::scans(&share, 2_000, &mut |r| each(r, 24));
+    made::lists(&share, 8_000, &mut |r| each(r, 24));
     let mut place = 0u64;
-    made::maps(&Share { mine: 0, shares: 1021, seed }, 40, &mut |r| {
+    made::maps(&Share { mine: 0, shares: 1021, seed }, 3, &mut |r| {
         place += 1;
         if place % 11 == 1 {
-            each(r, 2 * EACH)
+            each(r, 24)
         }
     });
-    made::strings(&Share { mine: 3, shares: 4099, seed }, &mut |r| each(r, EACH));
-    for (_, text) in &lines {
-        println!("{text}");
-    }
-    eprintln!("{} requests, seed {seed}", lines.len());
-    for kind in KINDS {
-        let count = lines.iter().filter(|l| l.0 == kind).count();
-        let numbers: std::collections::BTreeSet<u8> =
-            seen.keys().filter(|s| s.0 == kind).map(|s| if kind == Kind::Calls { s.1 / 8 } else { s.1 }).collect();
-        eprintln!("{kind:?}: {count}, first octets {numbers:?}");
-    }
+    eprintln!("{count} requests, seed {seed}");
 }
