@@ -13,9 +13,10 @@ struct Line {
     answer: String,
 }
 
-/// Octets that a request may have, and octets of room that it may ask for.
-const MOST: usize = 300;
+/// Octets that a request may have, and of room that it asks for: fewer than FF, which stands for ALL of it.
+const MOST: usize = 310;
 const ROOM: usize = 64;
+const ALL: usize = 320;
 
 fn asked(letter: char, parts: &[&[u8]]) -> String {
     let mut text = String::from(letter);
@@ -91,13 +92,14 @@ fn write(r: &Request) -> Vec<Line> {
     let n = &r.numbers;
     let (start, len, space) = (n[3] as usize, n[4] as usize, n[6] as usize);
     let data = match r.parts[0].get(start..).and_then(|rest| rest.get(..len)) {
-        Some(data) if n[5] == 0 && space <= ROOM => data,
+        Some(data) if n[5] == 0 && (space <= ROOM || space > 255) => data,
         _ => return Vec::new(),
     };
+    let space = if space > ROOM { ALL } else { space };
     let kind = n[0] as u8 + if n[1] == 1 { 16 } else { 0 };
-    let front = [kind, n[2] as u8, (n[2] >> 8) as u8, space as u8];
+    let front = [kind, n[2] as u8, (n[2] >> 8) as u8, space.min(255) as u8];
     let s = [&front[..], data].concat();
-    let a = rubble(&Request::new(Kind::Write, &[n[0], n[1], n[2], 4, len as u64, 0, n[6]], &[&s]));
+    let a = rubble(&Request::new(Kind::Write, &[n[0], n[1], n[2], 4, len as u64, 0, space as u64], &[&s]));
     let (number, text) = written(&a);
     line('w', (number, kind), &[&s], text)
 }
@@ -218,6 +220,18 @@ fn lines(r: &Request) -> Vec<Line> {
         Kind::Beacon => beacon(r),
         Kind::Scan => scan(r),
         Kind::Calls => calls(r),
+        Kind::SetHeader if r.parts[0].len() == 2 => {
+            let a = rubble(r);
+            let text = if a[0] == 0 { format!(" {:04x}", word(&a, 1)) } else { format!(" refused {}", a[0]) };
+            let set = [r.numbers[0] as u8, r.numbers[1] as u8, r.numbers[2] as u8];
+            line('g', (a[0], 0), &[&set, &r.parts[0]], text)
+        }
+        Kind::DataChannel => {
+            let a = rubble(r);
+            let freq = u16::from_le_bytes([a[4], a[5]]);
+            let text = if a[0] == 0 { format!(" {} {} {freq} {}", a[1], a[2], a[3]) } else { format!(" refused {}", a[0]) };
+            line('i', (a[0], 0), &[&[r.numbers[0] as u8]], text)
+        }
         _ => Vec::new(),
     }
 }
@@ -244,6 +258,9 @@ fn main() {
     made::writers(&share, 2, &mut |r| each(r, 6));
     made::scans(&share, 2_000, &mut |r| each(r, 24));
     made::lists(&share, 8_000, &mut |r| each(r, 24));
+    for mine in [0, 5, 37, 64, 96] {
+        made::small_things(&Share { mine, shares: 97, seed }, &mut |r| each(r, 48));
+    }
     let mut place = 0u64;
     made::maps(&Share { mine: 0, shares: 1021, seed }, 3, &mut |r| {
         place += 1;

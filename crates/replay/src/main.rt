@@ -2,9 +2,11 @@
 //
 //     a area                             an area: how many records, or why not
 //     r room, area                       an area rewritten into `room` octets of FF
-//     w kind, value 2, room, data        a record written at 0 of `room` octets of FF; kinds 1 to 9 in the order of `AdStructure`, 16 more for a complete list
+//     w kind, value 2, room, data        a record written at 0 of `room` octets of FF, of 320 where that is FF; kinds 1 to 9 in the order of `AdStructure`, 16 more for a complete list
 //     d header 2, payload                a PDU read
 //     b type, address 7, records         a PDU built; type 7 is a discoverable one. An address is its kind and six octets
+//     g TxAdd, RxAdd, length, header 2   a header set so
+//     i index                            a data channel: index, RF channel, frequency, start of whitening
 //     m octets 5                         a channel map
 //     h octets 5, unmapped, hop          a hop
 //     n address 7                        a new device, for the calls that follow
@@ -34,6 +36,8 @@ use channels::channel_map::ChannelMap;
 use channels::connection::Hop;
 use channels::connection::hop_channel;
 use channels::phy::AdvertisingChannel;
+use channels::phy::DataChannel;
+use channels::phy::Found;
 use libc::STDIN_FILENO;
 use libc::STDOUT_FILENO;
 use octets::bytes::ByteWriter;
@@ -322,7 +326,29 @@ fn build(s: &[u8]) {
     sent(p);
 }
 
+fn set_header(s: &[u8]) {
+    let header = header_in(s, 3)
+        .set_tx_add(octet(s, 0) == 1)
+        .set_rx_add(octet(s, 1) == 1);
+    match header.set_payload_length(octet(s, 2)) {
+        HeaderMade::Header(h) => hex(h.to_u16() as u64, 4),
+        HeaderMade::Refused(e) => refused(e),
+    }
+}
+
 // Channels
+
+fn data_channel(s: &[u8]) {
+    match DataChannel::new(octet(s, 0)) {
+        Found::Channel(channel) => {
+            number(channel.index() as u64);
+            number(channel.rf_channel() as u64);
+            number(channel.freq() as u64);
+            number(channel.whitening_iv() as u64);
+        }
+        Found::Refused(e) => refused(e),
+    }
+}
 
 fn map(s: &[u8]) {
     let m = map_in(s);
@@ -459,7 +485,9 @@ fn ask(letter: u8, s: &[u8]) {
         98 => build(s),
         99 => scan(s),
         100 => decode(s),
+        103 => set_header(s),
         104 => hop(s),
+        105 => data_channel(s),
         109 => map(s),
         _ => text(b" no request"),
     }
@@ -583,9 +611,12 @@ fn read_octets(out: &mut [u8]) -> usize
     n
 }
 
-// A request with a buffer of the room that it says, of at most 64 octets.
+// A request with a buffer of the room that it says; FF is all of it.
 fn lend(d: Device, letter: u8, s: &[u8], out: &mut [u8]) -> Device {
     let room = octet(s, room_at(letter)) as usize;
+    if room == 255 {
+        return take(d, letter, s, out);
+    }
     if room < out.len() {
         return take(d, letter, s, &mut out[..room]);
     }
@@ -594,7 +625,7 @@ fn lend(d: Device, letter: u8, s: &[u8], out: &mut [u8]) -> Device {
 
 // Answers a request, and hands the device on.
 fn serve(d: Device, letter: u8, s: &[u8]) -> Device {
-    let mut out = [0xFFu8; 64];
+    let mut out = [0xFFu8; 320];
     text(&[letter]);
     let after = lend(d, letter, s, &mut out);
     text(b"\n");

@@ -16,6 +16,9 @@ lend-spec =
     (λ c κs. search needs)
     (λ c κs. search needs)
     (λ c. search needs)
+    (λ c κs. search needs)
+    (λ c. search needs)
+    (λ c. search needs)
     (λ c. search needs)
     slice-aggregate-take
     (λ c κs. search needs)
