@@ -15,7 +15,7 @@
 --   senderOf h p, receiverOf h p   == the first and the second address
 --   hasReceiver ty            == a type with a second address
 --   dataIn d p                == the part of a payload where records lie
---   isAccepted o              == an outcome that is no refusal
+--   isAccepted o              == an outcome that is no refusal; outcomeNumber o: its number in document 01, 0 where it is none
 --   decodedAs o ty s r d l    == an answer, with all that it says
 --   refusedPdu e              == the refusal e, with an empty PDU
 --   undirected, directed, connectRequest   == the answer by type, once the length agrees
@@ -28,6 +28,7 @@ use lib.Dec.{eqb, ltb}
 use lib.ListN.{length, getD, take, drop}
 use Rattle.channels.specs.Map.{fromRaw}
 use Rattle.octets.specs.Bytes.{has, part, le}
+use Rattle.octets.specs.Error.{numberOf}
 use Rattle.octets.specs.Time.{later}
 use Rattle.octets.specs.declared.error.Error.{Error}
 use Rattle.octets.specs.declared.error.Error.the-variants.{Eof, InvalidLength, InvalidValue}
@@ -142,6 +143,10 @@ dataIn d p = cond (has (d .len) p (d .start)) (part (d .len) p (d .start)) []
 abbrev pub isAccepted : Outcome → Bool
 isAccepted Accepted = true
 isAccepted (Refused e) = false
+
+abbrev pub outcomeNumber : Outcome → ℕ
+outcomeNumber Accepted = 0
+outcomeNumber (Refused e) = numberOf e
 
 abbrev pub decodedAs : Outcome → PduType → DeviceAddress → DeviceAddress → AdvData → ConnectRequestData → Decoded
 decodedAs outcome ty sender receiver records lldata =

@@ -5,7 +5,7 @@ ghost use lib.ListN.{length};
 ghost use Rattle.octets.specs.Bytes.{part, le, u16Read};
 ghost use Rattle.addresses.specs.Header.{headerRead};
 ghost use Rattle.addresses.specs.Address.{kindOf, addressOf};
-ghost use Rattle.advertising.specs.Pdu.{accuracyOf, requestOf, noRequest, noAddress, noData, windowEnd, hasReceiver, dataIn, decodedAs, refusedPdu, undirected, directed, connectRequest, decodeOf, decodedAt};
+ghost use Rattle.advertising.specs.Pdu.{accuracyOf, requestOf, noRequest, noAddress, noData, windowEnd, hasReceiver, dataIn, outcomeNumber, decodedAs, refusedPdu, undirected, directed, connectRequest, decodeOf, decodedAt};
 use addresses::device_address::AddressKind;
 use addresses::device_address::DeviceAddress;
 use addresses::header::Header;
@@ -63,6 +63,18 @@ pub enum Outcome {
     Refused(Error),
 }
 
+impl Outcome {
+    // The refusal's number (document 01), 0 where there is none.
+    pub fn number(self) -> u8
+        ensures { λ r. ⌜ r ≡ outcomeNumber self ⌝ }
+    {
+        match self {
+            Outcome::Accepted => 0,
+            Outcome::Refused(e) => e.number(),
+        }
+    }
+}
+
 // What reading a PDU finds. Where it is refused, the PDU is empty and has no meaning.
 pub struct Decoded {
     pub outcome: Outcome,
@@ -77,15 +89,14 @@ impl Pdu {
         if header.payload_length() as usize != payload.len() {
             return refused(Error::InvalidLength);
         }
-        match header.type_() {
-            PduType::AdvInd => read_undirected(PduType::AdvInd, header, payload),
-            PduType::AdvDirectInd => read_directed(PduType::AdvDirectInd, header, payload),
-            PduType::AdvNonconnInd => read_undirected(PduType::AdvNonconnInd, header, payload),
-            PduType::AdvScanInd => read_undirected(PduType::AdvScanInd, header, payload),
-            PduType::ScanReq => read_directed(PduType::ScanReq, header, payload),
-            PduType::ScanRsp => read_undirected(PduType::ScanRsp, header, payload),
+        let ty = header.type_();
+        if ty.allows_adv_data() {
+            return read_undirected(ty, header, payload);
+        }
+        match ty {
             PduType::ConnectReq => read_connect_request(header, payload),
             PduType::Unknown(_) => refused(Error::InvalidValue),
+            _ => read_directed(ty, header, payload),
         }
     }
 

@@ -13,7 +13,7 @@
 --   ofDecoded c d               == what is reported of a decoded packet, by its outcome alone
 --   heardOf c h p crcOk         == what is reported by all checks save the filter
 --   scanned s h p crcOk list    == what `process_adv_packet` answers
---   reportNumber r              == document 01's number of a report, 0 where it is no refusal
+--   reportNumber r              == document 01's number of a report, 0 where it is no refusal; isReport r: a beacon is reported
 use mathlib.Core.Bool.{Bool, true, false, cond, _&&_}
 use mathlib.Core.List.{List}
 use Prim.Native.Nat.{ℕ}
@@ -104,3 +104,8 @@ abbrev pub reportNumber : Report → ℕ
 reportNumber report.Beacon = 0
 reportNumber report.Nothing = 0
 reportNumber (report.Refused e) = numberOf e
+
+abbrev pub isReport : Report → Bool
+isReport report.Beacon = true
+isReport report.Nothing = false
+isReport (report.Refused e) = false

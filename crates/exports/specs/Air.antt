@@ -18,15 +18,13 @@ use Rattle.addresses.specs.declared.header.HeaderMade.the-variants as made
 use Rattle.advertising.specs.PduBuf.{payloadAfter}
 use Rattle.advertising.specs.declared.pdu.Outcome.{Outcome}
 use Rattle.advertising.specs.declared.pdu.Outcome.the-variants as outcome
-use Rattle.beacon.specs.Scanner.{scannerOf, configured, timerUpdated, scanned}
+use Rattle.beacon.specs.Scanner.{scannerOf, configured, timerUpdated, scanned, reportNumber, isReport}
 use Rattle.beacon.specs.Sending.{broadcastOf}
 use Rattle.beacon.specs.declared.beacon.Beacon.{Beacon}
 use Rattle.beacon.specs.declared.beacon.BeaconScanner.{BeaconScanner}
 use Rattle.beacon.specs.declared.beacon.Broadcast.{Broadcast}
 use Rattle.beacon.specs.declared.beacon.Broadcast.the-variants as broadcast
 use Rattle.beacon.specs.declared.beacon.Made.{Made}
-use Rattle.beacon.specs.declared.beacon.Report.{Report}
-use Rattle.beacon.specs.declared.beacon.Report.the-variants as report
 use Rattle.beacon.specs.declared.beacon.Scanned.{Scanned}
 use Rattle.beacon.specs.declared.beacon.Updated.{Updated}
 use Rattle.exports.specs.Got.{found}
@@ -78,16 +76,6 @@ scannerAfter filtered t interval n = updatedTimes n (at t) (configured (scannerO
 
 abbrev pub updatedGot : Updated → Got
 updatedGot u = found (indexOf (u .cmd .channel)) (u .cmd .«next_update» .0)
-
-abbrev pub reportNumber : Report → ℕ
-reportNumber report.Beacon = 0
-reportNumber report.Nothing = 0
-reportNumber (report.Refused e) = numberOf e
-
-abbrev pub isReport : Report → Bool
-isReport report.Beacon = true
-isReport report.Nothing = false
-isReport (report.Refused e) = false
 
 abbrev pub heardOf : Scanned → Heard
 heardOf s =

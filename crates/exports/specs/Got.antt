@@ -4,8 +4,6 @@ use Rattle.octets.specs.Error.{numberOf}
 use Rattle.octets.specs.declared.bytes.Written.{Written}
 use Rattle.octets.specs.declared.bytes.Written.the-variants as written
 use Rattle.octets.specs.declared.error.Error.{Error}
-use Rattle.advertising.specs.declared.pdu.Outcome.{Outcome}
-use Rattle.advertising.specs.declared.pdu.Outcome.the-variants as outcome
 use Rattle.exports.specs.declared.got.Got.{Got}
 
 abbrev pub found : ℕ → ℕ → Got
@@ -13,10 +11,6 @@ found a b = record { number = 0; first = a; second = b }
 
 abbrev pub refusedAs : Error → Got
 refusedAs e = record { number = numberOf e; first = 0; second = 0 }
-
-abbrev pub outcomeNumber : Outcome → ℕ
-outcomeNumber outcome.Accepted = 0
-outcomeNumber (outcome.Refused e) = numberOf e
 
 abbrev pub writtenGot : Written → Got
 writtenGot (written.To next) = found (next .at) 0

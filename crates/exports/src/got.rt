@@ -1,8 +1,7 @@
 // Answers that are up to two numbers.
 ghost use mathlib.Core.Bool.{cond};
 ghost use mathlib.Core.Path.{_≡_};
-ghost use Rattle.exports.specs.Got.{found, refusedAs, outcomeNumber, writtenGot};
-use advertising::pdu::Outcome;
+ghost use Rattle.exports.specs.Got.{found, refusedAs, writtenGot};
 use octets::bytes::Written;
 use octets::error::Error;
 
@@ -37,15 +36,6 @@ pub(crate) fn flag(is: bool) -> usize
     ensures { λ r. ⌜ r ≡ cond is 1 0 ⌝ }
 {
     if is { 1 } else { 0 }
-}
-
-pub(crate) fn outcome_number(outcome: Outcome) -> u8
-    ensures { λ r. ⌜ r ≡ outcomeNumber outcome ⌝ }
-{
-    match outcome {
-        Outcome::Accepted => 0,
-        Outcome::Refused(e) => e.number(),
-    }
 }
 
 pub(crate) fn written(w: Written) -> Got

@@ -13,12 +13,12 @@ use Rattle.addresses.specs.declared.device_address.DeviceAddress.{DeviceAddress
 use Rattle.addresses.specs.declared.header.Header.{Header}
 use Rattle.addresses.specs.declared.header.PduType.the-variants.{AdvNonconnInd}
 use Rattle.beacon.proofs.Reports.{holds-decoded, reports}
-use Rattle.beacon.specs.Scanner.{scanned}
+use Rattle.beacon.specs.Scanner.{scanned, isReport}
 use Rattle.beacon.specs.declared.beacon.BeaconScanner.{BeaconScanner}
 use Rattle.beacon.specs.declared.beacon.Report.{Report}
 use Rattle.beacon.specs.declared.beacon.Report.the-variants as report
 use Rattle.beacon.specs.declared.beacon.Scanned.{Scanned}
-use Rattle.hub.specs.Line.{lineSize, roomFor, isReport, line, reportsIn}
+use Rattle.hub.specs.Line.{lineSize, roomFor, line, reportsIn}
 use Rattle.hub.specs.Log.{heardIn}
 use Rattle.hub.proofs.Pieces.{line-length}
 

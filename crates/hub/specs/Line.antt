@@ -4,28 +4,21 @@
 --     last line    | items 6       | reports 6 | flag 2             | 0A |
 --
 --   reportLine number sender records    == a report's line
---   isReport r                          == a report of a beacon
 --   line number s                       == the line of what a scanner answers, or none
 --   reportsIn s                         == how many reports that is
 --   lineSize, lastSize, roomFor n       == octets of a report's line, of the last line, and of the lines of n octets of items
 use Prim.Native.Nat.{ℕ, _*_}
-use mathlib.Core.Bool.{Bool, true, false, cond}
+use mathlib.Core.Bool.{cond}
 use mathlib.Core.List.{List, [], _∷_, _++_, map, flatten}
 use Rattle.addresses.specs.Address.{kindNumber}
 use Rattle.addresses.specs.declared.device_address.DeviceAddress.{DeviceAddress}
-use Rattle.beacon.specs.declared.beacon.Report.{Report}
-use Rattle.beacon.specs.declared.beacon.Report.the-variants as report
+use Rattle.beacon.specs.Scanner.{isReport}
 use Rattle.beacon.specs.declared.beacon.Scanned.{Scanned}
 use Rattle.columns.specs.Column.{column}
 
 unfoldable pub reportLine : ℕ → DeviceAddress → ℕ → List ℕ
 reportLine number sender records =
     column 6 number ++ (column 2 (kindNumber (sender .kind)) ++ (flatten (map (column 4) (sender .bytes)) ++ (column 3 records ++ (10 ∷ []))))
-
-abbrev pub isReport : Report → Bool
-isReport report.Beacon = true
-isReport report.Nothing = false
-isReport (report.Refused e) = false
 
 unfoldable pub line : ℕ → Scanned → List ℕ
 line number s = cond (isReport (s .report)) (reportLine number (s .sender) (s .«adv_data» .count)) []

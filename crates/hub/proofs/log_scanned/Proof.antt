@@ -9,7 +9,8 @@ use Rattle.octets.specs.Bytes.{written}
 use Rattle.beacon.specs.declared.beacon.Report.{Report}
 use Rattle.beacon.specs.declared.beacon.Report.the-variants as report
 use Rattle.beacon.specs.declared.beacon.Scanned.{Scanned}
-use Rattle.hub.specs.Line.{isReport, reportLine, line, reportsIn}
+use Rattle.beacon.specs.Scanner.{isReport}
+use Rattle.hub.specs.Line.{reportLine, line, reportsIn}
 use Rattle.hub.proofs.Pieces.{nothing-yet}
 use Rattle.hub.proofs.log_scanned.Statement.{statement}
 use Rattle.hub.proofs.log_scanned.Tie as tie

@@ -1,9 +1,18 @@
--- `Pdu::from_header_and_payload` meets its contract: the length is tested, then each type has its arm. Assumes nothing.
-use mathlib.Core.Path.{_≡_, _∙_}
+-- `Pdu::from_header_and_payload` meets its contract: the length is tested, then the type. Assumes nothing.
+use mathlib.Core.Bool.{Bool, true, false}
+use mathlib.Core.List.{List, [], _∷_}
+use types.Run.{OneOf, miss}
+use denote.Enum.Declared.{tagOf}
+use Rattle.addresses.proofs.header.PduType.{the-type}
+use mathlib.Core.Path.{_≡_, refl, sym, _∙_}
+use Prim.Native.Nat.{ℕ}
 use borrow.Author.Tests.{eq-eqb, ne-eqb}
 use borrow.Author.Needs.{needs}
-use Rattle.advertising.specs.Pdu.{byType, decodeOf}
+use Rattle.advertising.specs.Pdu.{byType, undirected, directed, decodeOf}
+use Rattle.addresses.specs.Header.{allowsAdvData}
+use Rattle.addresses.specs.declared.header.Header.{Header}
 use Rattle.addresses.specs.declared.header.PduType.{PduType}
+use Rattle.addresses.specs.declared.header.PduType.the-variants.{AdvInd, AdvDirectInd, AdvNonconnInd, AdvScanInd, ScanReq, ScanRsp, ConnectReq, Unknown}
 use Rattle.advertising.proofs.pdu.Pdu.from_header_and_payload.Statement.{statement}
 use Rattle.advertising.proofs.pdu.Pdu.from_header_and_payload.Tie as tie
 
@@ -18,37 +27,46 @@ arm : (c : tie.After-type-) (ty : PduType) → c .type- .result ≡ ty
 unfolding decodeOf
 arm c ty is = rw (← c .before .before .payload-length .ensures, eq-eqb _ _ (c .before .if1 .left), ← c .type- .ensures, is)
 
-returns-2 : tie.Need-returns-2
+with-records : (ty : PduType) (h : Header) (p : List ℕ) → allowsAdvData ty ≡ true → undirected ty h p ≡ byType ty h p
 unfolding byType
-returns-2 c = c .read-undirected .ensures ∙ arm (c .before .before .before) _ (c .before .enum-told .given .1)
+with-records AdvInd h p is = refl
+with-records AdvNonconnInd h p is = refl
+with-records AdvScanInd h p is = refl
+with-records ScanRsp h p is = refl
+with-records AdvDirectInd h p is = (cc)
+with-records ScanReq h p is = (cc)
+with-records ConnectReq h p is = (cc)
+with-records (Unknown n) h p is = (cc)
+
+without-records : (ty : PduType) (h : Header) (p : List ℕ) → OneOf (0 ∷ 1 ∷ 2 ∷ 3 ∷ 4 ∷ 5 ∷ []) (tagOf the-type ty) → allowsAdvData ty ≡ false → directed ty h p ≡ byType ty h p
+unfolding byType
+without-records AdvDirectInd h p one is = refl
+without-records ScanReq h p one is = refl
+without-records AdvInd h p one is = (cc)
+without-records AdvNonconnInd h p one is = (cc)
+without-records AdvScanInd h p one is = (cc)
+without-records ScanRsp h p one is = (cc)
+without-records ConnectReq h p one is = absurd (miss (0 ∷ 1 ∷ 2 ∷ 3 ∷ 4 ∷ 5 ∷ []) 6 tt one)
+without-records (Unknown n) h p one is = absurd (miss (0 ∷ 1 ∷ 2 ∷ 3 ∷ 4 ∷ 5 ∷ []) 7 tt one)
+
+returns-2 : tie.Need-returns-2
+returns-2 c =
+    c .read-undirected .ensures ∙ with-records _ _ _ (sym (c .before .before .allows-adv-data .ensures) ∙ c .before .if2 .taken)
+    ∙ arm (c .before .before .before) _ refl
 
 returns-3 : tie.Need-returns-3
 unfolding byType
-returns-3 c = c .read-directed .ensures ∙ arm (c .before .before .before) _ (c .before .enum-told2 .given .1)
+returns-3 c = c .read-connect-request .ensures ∙ arm (c .before .before .before .before .before) _ (c .before .enum-told .given .1)
 
 returns-4 : tie.Need-returns-4
 unfolding byType
-returns-4 c = c .read-undirected2 .ensures ∙ arm (c .before .before .before) _ (c .before .enum-told3 .given .1)
+returns-4 c = c .refused2 .ensures ∙ arm (c .before .before .before .before .before) _ (c .before .enum-told2 .given .1)
 
 returns-5 : tie.Need-returns-5
-unfolding byType
-returns-5 c = c .read-undirected3 .ensures ∙ arm (c .before .before .before) _ (c .before .enum-told4 .given .1)
-
-returns-6 : tie.Need-returns-6
-unfolding byType
-returns-6 c = c .read-directed2 .ensures ∙ arm (c .before .before .before) _ (c .before .enum-told5 .given .1)
-
-returns-7 : tie.Need-returns-7
-unfolding byType
-returns-7 c = c .read-undirected4 .ensures ∙ arm (c .before .before .before) _ (c .before .enum-told6 .given .1)
-
-returns-8 : tie.Need-returns-8
-unfolding byType
-returns-8 c = c .read-connect-request .ensures ∙ arm (c .before .before .before) _ (c .before .enum-told7 .given .1)
-
-returns-9 : tie.Need-returns-9
-unfolding byType
-returns-9 c = c .refused2 .ensures ∙ arm (c .before .before .before) _ (c .before .enum-told8 .given .1)
+returns-5 c =
+    c .read-directed .ensures
+    ∙ without-records _ _ _ (c .before .match .keys3) (sym (c .before .before .before .allows-adv-data .ensures) ∙ c .before .before .if2 .left)
+    ∙ arm (c .before .before .before .before) _ refl
 
 pub from-header-and-payload-spec : {M : Type 1} → statement M
 from-header-and-payload-spec =
@@ -59,27 +77,14 @@ from-header-and-payload-spec =
     (λ c κs. search needs)
     returns
     (λ c κs. search needs)
-    (λ c. search needs)
     (λ c κs. search needs)
-    (λ c. search needs)
-    (λ c κs. search needs)
-    (λ c. search needs)
-    (λ c κs. search needs)
-    (λ c. search needs)
-    (λ c κs. search needs)
-    (λ c. search needs)
-    (λ c κs. search needs)
-    (λ c. search needs)
-    (λ c κs. search needs)
-    (λ c. search needs)
-    (λ c κs. search needs)
-    (λ c. search needs)
     (λ c κs. search needs)
     returns-2
+    (λ c. search needs)
+    (λ c κs. search needs)
+    (λ c. search needs)
+    (λ c κs. search needs)
+    (λ c κs. search needs)
     returns-3
     returns-4
-    returns-5
-    returns-6
-    returns-7
-    returns-8
-    returns-9)
+    returns-5)

@@ -1,7 +1,8 @@
-use Rattle.exports.specs.Packets.{packetOf}
+-- `no_packet` meets its contract: the empty PDU's fields, and the refusal's number. Assumes nothing.
+use Rattle.decode.specs.Packet.{packetOf}
 use borrow.Author.Needs.{needs}
-use Rattle.exports.proofs.packets.no_packet.Statement.{statement}
-use Rattle.exports.proofs.packets.no_packet.Tie as tie
+use Rattle.decode.proofs.packet.no_packet.Statement.{statement}
+use Rattle.decode.proofs.packet.no_packet.Tie as tie
 
 returns : tie.Need-returns
 unfolding packetOf

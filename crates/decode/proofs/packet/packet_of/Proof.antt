@@ -1,0 +1,62 @@
+-- `packet_of` meets its contract: each field is what its accessor ensures. Assumes nothing.
+use mathlib.Core.Path.{ap, _∙_}
+use Rattle.channels.specs.declared.channel_map.ChannelMap.{ChannelMap}
+use Rattle.decode.specs.Packet.{accuracyNumber, packetOf}
+use borrow.Author.Needs.{needs}
+use Rattle.decode.proofs.packet.packet_of.Statement.{statement}
+use Rattle.decode.proofs.packet.packet_of.Tie as tie
+
+returns : tie.Need-returns
+unfolding packetOf
+returns c =
+    λ i. record {
+      number = c .before .before .before .before .before .before .before .before .before .before .before .before .before .before .before .before .number .ensures i;
+      ty = c .before .before .before .before .before .before .before .before .before .before .before .before .before .before .before .to-u8 .ensures i;
+      «sender_random» = c .before .before .before .before .before .before .before .before .before .before .before .before .before .before .is-random .ensures i;
+      sender = c .before .before .before .before .before .before .before .before .before .before .before .before .before .before .before .before .before .before .before .raw .ensures i;
+      «has_receiver» = c .before .before .before .before .before .before .before .before .before .before .before .before .before .has-receiver .ensures i;
+      «receiver_random» = c .before .before .before .before .before .before .before .before .before .before .before .before .is-random2 .ensures i;
+      receiver = c .before .before .before .before .before .before .before .before .before .before .before .before .before .before .before .before .before .before .raw2 .ensures i;
+      start = c .before .before .before .before .before .before .before .before .before .before .before .before .before .before .before .before .before .before .before .before .before .before .before .before .before .before .args .decoded .pdu .«adv_data» .start;
+      len = c .before .before .before .before .before .before .before .before .before .before .before .before .before .before .before .before .before .before .before .before .before .before .before .before .before .before .args .decoded .pdu .«adv_data» .len;
+      count = c .before .before .before .before .before .before .before .before .before .before .before .before .before .before .before .before .before .before .before .before .before .before .before .before .before .before .args .decoded .pdu .«adv_data» .count;
+      «access_address» = c .before .before .before .before .before .before .before .before .before .before .before .access-address .ensures i;
+      «crc_init» = c .before .before .before .before .before .before .before .before .before .before .crc-init .ensures i;
+      «win_size» = c .before .before .before .before .before .before .before .before .before .win-size .ensures i;
+      «win_offset» = c .before .before .before .before .before .before .before .before .win-offset .ensures i;
+      «window_end» = c .before .before .before .before .before .before .before .end-of-tx-window .ensures i;
+      interval = c .before .before .before .before .before .before .interval .ensures i;
+      latency = c .before .before .before .before .before .slave-latency .ensures i;
+      timeout = c .before .before .before .before .supervision-timeout .ensures i;
+      map = (c .before .before .before .before .before .before .before .before .before .before .before .before .before .before .before .before .before .to-raw .ensures ∙ ap (λ (m : ChannelMap). m .raw) (c .before .before .before .before .before .before .before .before .before .before .before .before .before .before .before .before .before .before .before .before .channel-map .ensures)) i;
+      «map_count» = (c .before .before .before .num-used-channels .ensures ∙ ap (λ (m : ChannelMap). m .«num_used_channels») (c .before .before .before .before .before .before .before .before .before .before .before .before .before .before .before .before .before .before .before .before .channel-map .ensures)) i;
+      hop = c .before .before .hop .ensures i;
+      sca = (c .accuracy-number .ensures ∙ ap accuracyNumber (c .before .sca .ensures)) i;
+    }
+
+pub packet-of-spec : {M : Type 1} → statement M
+packet-of-spec =
+    tie.close
+    (tie.spec
+    (λ c κs. search needs)
+    (λ c κs. search needs)
+    (λ c κs. search needs)
+    (λ c κs. search needs)
+    (λ c κs. search needs)
+    (λ c κs. search needs)
+    (λ c κs. search needs)
+    (λ c κs. search needs)
+    (λ c κs. search needs)
+    (λ c κs. search needs)
+    (λ c κs. search needs)
+    (λ c κs. search needs)
+    (λ c κs. search needs)
+    (λ c κs. search needs)
+    (λ c κs. search needs)
+    (λ c κs. search needs)
+    (λ c κs. search needs)
+    (λ c κs. search needs)
+    (λ c κs. search needs)
+    (λ c κs. search needs)
+    (λ c κs. search needs)
+    returns)

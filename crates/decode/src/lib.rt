@@ -1,0 +1,3 @@
+// One function for compare/ to link: a header and a payload are read, and the answer is a struct of numbers. It stands apart from `exports`, so
+// that the decoder has one caller in what is timed, as on a board.
+pub mod packet;

@@ -1,0 +1,136 @@
+// A PDU read, as numbers.
+ghost use mathlib.Core.Path.{_≡_};
+ghost use Rattle.addresses.specs.Header.{parsed};
+ghost use Rattle.advertising.specs.Pdu.{refusedPdu};
+ghost use Rattle.decode.specs.Packet.{accuracyNumber, packetOf, decodedFrom};
+use addresses::header::Header;
+use addresses::header::HeaderMade;
+use advertising::pdu::Decoded;
+use advertising::pdu::Pdu;
+use advertising::pdu::SleepClockAccuracy;
+use channels::channel_map::ChannelMap;
+use octets::error::Error;
+
+// A PDU with all its fields.
+#[repr(C)]
+pub struct Packet {
+    pub number: u8,
+    pub ty: u8,
+    pub sender_random: bool,
+    pub sender: [u8; 6],
+    pub has_receiver: bool,
+    pub receiver_random: bool,
+    pub receiver: [u8; 6],
+    pub start: usize,
+    pub len: usize,
+    pub count: usize,
+    pub access_address: u32,
+    pub crc_init: u32,
+    pub win_size: u32,
+    pub win_offset: u32,
+    pub window_end: u32,
+    pub interval: u32,
+    pub latency: u16,
+    pub timeout: u32,
+    pub map: [u8; 5],
+    pub map_count: u8,
+    pub hop: u8,
+    pub sca: u8,
+}
+
+fn accuracy_number(sca: SleepClockAccuracy) -> u8
+    ensures { λ r. ⌜ r ≡ accuracyNumber sca ⌝ }
+{
+    match sca {
+        SleepClockAccuracy::Ppm251To500 => 0,
+        SleepClockAccuracy::Ppm151To250 => 1,
+        SleepClockAccuracy::Ppm101To150 => 2,
+        SleepClockAccuracy::Ppm76To100 => 3,
+        SleepClockAccuracy::Ppm51To75 => 4,
+        SleepClockAccuracy::Ppm31To50 => 5,
+        SleepClockAccuracy::Ppm21To30 => 6,
+        SleepClockAccuracy::Ppm0To20 => 7,
+    }
+}
+
+fn packet_of(decoded: Decoded) -> Packet
+    ensures { λ r. ⌜ r ≡ packetOf decoded ⌝ }
+{
+    let outcome = decoded.outcome;
+    let pdu = decoded.pdu;
+    let ty = pdu.ty;
+    let from = pdu.sender;
+    let to = pdu.receiver;
+    let place = pdu.adv_data;
+    let request = pdu.lldata;
+    let channels = request.channel_map();
+    let sender = from.raw();
+    let receiver = to.raw();
+    let map = channels.to_raw();
+    Packet {
+        number: outcome.number(),
+        ty: ty.to_u8(),
+        sender_random: from.is_random(),
+        sender,
+        has_receiver: pdu.has_receiver(),
+        receiver_random: to.is_random(),
+        receiver,
+        start: place.start,
+        len: place.len,
+        count: place.count,
+        access_address: request.access_address(),
+        crc_init: request.crc_init(),
+        win_size: request.win_size(),
+        win_offset: request.win_offset(),
+        window_end: request.end_of_tx_window(),
+        interval: request.interval(),
+        latency: request.slave_latency(),
+        timeout: request.supervision_timeout(),
+        map,
+        map_count: channels.num_used_channels(),
+        hop: request.hop(),
+        sca: accuracy_number(request.sca()),
+    }
+}
+
+fn no_packet(e: Error) -> Packet
+    ensures { λ r. ⌜ r ≡ packetOf (refusedPdu e) ⌝ }
+{
+    let channels = ChannelMap::from_raw([0, 0, 0, 0, 0]);
+    let map = channels.to_raw();
+    let map_count = channels.num_used_channels();
+    Packet {
+        number: e.number(),
+        ty: 15,
+        sender_random: false,
+        sender: [0, 0, 0, 0, 0, 0],
+        has_receiver: false,
+        receiver_random: false,
+        receiver: [0, 0, 0, 0, 0, 0],
+        start: 0,
+        len: 0,
+        count: 0,
+        access_address: 0,
+        crc_init: 0,
+        win_size: 0,
+        win_offset: 0,
+        window_end: 1250,
+        interval: 0,
+        latency: 0,
+        timeout: 0,
+        map,
+        map_count,
+        hop: 0,
+        sca: 0,
+    }
+}
+
+#[no_mangle]
+pub extern "C" fn board_decode(header: &[u8], payload: &[u8]) -> Packet
+    ensures { λ r. ⌜ r ≡ decodedFrom (parsed (now (header .entry))) (now (payload .entry)) ⌝ }
+{
+    match Header::parse(header) {
+        HeaderMade::Header(h) => packet_of(Pdu::from_header_and_payload(h, payload)),
+        HeaderMade::Refused(e) => no_packet(e),
+    }
+}
