@@ -1,4 +1,4 @@
-//! The translation's answers, from libexports.a.
+//! The translation's answers, from libexports.a and libdecode.a.
 use crate::request::{Kind, Request, CALL};
 
 // A slice crosses as a pointer and a length.
