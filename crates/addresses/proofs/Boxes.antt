@@ -19,7 +19,7 @@ six : {a b c d e f a' b' c' d' e' f' : ℕ} → a ≡ a' → b ≡ b' → c ≡ 
     → _≡_ {A = List ℕ} (a ∷ b ∷ c ∷ d ∷ e ∷ f ∷ []) (a' ∷ b' ∷ c' ∷ d' ∷ e' ∷ f' ∷ [])
 six a b c d e f = λ i. a i ∷ b i ∷ c i ∷ d i ∷ e i ∷ f i ∷ []
 
-bit-small : (v : Bool) → cond v 1 0 ≤ 1
+pub bit-small : (v : Bool) → cond v 1 0 ≤ 1
 bit-small true = omega arith
 bit-small false = omega arith
 

@@ -10,7 +10,7 @@ use lib.Dec.{eqb}
 use lib.ListN.{length, getD, set, take, length-append}
 use lib.Seq.{take-at, take-length}
 use borrow.Author.Tests.{lt-ltb, le-ltb}
-use Rattle.addresses.proofs.Boxes.{own-bits}
+use Rattle.addresses.proofs.Boxes.{bit-small, own-bits}
 use Rattle.addresses.specs.Address.{kindOf, isRandom, addressOf}
 use Rattle.addresses.specs.Header.{headerOf, typeCode, pduType, allowsAdvData, typeOf, txAdd, rxAdd, lengthOf, setTxAdd, setLength}
 use Rattle.addresses.specs.Laws.{boxes}
@@ -47,10 +47,6 @@ record Says (h : Header) (ty : PduType) (tx rx : Bool) (n : ℕ) : Type 0 where
 bit-back : (v : Bool) → eqb (cond v 1 0) 1 ≡ v
 bit-back true = refl
 bit-back false = refl
-
-bit-small : (v : Bool) → cond v 1 0 ≤ 1
-bit-small true = omega arith
-bit-small false = omega arith
 
 -- a code of four bits, whose type it is
 record Coded (ty : PduType) : Type 0 where

@@ -1,7 +1,7 @@
 // Advertising channel PDUs, built.
 ghost use mathlib.Core.Path.{_≡_};
 ghost use mathlib.Core.List.{[], _++_};
-ghost use Prim.Native.Nat.{_+_, _≤_, min};
+ghost use Prim.Native.Nat.{_+_, _≤_};
 ghost use lib.ListN.{length, take, drop};
 ghost use Rattle.octets.specs.Bytes.{outAfter};
 ghost use Rattle.records.specs.Area.{rewrittenTo, rewrittenAfter};
@@ -14,6 +14,7 @@ use addresses::header::HeaderMade;
 use addresses::header::PduType;
 use octets::bytes::ByteWriter;
 use octets::bytes::Written;
+use octets::bytes::least;
 use octets::error::Error;
 use records::ad_structure::Flags;
 use records::area::rewrite_area;
@@ -147,7 +148,7 @@ impl PduBuf {
     {
         let header = self.header;
         let payload = self.payload_buf;
-        let n = at_most_37(header.payload_length());
+        let n = least(header.payload_length() as usize, 37);
         ByteWriter::new().write_slice(out, &payload[..n])
     }
 }
@@ -212,10 +213,4 @@ fn no_pdu(e: Error) -> Built
         outcome: Outcome::Refused(e),
         pdu: PduBuf::empty(),
     }
-}
-
-fn at_most_37(n: u8) -> usize
-    ensures { λ r. ⌜ r ≡ min n 37 ⌝ }
-{
-    if n < 37 { n as usize } else { 37 }
 }

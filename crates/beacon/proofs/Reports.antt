@@ -30,7 +30,6 @@ use Rattle.advertising.specs.Laws.{Shaped, with-records, two-addresses, with-ll
 use Rattle.advertising.proofs.Accepting.{is-accepted}
 use Rattle.advertising.specs.Pdu.{dataIn, decodeOf}
 use Rattle.advertising.specs.declared.pdu.Decoded.{Decoded}
-use Rattle.advertising.specs.declared.pdu.Outcome.{Outcome}
 use Rattle.advertising.specs.declared.pdu.Outcome.the-variants as outcome
 use Rattle.advertising.specs.declared.pdu.Pdu.{Pdu}
 use Rattle.beacon.specs.Laws as laws

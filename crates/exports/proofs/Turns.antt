@@ -1,14 +1,14 @@
 -- A call's octets name a call, and turn after turn of a list gives `ran`. Assumes nothing.
-use mathlib.Core.Bool.{Bool, true, false}
+use mathlib.Core.Bool.{Bool, false}
 use mathlib.Core.List.{List}
-use mathlib.Core.Path.{_≡_, refl, sym, ap, _∙_}
+use mathlib.Core.Path.{_≡_, sym, ap, _∙_}
 use Prim.Native.Nat.{ℕ, _+_, _*_, _^_, _≤_, _<_}
 use native.Mathlib.Numerals.{add-one}
 use lib.Dec.{eqb}
 use lib.ListN.{length, getD}
 use Rattle.addresses.specs.declared.header.Header.{Header}
 use Rattle.radio.specs.Calls.{instant}
-use Rattle.radio.specs.Trace.{Call, start, tick, packet, event, stop}
+use Rattle.radio.specs.Trace.{start, tick, packet, event, stop}
 use Rattle.radio.specs.declared.link.Called.{Called}
 use Rattle.radio.specs.declared.link.Device.{Device}
 use Rattle.exports.specs.Lists.{partAt, timeIn, intervalIn, headerIn, octetsIn, callIn, State, state, calledBy, stepOf, ran}

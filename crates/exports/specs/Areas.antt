@@ -2,7 +2,7 @@
 --   structureIn kind complete value start len == the record of these numbers
 --   structureSaid a next, readSaid, parsedSaid, knownSaid == the numbers of a record, of what was read, and of that read on
 --   areaGot, uuidGot, flagsSaid == the numbers of an area, of a UUID in a list, and of an octet of Flags
-use mathlib.Core.Bool.{Bool, true, false, cond}
+use mathlib.Core.Bool.{Bool, false, cond}
 use mathlib.Core.List.{List}
 use Prim.Native.Nat.{ℕ, _%_}
 use lib.Dec.{eqb}

@@ -2,7 +2,7 @@
 --   after times               == the advertising channel after up to 3 cycles from the first
 --   advertisingChannel, dataChannel   == what there is to say of a channel
 --   usedGot, foundGot, hopGot == the answers of a map
-use mathlib.Core.Bool.{Bool, cond}
+use mathlib.Core.Bool.{cond}
 use Prim.Native.Nat.{ℕ}
 use lib.Dec.{eqb}
 use Rattle.octets.specs.Error.{numberOf}

@@ -6,7 +6,7 @@
 --   calledBy c s, stepOf c s  == what the call of octets c answers, and the state after it
 --   ranAll own calls a b      == the state after all calls on a fresh device
 --   answerSaid, calledSaid    == an answer as numbers, with the mode
-use mathlib.Core.Bool.{Bool, true, false, cond}
+use mathlib.Core.Bool.{Bool, cond}
 use mathlib.Core.List.{List, [], _∷_}
 use Prim.Native.Nat.{ℕ, zero, suc, _*_, _/_}
 use lib.Dec.{eqb}

@@ -2,7 +2,7 @@
 --   headerSaid made           == what a header says
 --   headSet h tx rx n         == a header with TxAdd, RxAdd and length set; parsedSet: of one that was made, or not
 --   builtAs which a s         == the PDU of a builder with records; frameOf, builtFrame: its numbers
-use mathlib.Core.Bool.{Bool, true, false, cond}
+use mathlib.Core.Bool.{Bool, false, cond}
 use mathlib.Core.List.{List, []}
 use Prim.Native.Nat.{ℕ}
 use lib.Dec.{eqb}

@@ -2,7 +2,7 @@
 ghost use mathlib.Core.Path.{_≡_};
 ghost use Prim.Native.Nat.{_%_};
 ghost use Rattle.records.specs.Area.{readArea, rewrittenTo, rewrittenAfter};
-ghost use Rattle.records.specs.Record.{recordAt, knownRead};
+ghost use Rattle.records.specs.Record.{recordAt};
 ghost use Rattle.records.specs.Uuids.{uuid16At};
 ghost use Rattle.records.specs.Write.{writtenTo, writtenAfter};
 ghost use Rattle.exports.specs.Got.{writtenGot};

@@ -19,8 +19,6 @@ use mathlib.Core.List.{List, [], _∷_, _++_, reverse}
 use lib.ListN.{length, take, drop, getD, replicate}
 use lib.Dec.{leb}
 use Rattle.octets.specs.declared.error.Error.the-variants.{Eof}
-use Rattle.octets.specs.declared.bytes.ByteReader.{ByteReader}
-use Rattle.octets.specs.declared.bytes.ByteWriter.{ByteWriter}
 use Rattle.octets.specs.declared.bytes.Skipped.{Skipped}
 use Rattle.octets.specs.declared.bytes.Skipped.the-variants as skipped
 use Rattle.octets.specs.declared.bytes.U8Read.{U8Read}

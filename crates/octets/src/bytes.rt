@@ -103,7 +103,8 @@ fn counted(n: usize, written: Written) -> Truncated
     }
 }
 
-fn least(a: usize, b: usize) -> usize
+// The lesser of two sizes.
+pub fn least(a: usize, b: usize) -> usize
     ensures { λ r. ⌜ r ≡ min a b ⌝ }
 {
     if a < b { a } else { b }

@@ -1,10 +1,9 @@
 -- Demand 3 holds of every own address and every list of calls: `demand-3`. Assumes nothing.
 use mathlib.Core.Bool.{Bool, true, false, cond, _&&_, and-false, false≢true}
-use mathlib.Core.List.{List, [], _∷_, _++_}
+use mathlib.Core.List.{List, [], _∷_}
 use mathlib.Core.Path.{_≡_, refl, sym, ap, _∙_}
 use Prim.Native.Nat.{ℕ}
 use native.Mathlib.Omega.{arith}
-use lib.Dec.{eqb}
 use lib.ListN.{length}
 use Rattle.octets.specs.declared.error.Error.the-variants.{WrongMode}
 use Rattle.octets.specs.declared.time.Instant.{Instant}
@@ -13,12 +12,10 @@ use Rattle.addresses.specs.declared.header.Header.{Header}
 use Rattle.advertising.specs.Pdu.{hasReceiver, decodeOf}
 use Rattle.radio.specs.Calls.{fresh, isAdvertising, isFor, listens, refusal, addressed, packetOf}
 use Rattle.radio.specs.Demand.{RefusedAt, TicksFrom, BeginsAt, EventsFrom, Demand3}
-use Rattle.radio.specs.Trace.{Call, start, tick, packet, event, stop, callOf, wellFormed, forBoard, Reading, unread, readOn, Entry, traceFrom, trace, deviceFrom, deviceAfter, readFrom, modeAfter, AtEach, none, here, Strikable, crcBad, malformed, foreign, Choice, keep, strike, left}
+use Rattle.radio.specs.Trace.{Call, packet, callOf, wellFormed, forBoard, Reading, unread, readOn, Entry, traceFrom, trace, deviceFrom, deviceAfter, readFrom, modeAfter, AtEach, none, here, Strikable, crcBad, malformed, foreign, Choice, keep, strike, left}
 use Rattle.radio.specs.declared.link.Called.{Called}
 use Rattle.radio.specs.declared.link.Device.{Device}
-use Rattle.radio.specs.declared.link.Mode.{Mode}
-use Rattle.radio.specs.declared.link.Mode.the-variants.{Standby, Advertising, Connected}
-use Rattle.radio.proofs.Packets.{Known, known}
+use Rattle.radio.proofs.Packets.{known}
 use Rattle.radio.proofs.Runs.{entryOf, traced, ticks-from, events-from, begins-at, refused-at}
 use Rattle.radio.proofs.Steps.{reading, Sound, happens, address-kept, sound-kept, reads-on}
 

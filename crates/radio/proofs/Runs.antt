@@ -11,7 +11,7 @@ use Rattle.channels.proofs.Counting.{count-ext}
 use Rattle.channels.proofs.Cycles.{once-each}
 use Rattle.channels.proofs.Events.{fair, run}
 use Rattle.channels.specs.Count.{count}
-use Rattle.channels.specs.Hop.{eventChannel, uses as usesIn, before, hopped, remapped}
+use Rattle.channels.specs.Hop.{eventChannel, uses as usesIn, before, hopped}
 use Rattle.channels.specs.Laws.{cycles}
 use Rattle.channels.specs.Map.{marks, channelAt, fromRaw}
 use Rattle.channels.specs.Phy.{indexOf, cycled, firstChannel}

@@ -1,17 +1,16 @@
 -- What a call can do to a device: each call is of one of six kinds (`happens`). Assumes nothing.
-use mathlib.Core.Bool.{Bool, true, false, cond, not, _&&_, _||_, and-false, false≢true}
-use mathlib.Core.List.{List, [], _∷_, _++_}
+use mathlib.Core.Bool.{Bool, true, false, cond, _&&_, and-false, false≢true}
+use mathlib.Core.List.{List, _++_}
 use mathlib.Core.Path.{_≡_, refl, sym, ap, _∙_}
-use Prim.Native.Nat.{ℕ, zero, suc, _+_, _%_, _≤_, _<_}
+use Prim.Native.Nat.{ℕ, _+_, _%_, _≤_, _<_}
 use native.Mathlib.Nat.{mod-lt, zero-add}
 use native.Mathlib.Omega.{arith}
 use lib.Dec.{eqb, ltb}
 use lib.ListN.{length, drop, length-append}
-use borrow.Author.Tests.{le-ltb, lt-ltb, ne-eqb, eq-eqb, ltb-true, ltb-false}
+use borrow.Author.Tests.{le-ltb, ne-eqb, eq-eqb, ltb-true, ltb-false}
 use Rattle.octets.proofs.Places.{enough, too-few}
 use Rattle.octets.proofs.Sequences.{both-true}
 use Rattle.octets.specs.Error.{numberOf}
-use Rattle.octets.specs.declared.bytes.Written.the-variants as written
 use Rattle.octets.specs.declared.error.Error.{Error}
 use Rattle.octets.specs.declared.error.Error.the-variants.{Eof, InvalidLength, InvalidValue, ShortHeader, WrongMode, EmptyMap, PayloadLength, NoSuchChannel, RecordLength}
 use Rattle.octets.specs.declared.time.Instant.{Instant}
@@ -31,20 +30,20 @@ use Rattle.addresses.specs.declared.header.PduType.{PduType}
 use Rattle.addresses.specs.declared.header.PduType.the-variants.{AdvInd, AdvDirectInd, AdvNonconnInd, AdvScanInd, ScanReq, ScanRsp, ConnectReq, Unknown}
 use Rattle.advertising.proofs.Building.{building}
 use Rattle.advertising.specs.Laws.{ReadsBack}
-use Rattle.advertising.specs.Pdu.{requestOf, hasReceiver, decodeOf}
+use Rattle.advertising.specs.Pdu.{requestOf, decodeOf}
 use Rattle.advertising.specs.PduBuf.{headerFor, flagsRecord, payloadOf, payloadTo}
 use Rattle.advertising.specs.declared.pdu.Pdu.{Pdu}
 use Rattle.advertising.specs.declared.pdu_buf.PduBuf.{PduBuf}
-use Rattle.radio.specs.Calls.{isAdvertising, isConnected, refusal, advertised, sent, beginning, isFor, listens, connectedAt, hoppedTo, connects as connection, addressed, heard, hops, startOf, startAfter, tickOf, tickAfter, packetOf, eventOf, stopOf}
+use Rattle.radio.specs.Calls.{isAdvertising, isConnected, refusal, advertised, sent, beginning, isFor, listens, connectedAt, hoppedTo, connects as connection, addressed, hops, startOf, startAfter, tickOf, tickAfter, packetOf, eventOf, stopOf}
 use Rattle.radio.specs.Demand.{numberIn, isFirstEvent}
-use Rattle.radio.specs.Trace.{Call, start, tick, packet, event, stop, callOf, isConnectRequest, asks, mapIn, hopIn, connects, Reading, firstOf, startNumber, refusedBy, readOn, Role, passes, tickRole, eventRole}
+use Rattle.radio.specs.Trace.{Call, start, tick, packet, event, stop, callOf, isConnectRequest, asks, mapIn, hopIn, connects, Reading, firstOf, startNumber, refusedBy, readOn, passes, tickRole, eventRole}
 use Rattle.radio.specs.declared.link.Answer.{Answer}
 use Rattle.radio.specs.declared.link.Called.{Called}
 use Rattle.radio.specs.declared.link.Connection.{Connection}
 use Rattle.radio.specs.declared.link.Device.{Device}
 use Rattle.radio.specs.declared.link.Mode.{Mode}
 use Rattle.radio.specs.declared.link.Mode.the-variants.{Standby, Advertising, Connected}
-use Rattle.radio.proofs.Packets.{Known, known}
+use Rattle.radio.proofs.Packets.{known}
 
 -- what the list says of the calls so far, as the device has it
 abbrev pub reading : Device → Reading

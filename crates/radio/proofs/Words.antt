@@ -26,7 +26,7 @@ use Rattle.records.specs.declared.area.Area.{Area}
 use Rattle.records.specs.declared.area.Area.the-variants as area
 use Rattle.addresses.proofs.Addresses.{equality}
 use Rattle.addresses.proofs.Boxes.{codes}
-use Rattle.addresses.specs.Address.{kindNumber, kindOf, isRandom, addressOf, sameAddress}
+use Rattle.addresses.specs.Address.{kindNumber, isRandom, sameAddress}
 use Rattle.addresses.specs.Header.{headerOf, typeCode, pduType, typeOf, bits}
 use Rattle.addresses.specs.declared.device_address.AddressKind.{AddressKind}
 use Rattle.addresses.specs.declared.device_address.AddressKind.the-variants.{Public, Random}

@@ -43,10 +43,8 @@ use Rattle.advertising.specs.declared.pdu.Pdu.{Pdu}
 use Rattle.advertising.specs.declared.pdu_buf.Built.{Built}
 use Rattle.advertising.specs.declared.pdu_buf.PduBuf.{PduBuf}
 use Rattle.radio.specs.declared.link.Advertisement.{Advertisement}
-use Rattle.radio.specs.declared.link.Answer.{Answer}
 use Rattle.radio.specs.declared.link.Answer.the-variants.{Refused, Sent, Listen, Respond, FirstEvent, NextEvent, Stopped}
 use Rattle.radio.specs.declared.link.Called.{Called}
-use Rattle.radio.specs.declared.link.Connection.{Connection}
 use Rattle.radio.specs.declared.link.Device.{Device}
 use Rattle.radio.specs.declared.link.Mode.{Mode}
 use Rattle.radio.specs.declared.link.Mode.the-variants.{Standby, Advertising, Connected}

@@ -1,18 +1,13 @@
--- Laws of lists, masks and written octets that several proofs cite.
+-- Laws of lists and masks that several proofs cite.
 -- Assumes nothing.
-use mathlib.Core.Path.{_≡_, refl, sym, ap, _∙_}
+use mathlib.Core.Path.{_≡_, refl, sym, ap}
 use mathlib.Core.Bool.{Bool, true, false, cond}
-use mathlib.Core.List.{List, [], _∷_, _++_, append-assoc}
-use Prim.Native.Nat.{ℕ, zero, suc, _+_, _-_, _≤_, _<_}
-use native.Mathlib.Numerals.{add-one, sub-one}
-use native.Mathlib.Omega.{arith}
-use lib.ListN.{length, getD, set, take, drop, length-append}
-use lib.Seq.{take-nil, length-take-le, take-at, drop-drop, set-split}
+use mathlib.Core.List.{List, [], _∷_}
+use Prim.Native.Nat.{ℕ, zero, suc, _-_}
+use native.Mathlib.Numerals.{sub-one}
+use lib.ListN.{length, take, drop}
+use lib.Seq.{take-nil}
 use lib.Bits.{bitAnd, and-mask}
-use borrow.Rule.Slice.PartMut.{putMid, post-is}
-use Rattle.octets.specs.Bytes.{written}
-use Rattle.octets.specs.Laws.{Octets}
-use Rattle.octets.proofs.Laws.{written-keeps}
 use Rattle.records.specs.Record.{named}
 
 -- the code's mask clears the bits that have no name
@@ -40,30 +35,3 @@ take-length-take (suc n) (x ∷ l) = ap (λ (r : List ℕ). x ∷ r) (take-lengt
 pub cond-same : (b : Bool) (l : List ℕ) → cond b l l ≡ l
 cond-same true l = refl
 cond-same false l = refl
-
--- a store, and a copy to a part, are writes
-pub set-written : (x : ℕ) (out : List ℕ) (at : ℕ) → at < length out → set out at x ≡ written (x ∷ []) out at
-set-written x out at h = rw (add-one, set-split out at x)
-
-pub part-written : (xs out : List ℕ) (at end : ℕ) {l : List ℕ} → end ≡ at + length xs → l ≡ xs → putMid at (end - at) out l ≡ written xs out at
-part-written xs out at end is e = rw (post-is at end out (omega arith), e, is)
-
--- writes one after the other are one write
-pub written-written : (xs ys out : List ℕ) (at next : ℕ) → next ≡ at + length xs → next ≤ length out
-    → written ys (written xs out at) next ≡ written (xs ++ ys) out at
-written-written xs ys out at next is h =
-    let keeps = written-keeps xs out at (omega arith) in
-    let front : length (take at out ++ xs) ≡ next = simp (length-append, length-take-le at out (omega arith), is) in
-    let far : at + (length xs + length ys) ≡ next + length ys = omega arith in
-    let before : take next (written xs out at) ≡ take at out ++ xs =
-    rw (← append-assoc) (take-at (take at out ++ xs) (drop (at + length xs) out) next front) in
-    let kept : drop next (written xs out at) ≡ drop next out = rw is (keeps .behind) in
-    let behind : drop (next + length ys) (written xs out at) ≡ drop (next + length ys) out =
-    sym (drop-drop (length ys) next (written xs out at)) ∙ ap (drop (length ys)) kept ∙ drop-drop (length ys) next out in
-    simp (before, behind, length-append, far, append-assoc)
-
--- each element of octets is one
-pub octet-at : (s : List ℕ) (at : ℕ) → Octets s → at < length s → getD s at 0 < 256
-octet-at [] at o h = absurd (omega arith)
-octet-at (x ∷ s) zero o h = o .0
-octet-at (x ∷ s) (suc at) o h = octet-at s at (o .1) (omega arith)

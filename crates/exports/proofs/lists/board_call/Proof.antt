@@ -1,7 +1,5 @@
 -- `board_call` meets its contract: one more step after `after`. Assumes nothing.
-use mathlib.Core.List.{List}
-use mathlib.Core.Path.{_≡_, ap, _∙_}
-use Prim.Native.Nat.{ℕ}
+use mathlib.Core.Path.{ap, _∙_}
 use Rattle.addresses.specs.declared.device_address.DeviceAddress.{DeviceAddress}
 use Rattle.exports.specs.Lists.{State, state, calledBy, stepOf, ranAll, answerSaid, calledSaid}
 use borrow.Author.Needs.{needs}

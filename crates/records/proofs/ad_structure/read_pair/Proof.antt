@@ -1,6 +1,6 @@
 -- `records::ad_structure::read_pair` meets its contract.
 -- Assumes nothing.
-use mathlib.Core.Path.{_≡_, ap, _∙_}
+use mathlib.Core.Path.{ap, _∙_}
 use borrow.Author.Needs.{needs}
 use borrow.Author.Tests.{lt-ltb}
 use Rattle.records.specs.declared.ad_structure.Parsed.the-variants.{Structure}

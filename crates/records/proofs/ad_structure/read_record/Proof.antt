@@ -1,6 +1,5 @@
 -- `records::ad_structure::read_record` meets its contract: a position has a record, is the end, or lies past it.
 -- Assumes nothing.
-use mathlib.Core.Path.{_≡_, _∙_}
 use Prim.Native.Nat.{_≤_}
 use native.Mathlib.Omega.{arith}
 use lib.ListN.{length, drop-of-length-le}

@@ -1,5 +1,5 @@
 -- `Pdu::from_header_and_payload` meets its contract: the length is tested, then the type. Assumes nothing.
-use mathlib.Core.Bool.{Bool, true, false}
+use mathlib.Core.Bool.{true, false}
 use mathlib.Core.List.{List, [], _∷_}
 use types.Run.{OneOf, miss}
 use denote.Enum.Declared.{tagOf}

@@ -28,10 +28,10 @@ as-long : (c : tie.Start) → length (c .args .self .«payload_buf») ≡ 37
 as-long c = search needs
 
 array-share-prefix-payload : tie.Need-array-share-prefix-payload
-array-share-prefix-payload c = omega (arith, c .before .before .at-most-37 .ensures, as-long (c .before .before .before .before .before .before .before))
+array-share-prefix-payload c = omega (arith, c .before .before .least .ensures, as-long (c .before .before .before .before .before .before .before))
 
 slice-aggregate-write-slice : tie.Need-slice-aggregate-write-slice
-slice-aggregate-write-slice c = sym (simp length-take (omega (arith, c .before .before .before .at-most-37 .ensures, as-long (c .before .before .before .before .before .before .before .before))))
+slice-aggregate-write-slice c = sym (simp length-take (omega (arith, c .before .before .before .least .ensures, as-long (c .before .before .before .before .before .before .before .before))))
 
 returns : tie.Need-returns
 returns c =
@@ -39,8 +39,8 @@ returns c =
     let n = wrote .before .before .before .before in
     let start = n .before .before .before .before .before in
     let a = start .args in
-    let part : take (n .at-most-37 .result) (a .self .«payload_buf») ≡ payloadOf (a .self) =
-    first-37 (a .self .«payload_buf») (lengthOf (a .self .header)) (as-long start) (n .at-most-37 .ensures ∙ ap (λ (k : ℕ). min k 37) (n .before .payload-length .ensures)) in
+    let part : take (n .least .result) (a .self .«payload_buf») ≡ payloadOf (a .self) =
+    first-37 (a .self .«payload_buf») (lengthOf (a .self .header)) (as-long start) (n .least .ensures ∙ ap (λ (k : ℕ). min k 37) (n .before .payload-length .ensures)) in
     rw part at (rw (wrote .before .before .before .new .ensures) at (wrote .write-slice .ensures))
 
 pub write-payload-spec : {M : Type 1} → statement M
@@ -48,6 +48,7 @@ write-payload-spec =
     tie.close
     (tie.spec
     (λ c κs. search needs)
+    (λ c. search needs)
     (λ c κs. search needs)
     (λ c κs. search needs)
     array-share-prefix-payload
