@@ -5,13 +5,14 @@ use mathlib.Core.Bool.{Bool, true, false, cond, true≢false}
 use mathlib.Core.List.{List, [], _∷_, _++_, append-assoc, append-nil, append-cancel-left, flatten}
 use Prim.Native.Nat.{ℕ, zero, suc, _+_, _-_, _*_, _<_, _≤_}
 use native.Mathlib.Omega.{arith}
-use lib.ListN.{length, drop, length-append, length-drop}
+use lib.ListN.{length, take, drop, length-append, length-drop}
+use lib.Seq.{take-append-seam}
 use lib.Dec.{leb, ltb, eqb·suc-zero}
 use borrow.Author.Tests.{le-leb, leb-true, leb-false, ltb-true, ltb-false}
 use Rattle.hub.specs.declared.Hub.{Hub}
 use Rattle.hub.specs.Line.{lineSize, reportsIn, roomFor}
 use Rattle.items.specs.Item.{sizeOf, wholeSize, items, behind}
-use Rattle.hub.specs.Log.{heardIn, after, afterAll, printed, printedAll, itemsFor, linesOf, hubOf, restOf, isStuck, fresh, lastLine, logOf}
+use Rattle.hub.specs.Log.{heardIn, after, afterAll, printed, printedAll, itemsFor, linesOf, hubOf, restOf, isStuck, fresh, lastLine, logOf, Counted, isReady}
 use Rattle.hub.specs.Reads.{writtenFor, AnyReads, Turning}
 use Rattle.items.proofs.Items.{none-whole, one-whole, none-left, none-more, no-size, begun, at-front, items-fit, items-more, behind-more}
 use Rattle.hub.proofs.Reports.{line-size, line-room, one-report}
@@ -153,11 +154,16 @@ rest-fits : (h : Hub) (s : List ℕ) → length (restOf h s) ≤ length s
 unfolding behind
 rest-fits h s = rw length-drop (omega arith)
 
+ready : (h : Hub) (buf : List ℕ) (filled : ℕ) (out : List ℕ) → Counted h → filled ≤ length buf → roomFor filled ≤ length out → isReady h filled (length buf) (length out) ≡ true
+ready h buf filled out counts fits enough =
+    simp (le-leb (h .items) 999999 (counts .0), le-leb (h .reports) (h .items) (counts .1), le-leb filled (length buf) fits, le-leb (roomFor filled) (length out) enough)
+
 pub turning : (h : Hub) (s : List ℕ) → Turning h s
 turning h s =
     record {
-      accepted = λ buf filled out counts fits enough.
-          simp (le-leb (h .items) 999999 (counts .0), le-leb (h .reports) (h .items) (counts .1), le-leb filled (length buf) fits, le-leb (roomFor filled) (length out) enough);
+      accepted = λ buf filled out counts fits enough. simp (ready h buf filled out counts fits enough);
+      left = λ buf filled out counts fits enough.
+          rw (ready h buf filled out counts fits enough) (take-append-seam (restOf h (take filled buf)) (drop (length (restOf h (take filled buf))) buf));
       counted = λ before. (omega (arith, before .0, counted h (itemsFor h s), items-most (999999 - h .items) s), fewer-reports h (itemsFor h s) (before .1));
       room = omega (arith, lines-room h (itemsFor h s), items-fit (999999 - h .items) s);
       kept = rest-fits h s;

@@ -8,21 +8,22 @@ ghost use mathlib.Core.Path.{_≡_};
 ghost use Prim.Native.Nat.{_≤_};
 ghost use lib.ListN.{length, take};
 ghost use Rattle.hub.specs.Line.{roomFor};
-ghost use Rattle.hub.specs.Log.{turnOf, Counted};
+ghost use Rattle.hub.specs.Log.{restOf, turnOf, Counted};
 
-// Reads once, to `buf` from `kept` on, and answers how many octets `buf` then holds: `kept` at the end of the input, or where a read fails.
+// Reads once, to `buf` from `kept` on, and answers how many octets `buf` then holds: `kept` at the end of the input, or where a read fails. The first
+// `kept` octets stay.
 fn read_more(buf: &mut [u8], kept: usize) -> usize
     requires { ⌜ kept ≤ length (now buf) ⌝ }
-    ensures { λ r. ⌜ r ≤ length (now (buf .entry)) ⌝ }
+    ensures { λ r. ⌜ ((kept ≤ r) × (r ≤ length (now (buf .entry)))) × (take kept (now (buf .exit)) ≡ take kept (now (buf .entry))) ⌝ }
 {
     let got = libc::read(STDIN_FILENO, &mut buf[kept..]);
     kept + io::count(got, &buf[kept..])
 }
 
-// Takes in the first `filled` octets, and writes their lines.
+// Takes in the first `filled` octets, and writes their lines. What is left over of them stands at the front of `buf` then.
 fn log_read(hub: Hub, buf: &mut [u8], filled: usize, out: &mut [u8]) -> Turn
     requires { ⌜ Counted hub × ((filled ≤ length (now buf)) × (roomFor filled ≤ length (now out))) ⌝ }
-    ensures { λ r. ⌜ r ≡ turnOf hub (take filled (now (buf .entry))) ⌝ }
+    ensures { λ r. ⌜ (r ≡ turnOf hub (take filled (now (buf .entry)))) × (take (r .kept) (now (buf .exit)) ≡ restOf hub (take filled (now (buf .entry)))) ⌝ }
 {
     match hub.take_in(buf, filled, out) {
         TakenIn::Turn(turn) => {

@@ -5,7 +5,7 @@ use native.Mathlib.Omega.{arith}
 use lib.ListN.{length, take, length-take}
 use borrow.Author.Needs.{needs}
 use Rattle.hub.proofs.AnyReads.{turning}
-use Rattle.hub.specs.Log.{turnOf}
+use Rattle.hub.specs.Log.{restOf, turnOf}
 use Rattle.hub.specs.declared.TakenIn.the-variants as taken
 use Rattle.hub.specs.declared.Turn.{Turn}
 use Rattle.hublog.proofs.log_read.Statement.{statement}
@@ -27,6 +27,15 @@ taken-in c =
 is-turn : (c : tie.After-turn) → let a = c .before .before .before .before .before .before .before .before .before .before .before .args in c .turn .given .0 .0 ≡ turnOf (a .hub) (take (a .filled) (a .buf .now))
 is-turn c = same-turn (sym (c .turn .given .1) ∙ taken-in (c .before .before .before .before .before .before))
 
+-- what is left over
+left-over : (c : tie.After-turn) → let a = c .before .before .before .before .before .before .before .before .before .before .before .args in
+    take (c .turn .given .0 .0 .kept) (c .before .before .before .before .before .before .take-in .last .1 .0) ≡ restOf (a .hub) (take (a .filled) (a .buf .now))
+left-over c =
+    let start = c .before .before .before .before .before .before .before .before .before .before .before in
+    let a = start .args in
+    rw (ap (λ (t : Turn). t .kept) (is-turn c), c .before .before .before .before .before .before .take-in .ensures .1 .0)
+    (turning (a .hub) (a .buf .now) .left (a .buf .now) (a .filled) (a .out .now) (start .pre .0) (start .pre .1 .0) (start .pre .1 .1))
+
 written-fits : (c : tie.After-turn) → c .turn .given .0 .0 .written ≤ length (c .before .before .before .before .before .before .before .before .before .before .before .args .out .now)
 written-fits c =
     let start = c .before .before .before .before .before .before .before .before .before .before .before in
@@ -46,7 +55,7 @@ log-read-spec =
     (λ c κs. search needs)
     (λ c. search needs)
     (λ c. search needs)
-    (λ c. is-turn (c .before .before .before))
+    (λ c. (is-turn (c .before .before .before), left-over (c .before .before .before)))
     (λ c. search needs)
     (λ c. search needs)
     (λ c. absurd (no-refusal (sym (c .before .enum-told .given .1) ∙ taken-in (c .before .before .before .before .before .before .before)))))

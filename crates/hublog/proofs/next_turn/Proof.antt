@@ -24,7 +24,7 @@ returns : tie.Need-returns
 returns c = at-end (c .stopped .result) (c .stopped .ensures) (c .before .before .before .before .before .before .before .before .pre .0) (c .before .before .before .before .before .before .before .before .pre .1 .0)
 
 returns-2 : tie.Need-returns-2
-returns-2 c = turned _ _ _ (c .before .before .before .before .log-read .ensures) (c .before .before .before .before .before .before .before .before .before .before .before .before .before .before .pre .0) (c .before .before .before .before .before .before .before .before .before .before .read-more .ensures)
+returns-2 c = turned _ _ _ (c .before .before .before .before .log-read .ensures .0) (c .before .before .before .before .before .before .before .before .before .before .before .before .before .before .pre .0) (c .before .before .before .before .before .before .before .before .before .before .read-more .ensures .0 .1)
 
 pub next-turn-spec : {M : Type 1} → statement M
 next-turn-spec =
