@@ -2,11 +2,11 @@
 ghost use mathlib.Core.Path.{_≡_};
 ghost use Rattle.addresses.specs.Address.{kindNumber, kindOf, isRandom, addressOf, sameOctets, sameAddress};
 
-// Whether a device address is randomly generated or a LAN MAC address.
+// How a device came by its address (the Core, Vol 6 Part B, 1.3).
 pub enum AddressKind {
-    // Publicly registered IEEE 802-2001 LAN MAC address.
+    // Assigned by the IEEE's registration authority.
     Public,
-    // Randomly generated address.
+    // Drawn by the device itself.
     Random,
 }
 
@@ -53,7 +53,7 @@ impl DeviceAddress {
         self.kind
     }
 
-    // Whether this address is randomly generated.
+    // Whether the kind is random.
     pub fn is_random(self) -> bool
         ensures { λ r. ⌜ r ≡ isRandom (self .kind) ⌝ }
     {

@@ -87,7 +87,7 @@ fn entry_is(list: &[u8], i: usize, address: DeviceAddress) -> bool
     DeviceAddress::new(octets, kind).eq(address)
 }
 
-// Advertising filter policy: which devices may scan and connect to an advertising device.
+// Whose scan requests and whose connect requests an advertising device takes (the Core: advertising filter policy).
 pub struct AdvFilter {
     scan: AddressFilter,
     connect: AddressFilter,

@@ -90,7 +90,7 @@ impl Header {
         }
     }
 
-    // The length of the payload in octets. The Core has 6 to 37 only, which is not tested here.
+    // How many octets of payload follow. The Core has 6 to 37 only, which is not tested here.
     pub fn payload_length(self) -> u8
         ensures { λ r. ⌜ r ≡ lengthOf self ⌝ }
     {
@@ -136,13 +136,13 @@ impl Header {
 
 // The 4-bit type in a header.
 pub enum PduType {
-    // Connectable undirected advertising event (`ADV_IND`).
+    // `ADV_IND`: to all devices, for connecting and scanning.
     AdvInd,
-    // Connectable directed advertising event (`ADV_DIRECT_IND`).
+    // `ADV_DIRECT_IND`: to one device, for connecting.
     AdvDirectInd,
-    // Non-connectable undirected advertising event (`ADV_NONCONN_IND`).
+    // `ADV_NONCONN_IND`: to all devices, a beacon.
     AdvNonconnInd,
-    // Scannable undirected advertising event (`ADV_SCAN_IND`).
+    // `ADV_SCAN_IND`: to all devices, for scanning.
     AdvScanInd,
     // Scan request (`SCAN_REQ`), from a scanning to an advertising device.
     ScanReq,
@@ -187,7 +187,7 @@ impl PduType {
         }
     }
 
-    // Whether this type is a beacon advertisement.
+    // Whether a beacon has this type.
     pub fn is_beacon(self) -> bool
         ensures { λ r. ⌜ r ≡ isBeacon self ⌝ }
     {

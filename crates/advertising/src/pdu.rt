@@ -107,7 +107,7 @@ impl Pdu {
         self.sender
     }
 
-    // Whether this PDU has a fixed receiver.
+    // Whether the type has a second address.
     pub fn has_receiver(self) -> bool
         ensures { λ r. ⌜ r ≡ hasReceiver (self .ty) ⌝ }
     {
@@ -124,7 +124,7 @@ impl Pdu {
         }
     }
 
-    // The intended receiver, if there is one.
+    // The second address, zeros where there is none.
     pub fn receiver(self) -> DeviceAddress
         ensures { λ r. ⌜ r ≡ self .receiver ⌝ }
     {
@@ -287,19 +287,19 @@ fn no_data() -> AdvData
     }
 }
 
-// Connection parameters sent along with a connect request (`LLData`).
+// What a connect request says of the connection (`LLData`).
 pub struct ConnectRequestData {
     access_address: u32,
     crc_init: u32,
-    // Transmit window size in µs.
+    // WinSize in µs.
     win_size: u32,
-    // Transmit window offset in µs.
+    // WinOffset in µs.
     win_offset: u32,
-    // Connection interval in µs.
+    // Interval in µs.
     interval: u32,
-    // Slave latency (number of connection events).
+    // How many events the board may sleep through.
     latency: u16,
-    // Connection timeout in µs.
+    // Timeout in µs.
     timeout: u32,
     chm: ChannelMap,
     hop: u8,
@@ -307,28 +307,28 @@ pub struct ConnectRequestData {
 }
 
 impl ConnectRequestData {
-    // The Access Address to use for data channel communication.
+    // AA: the address of this connection's packets.
     pub fn access_address(self) -> u32
         ensures { λ r. ⌜ r ≡ self .«access_address» ⌝ }
     {
         self.access_address
     }
 
-    // The initialization value for the CRC calculation.
+    // CRCInit: where the CRC of this connection begins.
     pub fn crc_init(self) -> u32
         ensures { λ r. ⌜ r ≡ self .«crc_init» ⌝ }
     {
         self.crc_init
     }
 
-    // The channel map specified by the initiator.
+    // ChM: the channels that the connection may use.
     pub fn channel_map(self) -> ChannelMap
         ensures { λ r. ⌜ r ≡ self .chm ⌝ }
     {
         self.chm
     }
 
-    // The channel hop distance.
+    // Hop: the step from one event's unmapped channel to the next.
     pub fn hop(self) -> u8
         ensures { λ r. ⌜ r ≡ self .hop ⌝ }
     {
@@ -344,42 +344,42 @@ impl ConnectRequestData {
         std::num::wrapping_add_u32(end, 1250)
     }
 
-    // The size of the transmit window in µs.
+    // WinSize in µs.
     pub fn win_size(self) -> u32
         ensures { λ r. ⌜ r ≡ self .«win_size» ⌝ }
     {
         self.win_size
     }
 
-    // The offset of the transmit window in µs.
+    // WinOffset in µs.
     pub fn win_offset(self) -> u32
         ensures { λ r. ⌜ r ≡ self .«win_offset» ⌝ }
     {
         self.win_offset
     }
 
-    // The connection event interval in µs.
+    // Interval: from one event to the next, in µs.
     pub fn interval(self) -> u32
         ensures { λ r. ⌜ r ≡ self .interval ⌝ }
     {
         self.interval
     }
 
-    // The slave latency (as the number of connection events).
+    // Latency: how many events the board may sleep through.
     pub fn slave_latency(self) -> u16
         ensures { λ r. ⌜ r ≡ self .latency ⌝ }
     {
         self.latency
     }
 
-    // The connection supervision timeout in µs.
+    // Timeout: the silence after which the connection is lost, in µs.
     pub fn supervision_timeout(self) -> u32
         ensures { λ r. ⌜ r ≡ self .timeout ⌝ }
     {
         self.timeout
     }
 
-    // The sleep clock accuracy of the initiator.
+    // SCA: how exact the clock of the device is that connects.
     pub fn sca(self) -> SleepClockAccuracy
         ensures { λ r. ⌜ r ≡ self .sca ⌝ }
     {
@@ -448,7 +448,7 @@ fn u16_at(s: &[u8], at: usize) -> u16
     u16_from_le_bytes(s[at], s[at + 1])
 }
 
-// The sleep clock accuracy of the device that sends a connect request, in ppm.
+// SCA, by the parts per million that the clock may be off.
 pub enum SleepClockAccuracy {
     Ppm251To500,
     Ppm151To250,

@@ -51,7 +51,7 @@ impl PduBuf {
         fill(ty, adv.is_random(), front, 6, adv_data)
     }
 
-    // A connectable undirected advertising PDU (`ADV_IND`).
+    // An `ADV_IND` with these records.
     pub fn connectable_undirected(advertiser_addr: DeviceAddress, advertiser_data: &[u8]) -> Built
         ensures { λ r. ⌜ r ≡ builtOf AdvInd «advertiser_addr» [] (now («advertiser_data» .entry)) ⌝ }
     {
@@ -81,7 +81,7 @@ impl PduBuf {
         }
     }
 
-    // A non-connectable undirected advertising PDU (`ADV_NONCONN_IND`).
+    // An `ADV_NONCONN_IND` with these records.
     pub fn nonconnectable_undirected(
         advertiser_addr: DeviceAddress,
         advertiser_data: &[u8],
@@ -91,7 +91,7 @@ impl PduBuf {
         PduBuf::adv(PduType::AdvNonconnInd, advertiser_addr, advertiser_data)
     }
 
-    // A scannable undirected advertising PDU (`ADV_SCAN_IND`).
+    // An `ADV_SCAN_IND` with these records.
     pub fn scannable_undirected(advertiser_addr: DeviceAddress, advertiser_data: &[u8]) -> Built
         ensures { λ r. ⌜ r ≡ builtOf AdvScanInd «advertiser_addr» [] (now («advertiser_data» .entry)) ⌝ }
     {

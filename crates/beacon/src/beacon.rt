@@ -1,4 +1,4 @@
-// Beacon support, without dealing with link-layer state.
+// A beacon that is sent, and a scanner that hears beacons: no device and no mode.
 ghost use mathlib.Core.Path.{_≡_};
 ghost use Rattle.addresses.specs.declared.filter.AddressFilter.the-variants.{AllowAll};
 ghost use Rattle.advertising.specs.Pdu.{dataIn};
@@ -73,7 +73,7 @@ impl Beacon {
     }
 }
 
-// A passive scanner for non-connectable beacon advertisements.
+// Listens for beacons, one advertising channel at a time, and sends nothing.
 pub struct BeaconScanner {
     filter: ScanFilter,
     // In µs.
@@ -144,7 +144,7 @@ impl BeaconScanner {
         scanner.listen(time)
     }
 
-    // Switches to the next advertising channel, after the configured timer has fired.
+    // What the timer brings about: the next channel in turn.
     pub fn timer_update(self, time: Instant) -> Updated
         ensures { λ r. ⌜ r ≡ timerUpdated self time ⌝ }
     {

@@ -13,14 +13,14 @@ fn rf_channel_freq(rf_channel: u8) -> u16
     2402 + (rf_channel as u16) * 2
 }
 
-// The data whitening IV for a channel index (not RF channel), which has six bits.
+// Where the whitening register starts for a channel index of six bits (the Core, Vol 6 Part B, 3.2).
 fn whitening_iv(channel_idx: u8) -> u8
     ensures { λ r. ⌜ r ≡ whiteningStart «channel_idx» ⌝ }
 {
     0b01000000 | channel_idx % 64
 }
 
-// One of the three advertising channels.
+// Channel 37, 38 or 39.
 pub enum AdvertisingChannel {
     Channel37,
     Channel38,

@@ -20,7 +20,7 @@ use octets::time::Instant;
 
 // Which of the two states below has a meaning, if any.
 pub enum Mode {
-    // Radio silence: not listening, not transmitting anything.
+    // The radio is off.
     Standby,
     // Advertising, and ready for a connection.
     Advertising,
@@ -43,7 +43,7 @@ pub struct Advertisement {
 // What the events of a connection need.
 pub struct Connection {
     channel_map: ChannelMap,
-    // Number of (unmapped) channels to hop between connection events.
+    // The hop: what is added to the unmapped channel from event to event.
     hop: u8,
     // The unmapped channel of the last event that was given.
     unmapped_channel: u8,
@@ -290,7 +290,7 @@ impl Device {
         self.listen()
     }
 
-    // A packet that is addressed at us can be a scan or connect request.
+    // Of the packets to this device only the two requests are answered.
     fn take(self, rx_end: Instant, pdu: Pdu) -> Called
         ensures { λ r. ⌜ r ≡ addressed self «rx_end» (pdu .lldata) (pdu .ty) ⌝ }
     {

@@ -24,7 +24,7 @@ use octets::uuid::UuidKind;
 
 // A record. rubble's holds its data; here `start` and `len` say where they lie in octets that are lent beside it.
 pub enum AdStructure {
-    // Device flags and baseband capabilities.
+    // Five bits: how the device may be found, and what else it speaks.
     Flags(Flags),
     ServiceUuids16 {
         complete: bool,
@@ -543,7 +543,7 @@ impl Flags {
         }
     }
 
-    // Flags for discoverable devices that want to establish a connection.
+    // The Flags of a start: general discoverable, no BR/EDR.
     pub fn discoverable() -> Flags
         ensures { λ r. ⌜ r .bits ≡ 0x06 ⌝ }
     {
