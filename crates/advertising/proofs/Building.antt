@@ -6,7 +6,7 @@ use mathlib.Core.Path.{_≡_, refl, ap, subst, _∙_}
 use Prim.Native.Nat.{ℕ, suc, _+_, _-_, _≤_, _<_}
 use native.Mathlib.Numerals.{add-one}
 use native.Mathlib.Omega.{arith}
-use lib.Dec.{eqb}
+use lib.Dec.{eqb, ltb}
 use lib.ListN.{length, getD, set, take, length-append}
 use lib.Seq.{take-at, take-length}
 use borrow.Author.Tests.{lt-ltb, le-ltb}
@@ -33,6 +33,7 @@ use Rattle.advertising.specs.Pdu.{undirectedFigure, noRequest, noAddress
 use Rattle.advertising.specs.PduBuf.{padded, headerFor, bufOf, refusedBuf, afterReading, withRecords, builtOf, builtDirected, flagsRecord, payloadOf}
 use Rattle.advertising.specs.declared.pdu.AdvData.{AdvData}
 use Rattle.advertising.specs.declared.pdu.Outcome.the-variants.{Accepted}
+use Rattle.advertising.specs.declared.pdu_buf.Built.{Built}
 use Rattle.advertising.proofs.Accepting.{accepting}
 use Rattle.advertising.proofs.Buffers.{room}
 use Rattle.advertising.proofs.Figures.{behind}
@@ -93,6 +94,13 @@ payload-back ty tx rx xs code fits =
     let counts : lengthOf (headerFor ty tx rx (length xs)) ≡ length xs = says ty tx rx (length xs) code (omega arith) .len in
     ap (λ (n : ℕ). take n (padded xs)) counts ∙ take-at xs (room xs) (length xs) refl
 
+-- what a test of a size picks
+too-small : (n m : ℕ) (x y : Built) → n < m → cond (ltb n m) x y ≡ x
+too-small n m x y h = rw (lt-ltb n m h)
+
+enough-space : (n m : ℕ) (x y : Built) → m ≤ n → cond (ltb n m) x y ≡ y
+enough-space n m x y h = rw (le-ltb n m h)
+
 -- an address, and records of which n are read
 back : (ty : PduType) (a : DeviceAddress) (flags s : List ℕ) (n m : ℕ) → allowsAdvData ty ≡ true → length (a .bytes) ≡ 6
     → length flags + length s ≤ 31 → readArea s ≡ area.Accepted n → readArea (flags ++ rewritten s) ≡ area.Accepted m → ReadsBack ty a flags s m
@@ -104,7 +112,7 @@ back ty a flags s n m allows six fits good again =
     let as-long : length (rewritten s) ≡ length s = round-trip s .as-long in
     let size : length records ≡ length flags + length s = simp length-append (omega arith) in
     let whole : length xs ≡ 6 + length records = simp length-append (omega arith) in
-    let space : 37 - length (a .bytes ++ flags) ≡ 31 - length flags = simp length-append (omega arith) in
+    let front : length (a .bytes ++ flags) ≡ 6 + length flags = simp length-append (omega arith) in
     let code : Coded ty = coded ty allows in
     let head = says ty tx false (length xs) code (omega arith) in
     let payload : payloadOf (bufOf ty tx false xs) ≡ xs = payload-back ty tx false xs code (omega arith) in
@@ -115,7 +123,7 @@ back ty a flags s n m allows six fits good again =
     rw (head .sender, kind-back (a .kind)) in
     record {
       pdu = bufOf ty tx false xs;
-      built = rw (good, space, le-ltb (31 - length flags) (length s) (omega arith));
+      built = rw good (enough-space (37 - length (a .bytes ++ flags)) (length s) (refusedBuf Eof) (record { outcome = Accepted; pdu = bufOf ty tx false xs }) (omega arith));
       header = let long : length xs ≡ 6 + (length flags + length s) = omega arith in ap (headerFor ty tx false) long;
       payload = payload;
       place = place;
@@ -163,7 +171,7 @@ refused-area ty a flags s e bad = rw bad
 refused-size : (ty : PduType) (a : DeviceAddress) (flags s : List ℕ) (n : ℕ) → readArea s ≡ area.Accepted n → length (a .bytes ++ flags) ≤ 37
     → 37 < length (a .bytes ++ flags) + length s → builtOf ty a flags s ≡ refusedBuf Eof
 unfolding withRecords afterReading
-refused-size ty a flags s n good front long = rw (good, lt-ltb (37 - length (a .bytes ++ flags)) (length s) (omega arith))
+refused-size ty a flags s n good front long = rw good (too-small (37 - length (a .bytes ++ flags)) (length s) (refusedBuf Eof) _ (omega arith))
 
 pub building : Building
 building =

@@ -6,10 +6,11 @@ use denote.Enum.Declared.{tagOf}
 use Rattle.addresses.proofs.header.PduType.{the-type}
 use mathlib.Core.Path.{_≡_, refl, sym, _∙_}
 use Prim.Native.Nat.{ℕ}
+use lib.ListN.{length}
 use borrow.Author.Tests.{eq-eqb, ne-eqb}
 use borrow.Author.Needs.{needs}
 use Rattle.advertising.specs.Pdu.{byType, undirected, directed, decodeOf}
-use Rattle.addresses.specs.Header.{allowsAdvData}
+use Rattle.addresses.specs.Header.{allowsAdvData, lengthOf}
 use Rattle.addresses.specs.declared.header.Header.{Header}
 use Rattle.addresses.specs.declared.header.PduType.{PduType}
 use Rattle.addresses.specs.declared.header.PduType.the-variants.{AdvInd, AdvDirectInd, AdvNonconnInd, AdvScanInd, ScanReq, ScanRsp, ConnectReq, Unknown}
@@ -18,14 +19,20 @@ use Rattle.advertising.proofs.pdu.Pdu.from_header_and_payload.Tie as ti
 
 returns : tie.Need-returns
 unfolding decodeOf
-returns c = c .refused .ensures ∙ rw (← c .before .before .payload-length .ensures, ne-eqb _ _ (c .before .if1 .taken))
+returns c =
+    let a = c .before .before .before .before .args in
+    let differ : lengthOf (a .header) ≡ length (a .payload .now) → ⊥ = λ e. c .before .if1 .taken (c .before .before .payload-length .ensures ∙ e) in
+    c .refused .ensures ∙ rw (ne-eqb (lengthOf (a .header)) (length (a .payload .now)) differ)
 
 -- the length agrees, and the type decides
 arm : (c : tie.After-type-) (ty : PduType) → c .type- .result ≡ ty
     → let a = c .before .before .before .before .args in
     byType ty (a .header) (a .payload .now) ≡ decodeOf (a .header) (a .payload .now)
 unfolding decodeOf
-arm c ty is = rw (← c .before .before .payload-length .ensures, eq-eqb _ _ (c .before .if1 .left), ← c .type- .ensures, is)
+arm c ty is =
+    let a = c .before .before .before .before .args in
+    let same : lengthOf (a .header) ≡ length (a .payload .now) = sym (c .before .before .payload-length .ensures) ∙ c .before .if1 .left in
+    rw (eq-eqb (lengthOf (a .header)) (length (a .payload .now)) same, ← c .type- .ensures, is)
 
 with-records : (ty : PduType) (h : Header) (p : List ℕ) → allowsAdvData ty ≡ true → undirected ty h p ≡ byType ty h p
 unfolding byType
