@@ -1,5 +1,7 @@
 -- `pdu::read_directed` meets its contract. Assumes nothing.
 use mathlib.Core.Path.{_∙_}
+use native.Mathlib.Omega.{arith}
+use lib.ListN.{length}
 use borrow.Author.Tests.{lt-ltb, le-ltb}
 use borrow.Author.Needs.{needs}
 use Rattle.advertising.specs.Pdu.{directed}
@@ -8,7 +10,7 @@ use Rattle.advertising.proofs.pdu.read_directed.Tie as tie
 
 returns : tie.Need-returns
 unfolding directed
-returns c = c .refused .ensures ∙ rw (lt-ltb _ _ (c .before .if1 .taken))
+returns c = c .refused .ensures ∙ rw (lt-ltb (length (c .before .before .before .args .payload .now)) 12 (omega arith))
 
 returns-2 : tie.Need-returns-2
 unfolding directed
@@ -23,7 +25,7 @@ returns-2 c =
       second .before .rx-add .ensures,
       first .address-at .ensures,
       first .before .tx-add .ensures,
-      le-ltb _ _ (first .before .before .if1 .left),
+      le-ltb (length (first .before .before .before .before .args .payload .now)) 12 (omega arith),
     )
 
 pub read-directed-spec : {M : Type 1} → statement M

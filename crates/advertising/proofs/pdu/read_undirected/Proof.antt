@@ -16,7 +16,7 @@ use Rattle.advertising.proofs.pdu.read_undirected.Tie as tie
 
 returns : tie.Need-returns
 unfolding undirected
-returns c = c .refused .ensures ∙ rw (lt-ltb _ _ (c .before .if1 .taken))
+returns c = c .refused .ensures ∙ rw (lt-ltb (length (c .before .before .before .args .payload .now)) 6 (omega arith))
 
 -- the test passed, with the area as the code takes it
 passed : (ty : PduType) (h : Header) (p : List ℕ) → 6 ≤ length p
@@ -27,7 +27,9 @@ passed ty h p long = rw (le-ltb (length p) 6 long, take-all (length p - 6) (drop
 read : (c : tie.After-read-area)
     → let a = c .before .before .before .before .args in
     undirected (a .ty) (a .header) (a .payload .now) ≡ withArea (a .ty) (a .header) (a .payload .now) (c .read-area .result)
-read c = passed _ _ _ (c .before .before .if1 .left) ∙ ap (withArea _ _ _) (sym (c .read-area .ensures))
+read c =
+    let a = c .before .before .before .before .args in
+    passed (a .ty) (a .header) (a .payload .now) (omega arith) ∙ ap (withArea _ _ _) (sym (c .read-area .ensures))
 
 returns-2 : tie.Need-returns-2
 unfolding withArea
