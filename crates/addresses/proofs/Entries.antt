@@ -1,16 +1,21 @@
 -- What it means that some number passes a test, and that a whitelist matches. Assumes nothing.
 use mathlib.Core.Bool.{Bool, true, false, cond, not, _||_}
-use mathlib.Core.List.{List}
-use mathlib.Core.Path.{_≡_, refl, ap, _∙_}
-use Prim.Native.Nat.{ℕ, zero, suc, _*_, _/_, _%_, _≤_, _<_}
+use mathlib.Core.List.{List, _∷_}
+use mathlib.Core.Path.{_≡_, refl, sym, ap, _∙_}
+use Prim.Native.Nat.{ℕ, zero, suc, _+_, _*_, _/_, _%_, _≤_, _<_}
 use native.Mathlib.Omega.{arith}
 use lib.ListN.{length, getD}
 use lib.Dec.{eqb, ltb}
 use borrow.Author.Tests.{eqb-true, ltb-false, not-true}
+use Rattle.octets.proofs.Places.{front}
 use Rattle.octets.proofs.Sequences.{both-true}
+use Rattle.octets.specs.Bytes.{part}
 use Rattle.octets.specs.declared.error.Error.the-variants.{InvalidValue}
+use Rattle.addresses.specs.Address.{kindNumber, kindOf}
 use Rattle.addresses.specs.Filter.{any, entryAt, badKind, entryIs, isList, whitelisted}
 use Rattle.addresses.specs.Laws.{Entry, Listed}
+use Rattle.addresses.specs.declared.device_address.AddressKind.{AddressKind}
+use Rattle.addresses.specs.declared.device_address.AddressKind.the-variants.{Public, Random}
 use Rattle.addresses.specs.declared.device_address.DeviceAddress.{DeviceAddress}
 use Rattle.addresses.specs.declared.filter.Matches.the-variants.{Is, Refused}
 use Rattle.addresses.proofs.Addresses.{equality}
@@ -66,33 +71,71 @@ kind-small list n i none h = go (ltb 1 (getD list (7 * i) 0)) refl
         absurd (omega arith)
     go false e = ltb-false 1 (getD list (7 * i) 0) e
 
+-- an address as an entry has it
+abbrev octetsOf : DeviceAddress → List ℕ
+octetsOf a = kindNumber (a .kind) ∷ a .bytes
+
+octets-same : (a b : DeviceAddress) → octetsOf a ≡ octetsOf b → a ≡ b
+octets-same a b e =
+    let first : kindNumber (a .kind) ≡ kindNumber (b .kind) = cc in
+    let others : a .bytes ≡ b .bytes = cc in
+    let kinds = kind-same (a .kind) (b .kind) first in
+    λ i. record { bytes = others i; kind = kinds i }
+  where
+    kind-same : (k l : AddressKind) → kindNumber k ≡ kindNumber l → k ≡ l
+    kind-same Public Public e = refl
+    kind-same Random Random e = refl
+    kind-same Public Random e = absurd (omega (arith, e))
+    kind-same Random Public e = absurd (omega (arith, e))
+
+-- the octets of an entry of a list
+entry-octets : (list : List ℕ) (i : ℕ) → 7 * i + 7 ≤ length list → getD list (7 * i) 0 ≤ 1 → part 7 list (7 * i) ≡ octetsOf (entryAt list i)
+entry-octets list i inside small = rw (front list (7 * i) (omega arith)) (ap (λ (k : ℕ). k ∷ part 6 list (7 * i + 1)) (numbered (getD list (7 * i) 0) small))
+  where
+    numbered : (k : ℕ) → k ≤ 1 → k ≡ kindNumber (kindOf (eqb k 1))
+    numbered zero h = refl
+    numbered (suc zero) h = refl
+    numbered (suc (suc k)) h = absurd (omega arith)
+
 pub listed : (list : List ℕ) (a : DeviceAddress) → Listed list a
 unfolding whitelisted any
 listed list a =
     record {
-      tested = λ good.
-          let parts = both-true (eqb (length list % 7) 0) (not (any (badKind list) (length list / 7))) good in
-          (eqb-true (length list % 7) 0 (parts .0), λ i h. kind-small list (length list / 7) i (not-true (any (badKind list) (length list / 7)) (parts .1)) h);
+      tested = tested;
       refused = λ bad. rw bad;
       sound = sound (isList list) refl;
       complete = λ good entry.
-          let found = any-found (entryIs list a) (length list / 7) (entry .place) (entry .inside) (equality (entryAt list (entry .place)) a .complete (entry .is)) in
+          let same : entryAt list (entry .place) ≡ a = octets-same (entryAt list (entry .place)) a (sym (octets-there good (entry .place) (entry .inside)) ∙ entry .is) in
+          let found = any-found (entryIs list a) (length list / 7) (entry .place) (entry .inside) (equality (entryAt list (entry .place)) a .complete same) in
           rw (good, found);
-      other = λ good none. rw good (ap Is (nobody (any (entryIs list a) (length list / 7)) refl none));
+      other = λ good none. rw good (ap Is (nobody good (any (entryIs list a) (length list / 7)) refl none));
       empty = refl;
     }
   where
-    nobody : (b : Bool) → any (entryIs list a) (length list / 7) ≡ b → (Entry list a → ⊥) → b ≡ false
-    nobody true e none =
-        let found = any-passing (entryIs list a) (length list / 7) e in
-        absurd (none (record { place = found .number; inside = found .below; is = equality (entryAt list (found .number)) a .sound (found .passes) }))
-    nobody false e none = refl
+    tested : isList list ≡ true → (length list % 7 ≡ 0) × ((i : ℕ) → i < length list / 7 → getD list (7 * i) 0 ≤ 1)
+    tested good =
+        let parts = both-true (eqb (length list % 7) 0) (not (any (badKind list) (length list / 7))) good in
+        (eqb-true (length list % 7) 0 (parts .0), λ i h. kind-small list (length list / 7) i (not-true (any (badKind list) (length list / 7)) (parts .1)) h)
+
+    octets-there : isList list ≡ true → (i : ℕ) → i < length list / 7 → part 7 list (7 * i) ≡ octetsOf (entryAt list i)
+    octets-there good i h = entry-octets list i (omega arith) (tested good .1 i h)
+
+    entry-of : isList list ≡ true → Passing (entryIs list a) (length list / 7) → Entry list a
+    entry-of good found =
+        record {
+          place = found .number;
+          inside = found .below;
+          is = octets-there good (found .number) (found .below) ∙ ap octetsOf (equality (entryAt list (found .number)) a .sound (found .passes));
+        }
+
+    nobody : isList list ≡ true → (b : Bool) → any (entryIs list a) (length list / 7) ≡ b → (Entry list a → ⊥) → b ≡ false
+    nobody good true e none = absurd (none (entry-of good (any-passing (entryIs list a) (length list / 7) e)))
+    nobody good false e none = refl
 
     sound : (b : Bool) → isList list ≡ b → cond (isList list) (Is (any (entryIs list a) (length list / 7))) (Refused InvalidValue) ≡ Is true → Entry list a
     sound true e is =
         let answer = rw e at is in
-        let found = any-passing (entryIs list a) (length list / 7) (cc) in
-        record { place = found .number; inside = found .below; is = equality (entryAt list (found .number)) a .sound (found .passes) }
+        entry-of e (any-passing (entryIs list a) (length list / 7) (cc))
     sound false e is =
         let answer = rw e at is in
         let z : _≡_ {A = ℕ} 0 1 = cc in

@@ -8,9 +8,10 @@ use mathlib.Core.List.{List, [], _∷_}
 use mathlib.Core.Path.{_≡_}
 use Prim.Native.Nat.{ℕ, _*_, _/_, _%_, _≤_, _<_, _^_}
 use lib.ListN.{length, getD, set}
+use Rattle.octets.specs.Bytes.{part}
 use Rattle.octets.specs.declared.error.Error.the-variants.{InvalidValue}
-use Rattle.addresses.specs.Address.{sameAddress}
-use Rattle.addresses.specs.Filter.{entryAt, isList, matchesOf}
+use Rattle.addresses.specs.Address.{kindNumber, sameAddress}
+use Rattle.addresses.specs.Filter.{isList, matchesOf}
 use Rattle.addresses.specs.Header.{typeCode, pduType, bits, setTxAdd, setRxAdd, setLength}
 use Rattle.addresses.specs.declared.device_address.DeviceAddress.{DeviceAddress}
 use Rattle.addresses.specs.declared.filter.AddressFilter.the-variants.{Whitelist}
@@ -23,11 +24,11 @@ pub record Equality (a b : DeviceAddress) : Type 0 where
   pub sound : sameAddress a b ≡ true → a ≡ b
   pub complete : a ≡ b → sameAddress a b ≡ true
 
--- an entry of a list that is the address a
+-- an entry of a list that is the address a: its octets are the kind, then the address
 pub record Entry (list : List ℕ) (a : DeviceAddress) : Type 0 where
   pub place : ℕ
   pub inside : place < length list / 7
-  pub is : entryAt list place ≡ a
+  pub is : part 7 list (7 * place) ≡ kindNumber (a .kind) ∷ a .bytes
 
 -- A whitelist matches an address if some entry is equal; an empty one never does.
 pub record Listed (list : List ℕ) (a : DeviceAddress) : Type 0 where
