@@ -10,7 +10,10 @@ is : (c : tie.After-hop-channel)
     → let d = c .before .before .before .args .self in
     hops d ≡ hoppedTo d (c .hop-channel .result)
 unfolding hops
-is c = ap (hoppedTo _) (sym (c .hop-channel .ensures))
+is c =
+    let d = c .before .before .before .args .self in
+    let hop : c .hop-channel .result ≡ hopped (d .conn .«channel_map») (d .conn .«unmapped_channel») (d .conn .hop) = c .hop-channel .ensures in
+    ap (hoppedTo d) (sym hop)
 
 returns : tie.Need-returns
 returns c = sym (is (c .before .before .before .before .before) ∙ ap (hoppedTo _) (c .before .before .before .unmapped .given .1))
