@@ -45,6 +45,18 @@ passed false e d ok = let z : _≡_ {A = ℕ} 0 1 = cc in absurd (omega arith)
 abbrev isDirected : PduType → Type 0
 isDirected ty = (ty ≡ AdvDirectInd) ⊎ (ty ≡ ScanReq)
 
+-- a type with records is read as an address and records
+pub arm-undirected : (ty : PduType) (h : Header) (p : List ℕ) → allowsAdvData ty ≡ true → byType ty h p ≡ undirected ty h p
+unfolding byType
+arm-undirected AdvInd h p e = refl
+arm-undirected AdvNonconnInd h p e = refl
+arm-undirected AdvScanInd h p e = refl
+arm-undirected ScanRsp h p e = refl
+arm-undirected AdvDirectInd h p e = (cc)
+arm-undirected ScanReq h p e = (cc)
+arm-undirected ConnectReq h p e = (cc)
+arm-undirected (Unknown n) h p e = (cc)
+
 module _ (h : Header) (p : List ℕ) where
   undirected-sound : (ty : PduType) → typeOf h ≡ ty → allowsAdvData ty ≡ true → undirected ty h p .outcome ≡ Accepted → Shaped h p (undirected ty h p)
   unfolding undirected withArea
@@ -85,17 +97,6 @@ module _ (h : Header) (p : List ℕ) where
   by-type (Unknown n) is ok = let z : _≡_ {A = ℕ} 0 1 = cc in absurd (omega arith)
 
   -- the arms of the types
-  arm-undirected : (ty : PduType) → allowsAdvData ty ≡ true → byType ty h p ≡ undirected ty h p
-  unfolding byType
-  arm-undirected AdvInd e = refl
-  arm-undirected AdvNonconnInd e = refl
-  arm-undirected AdvScanInd e = refl
-  arm-undirected ScanRsp e = refl
-  arm-undirected AdvDirectInd e = let z : _≡_ {A = ℕ} 0 1 = cc in absurd (omega arith)
-  arm-undirected ScanReq e = let z : _≡_ {A = ℕ} 0 1 = cc in absurd (omega arith)
-  arm-undirected ConnectReq e = let z : _≡_ {A = ℕ} 0 1 = cc in absurd (omega arith)
-  arm-undirected (Unknown n) e = let z : _≡_ {A = ℕ} 0 1 = cc in absurd (omega arith)
-
   arm-directed : (ty : PduType) → isDirected ty → byType ty h p ≡ directed ty h p
   unfolding byType
   arm-directed ty (inl is) = rw is
@@ -137,7 +138,7 @@ module _ (h : Header) (p : List ℕ) where
   complete : (d : Decoded) → lengthOf h ≡ length p → Shaped h p d → decodeOf h p ≡ d
   unfolding decodeOf
   complete d counts (with-records ty advA records n is allows fig good e) =
-      rw (eq-eqb (lengthOf h) (length p) counts, is) (arm-undirected ty allows ∙ undirected-is ty fig good ∙ sym e)
+      rw (eq-eqb (lengthOf h) (length p) counts, is) (arm-undirected ty h p allows ∙ undirected-is ty fig good ∙ sym e)
   complete d counts (two-addresses ty first second further is which fig e) =
       rw (eq-eqb (lengthOf h) (length p) counts, is) (arm-directed ty which ∙ directed-is ty fig ∙ sym e)
   complete d counts (with-lldata initA advA aa crcInit winSize winOffset interval latency timeout chM hopSca further is fig e) =

@@ -1,9 +1,11 @@
--- Document 01's rows on PDUs, and a connect request field by field, hold of the definitions. Computed. Assumes nothing.
+-- Document 01's rows on PDUs, a connect request field by field, and the accuracies by their codes hold of the definitions. Computed. Assumes nothing.
 use mathlib.Core.Path.{refl}
+use Prim.Native.Nat.{zero, suc}
+use native.Mathlib.Omega.{arith}
 use Rattle.addresses.specs.Header.{pduType}
 use Rattle.records.specs.Area.{cut, reads, before, areaOf, readArea}
 use Rattle.records.specs.Record.{named, first, flagsRead, dataRead, upTo, recordRead}
-use Rattle.advertising.specs.Laws.{Rows, Example}
+use Rattle.advertising.specs.Laws.{Rows, Example, Accuracies}
 use Rattle.advertising.specs.Pdu.{requestOf, withArea, undirected, connectRequest, byType, decodeOf}
 
 pub rows : Rows
@@ -21,3 +23,14 @@ rows =
 pub example : Example
 unfolding decodeOf byType connectRequest requestOf pduType
 example = record { connect-request = refl }
+
+pub accuracies : Accuracies
+accuracies zero h = refl
+accuracies (suc zero) h = refl
+accuracies (suc (suc zero)) h = refl
+accuracies (suc (suc (suc zero))) h = refl
+accuracies (suc (suc (suc (suc zero)))) h = refl
+accuracies (suc (suc (suc (suc (suc zero))))) h = refl
+accuracies (suc (suc (suc (suc (suc (suc zero)))))) h = refl
+accuracies (suc (suc (suc (suc (suc (suc (suc zero))))))) h = refl
+accuracies (suc (suc (suc (suc (suc (suc (suc (suc n)))))))) h = absurd (omega arith)

@@ -3,12 +3,13 @@
 --   Building      Building.building      what is read of a PDU that was built
 --   Rows          Rows.rows              document 01's rows
 --   Example       Rows.example           a connect request, field by field
+--   Accuracies    Rows.accuracies        the sleep clock accuracies by their codes
 use mathlib.Core.Bool.{true, false}
 use mathlib.Core.List.{List, [], _∷_, _++_, map, flatten}
 use mathlib.Core.Logic.{_⊎_}
 use mathlib.Core.Path.{_≡_}
 use Prim.Native.Nat.{ℕ, _+_, _*_, _/_, _%_, _≤_, _<_}
-use lib.ListN.{length}
+use lib.ListN.{length, getD}
 use Rattle.addresses.specs.Address.{kindOf, isRandom, addressOf}
 use Rattle.addresses.specs.Header.{headerOf, typeOf, txAdd, rxAdd, lengthOf, allowsAdvData}
 use Rattle.addresses.specs.declared.device_address.AddressKind.the-variants.{Public, Random}
@@ -27,7 +28,8 @@ use Rattle.advertising.specs.PduBuf.{headerFor, refusedBuf, builtOf, bui
 use Rattle.advertising.specs.declared.pdu.AdvData.{AdvData}
 use Rattle.advertising.specs.declared.pdu.Decoded.{Decoded}
 use Rattle.advertising.specs.declared.pdu.Outcome.the-variants.{Accepted}
-use Rattle.advertising.specs.declared.pdu.SleepClockAccuracy.the-variants.{Ppm151To250}
+use Rattle.advertising.specs.declared.pdu.SleepClockAccuracy.{SleepClockAccuracy}
+use Rattle.advertising.specs.declared.pdu.SleepClockAccuracy.the-variants.{Ppm251To500, Ppm151To250, Ppm101To150, Ppm76To100, Ppm51To75, Ppm31To50, Ppm21To30, Ppm0To20}
 use Rattle.advertising.specs.declared.pdu_buf.PduBuf.{PduBuf}
 
 -- a payload is these fields, of the widths of a figure, and further octets
@@ -139,3 +141,18 @@ pub record Example : Type 0 where
         hop = 1;
         sca = Ppm151To250;
       })
+
+-- the worst clock of an accuracy, in ppm
+abbrev pub worstOf : SleepClockAccuracy → ℕ
+worstOf Ppm251To500 = 500
+worstOf Ppm151To250 = 250
+worstOf Ppm101To150 = 150
+worstOf Ppm76To100 = 100
+worstOf Ppm51To75 = 75
+worstOf Ppm31To50 = 50
+worstOf Ppm21To30 = 30
+worstOf Ppm0To20 = 20
+
+-- The eight codes go from the worst clock to the best (the Core, Vol 6 Part B, 2.3.3.1).
+abbrev pub Accuracies : Type 0
+Accuracies = (code : ℕ) → code < 8 → worstOf (accuracyOf code) ≡ getD (500 ∷ 250 ∷ 150 ∷ 100 ∷ 75 ∷ 50 ∷ 30 ∷ 20 ∷ []) code 0

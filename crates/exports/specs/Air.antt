@@ -11,6 +11,7 @@ use Rattle.octets.specs.declared.error.Error.{Error}
 use Rattle.octets.specs.declared.time.Instant.{Instant}
 use Rattle.channels.specs.Phy.{indexOf}
 use Rattle.addresses.specs.Address.{isRandom}
+use Rattle.addresses.specs.Header.{headerOf}
 use Rattle.addresses.specs.declared.filter.AddressFilter.{AddressFilter}
 use Rattle.addresses.specs.declared.filter.AddressFilter.the-variants.{AllowAll, Whitelist}
 use Rattle.addresses.specs.declared.header.HeaderMade.{HeaderMade}
@@ -25,6 +26,8 @@ use Rattle.beacon.specs.declared.beacon.BeaconScanner.{BeaconScanner}
 use Rattle.beacon.specs.declared.beacon.Broadcast.{Broadcast}
 use Rattle.beacon.specs.declared.beacon.Broadcast.the-variants as broadcast
 use Rattle.beacon.specs.declared.beacon.Made.{Made}
+use Rattle.beacon.specs.declared.beacon.Report.{Report}
+use Rattle.beacon.specs.declared.beacon.Report.the-variants as report
 use Rattle.beacon.specs.declared.beacon.Scanned.{Scanned}
 use Rattle.beacon.specs.declared.beacon.Updated.{Updated}
 use Rattle.exports.specs.Got.{found}
@@ -94,6 +97,15 @@ abbrev pub unheard : Error → Heard
 unheard e =
     record { number = numberOf e; reported = false; random = false; sender = 0 ∷ 0 ∷ 0 ∷ 0 ∷ 0 ∷ 0 ∷ []; start = 0; len = 0; count = 0; channel = 0 }
 
+-- "a filter list or name first (3)": without a header the scanner judges its list alone
+abbrev pub judgedBy : Report → Scanned → Error → Heard
+judgedBy report.Beacon s e = unheard e
+judgedBy report.Nothing s e = unheard e
+judgedBy (report.Refused x) s e = heardOf s
+
+abbrev pub headlessOf : BeaconScanner → List ℕ → Error → Heard
+headlessOf s list e = judgedBy (scanned s (headerOf 0) [] false list .report) (scanned s (headerOf 0) [] false list) e
+
 abbrev pub heardFrom : BeaconScanner → HeaderMade → List ℕ → Bool → List ℕ → Heard
 heardFrom s (made.Header h) p crcOk list = heardOf (scanned s h p crcOk list)
-heardFrom s (made.Refused e) p crcOk list = unheard e
+heardFrom s (made.Refused e) p crcOk list = headlessOf s list e

@@ -5,13 +5,14 @@ ghost use Rattle.addresses.specs.Header.{parsed};
 ghost use Rattle.beacon.specs.Sending.{beaconOf};
 ghost use Rattle.beacon.specs.Scanner.{timerUpdated, reportNumber, isReport};
 ghost use mathlib.Core.Bool.{false};
-ghost use Rattle.exports.specs.Air.{broadcastSent, notSent, beaconSent, beaconAfter, filterFor, scannerAfter, updatedGot, heardOf, heardFrom, unheard};
+ghost use Rattle.exports.specs.Air.{broadcastSent, notSent, beaconSent, beaconAfter, filterFor, scannerAfter, updatedGot, heardOf, heardFrom, judgedBy, headlessOf, unheard};
 use crate::got::Got;
 use crate::got::found;
 use crate::packets::address;
 use addresses::filter::AddressFilter;
 use addresses::header::Header;
 use addresses::header::HeaderMade;
+use addresses::header::PduType;
 use advertising::pdu::Outcome;
 use beacon::beacon::Beacon;
 use beacon::beacon::BeaconScanner;
@@ -189,6 +190,29 @@ fn no_header(e: Error) -> Heard
     }
 }
 
+// Without a header the scanner judges its list alone.
+fn judged(scanned: Scanned, e: Error) -> Heard
+    ensures { λ r. ⌜ r ≡ judgedBy (scanned .report) scanned e ⌝ }
+{
+    let report = scanned.report;
+    match report {
+        Report::Beacon => no_header(e),
+        Report::Nothing => no_header(e),
+        Report::Refused(_) => told(scanned),
+    }
+}
+
+// A header that is too short. A bad list is refused before it.
+fn headless(listening: BeaconScanner, list: &[u8], e: Error) -> Heard
+    ensures { λ r. ⌜ r ≡ headlessOf listening (now (list .entry)) e ⌝ }
+{
+    let header = Header::new(PduType::AdvInd);
+    judged(
+        listening.process_adv_packet(header, &list[..0], false, list),
+        e,
+    )
+}
+
 #[no_mangle]
 pub extern "C" fn board_scan(
     filtered: bool,
@@ -204,6 +228,6 @@ pub extern "C" fn board_scan(
     let listening = updated.scanner;
     match Header::parse(header) {
         HeaderMade::Header(h) => told(listening.process_adv_packet(h, payload, crc_ok, list)),
-        HeaderMade::Refused(e) => no_header(e),
+        HeaderMade::Refused(e) => headless(listening, list, e),
     }
 }

@@ -10,7 +10,7 @@ use Rattle.items.proofs.Items.{one-whole, none-whole}
 use Rattle.items.specs.Item.{sizeOf, wholeSize, items, behind}
 use Rattle.hub.specs.Line.{reportLine, line, reportsIn}
 use Rattle.hub.specs.Log.{heardIn, scannerAfter, after, printed, afterAll, printedAll, lastLine, logOf}
-use Rattle.hub.specs.Sample.{beacon, Sample}
+use Rattle.hub.specs.Sample.{beacon, badBeacon, longPacket, Sample}
 
 -- step by step: computing `items` would unfold it 999,999 times
 both : items 999999 (0x00 ∷ beacon) ≡ (0x00 ∷ []) ∷ beacon ∷ []
@@ -24,6 +24,40 @@ no-items : items 999999 [] ≡ []
 unfolding sizeOf wholeSize
 no-items = none-whole 999999 [] refl
 
+-- an item by itself
+alone : (s : List ℕ) → items 999999 s ≡ s ∷ items 999998 [] → items 999999 s ≡ s ∷ []
+unfolding sizeOf wholeSize
+alone s one = one ∙ ap (λ (its : List (List ℕ)). s ∷ its) (none-whole 999998 [] refl)
+
+bad-item : items 999999 badBeacon ≡ badBeacon ∷ []
+unfolding sizeOf wholeSize
+bad-item = alone badBeacon (one-whole 999998 badBeacon (λ e. omega arith))
+
+long-item : items 999999 longPacket ≡ longPacket ∷ []
+unfolding sizeOf wholeSize
+long-item = alone longPacket (one-whole 999998 longPacket (λ e. omega arith))
+
+above-item : items 999999 (0x01 ∷ 0x00 ∷ 0xC0 ∷ []) ≡ (0x01 ∷ 0x00 ∷ 0xC0 ∷ []) ∷ []
+unfolding sizeOf wholeSize
+above-item = alone (0x01 ∷ 0x00 ∷ 0xC0 ∷ []) (one-whole 999998 (0x01 ∷ 0x00 ∷ 0xC0 ∷ []) (λ e. omega arith))
+
+broken-item : items 999999 (0x03 ∷ []) ≡ []
+unfolding sizeOf wholeSize
+broken-item = none-whole 999999 (0x03 ∷ []) refl
+
+cut-item : items 999999 (0x01 ∷ 0x42 ∷ []) ≡ []
+unfolding sizeOf wholeSize
+cut-item = none-whole 999999 (0x01 ∷ 0x42 ∷ []) refl
+
 pub sample : Sample
 unfolding leading column behind flatten scanned heardIn scannerAfter reportLine line reportsIn after printed afterAll printedAll lastLine logOf
-sample = record { sample = rw (both, rows .row-42-09); empty = rw no-items }
+sample =
+    record {
+      sample = rw (both, rows .row-42-09);
+      empty = rw no-items;
+      crc-bad = rw bad-item;
+      six-bits = rw long-item;
+      two-above = rw above-item;
+      broken = rw broken-item;
+      cut-short = rw cut-item;
+    }

@@ -1,13 +1,30 @@
--- Document 01's sample of hublog, and an empty input.
+-- Document 01's sample of hublog, an empty input, and inputs that the sample leaves open.
 use mathlib.Core.Path.{_≡_}
 use mathlib.Core.List.{List, [], _∷_}
 use Prim.Native.Nat.{ℕ}
+use lib.ListN.{replicate}
 use Rattle.advertising.specs.Laws.{nine}
 use Rattle.hub.specs.Log.{logOf}
 
 -- 42 09 and its nine octets, CRC-good
 abbrev pub beacon : List ℕ
 beacon = 0x01 ∷ 0x42 ∷ 0x09 ∷ nine
+
+-- the same, CRC-bad
+abbrev pub badBeacon : List ℕ
+badBeacon = 0x02 ∷ 0x42 ∷ 0x09 ∷ nine
+
+-- a packet whose header counts 32 octets
+abbrev pub longPacket : List ℕ
+longPacket = 0x01 ∷ 0x00 ∷ 0x20 ∷ replicate 32 0
+
+-- "     1     0 0": one whole item, no report, nothing left over
+abbrev pub oneItem : List ℕ
+oneItem = 32 ∷ 32 ∷ 32 ∷ 32 ∷ 32 ∷ 49 ∷ 32 ∷ 32 ∷ 32 ∷ 32 ∷ 32 ∷ 48 ∷ 32 ∷ 48 ∷ 10 ∷ []
+
+-- "     0     0 1": no whole item, and octets left over
+abbrev pub brokenAtOnce : List ℕ
+brokenAtOnce = 32 ∷ 32 ∷ 32 ∷ 32 ∷ 32 ∷ 48 ∷ 32 ∷ 32 ∷ 32 ∷ 32 ∷ 32 ∷ 48 ∷ 32 ∷ 49 ∷ 10 ∷ []
 
 pub record Sample : Type 0 where
   -- a tick and that packet print "     2 1   1   2   3   4   5 198  1" and "     2     1 0"
@@ -19,3 +36,11 @@ pub record Sample : Type 0 where
       ∷ 32 ∷ 32 ∷ 32 ∷ 32 ∷ 32 ∷ 50 ∷ 32 ∷ 32 ∷ 32 ∷ 32 ∷ 32 ∷ 49 ∷ 32 ∷ 48 ∷ 10 ∷ []
   -- "     0     0 0"
   pub empty : logOf [] ≡ 32 ∷ 32 ∷ 32 ∷ 32 ∷ 32 ∷ 48 ∷ 32 ∷ 32 ∷ 32 ∷ 32 ∷ 32 ∷ 48 ∷ 32 ∷ 48 ∷ 10 ∷ []
+  -- a CRC-bad packet is an item and no report
+  pub crc-bad : logOf badBeacon ≡ oneItem
+  -- the length has six bits, and the two above them do not count
+  pub six-bits : logOf longPacket ≡ oneItem
+  pub two-above : logOf (0x01 ∷ 0x00 ∷ 0xC0 ∷ []) ≡ oneItem
+  -- another first octet, and an item that is cut short
+  pub broken : logOf (0x03 ∷ []) ≡ brokenAtOnce
+  pub cut-short : logOf (0x01 ∷ 0x42 ∷ []) ≡ brokenAtOnce

@@ -11,7 +11,7 @@ returns : tie.Need-returns
 returns c = c .told .ensures ∙ ap heardOf (c .before .process-adv-packet .ensures) ∙ ap (λ (m : HeaderMade). heardFrom (c .before .before .before .before .before .before .before .scanner .result .scanner) m (c .before .before .before .before .before .before .before .before .before .before .before .args .payload .now) (c .before .before .before .before .before .before .before .before .before .before .before .args .crc-ok) (c .before .before .before .before .before .before .before .before .before .before .before .args .list .now)) (sym (c .before .before .before .h .given .1) ∙ c .before .before .before .before .before .parse .ensures) ∙ ap (λ (u : Updated). heardFrom (u .scanner) (parsed (c .before .before .before .before .before .before .before .before .before .before .before .args .header .now)) (c .before .before .before .before .before .before .before .before .before .before .before .args .payload .now) (c .before .before .before .before .before .before .before .before .before .before .before .args .crc-ok) (c .before .before .before .before .before .before .before .before .before .before .before .args .list .now)) (c .before .before .before .before .before .before .before .scanner .ensures)
 
 returns-2 : tie.Need-returns-2
-returns-2 c = c .no-header .ensures ∙ ap (λ (m : HeaderMade). heardFrom (c .before .before .before .before .before .before .scanner .result .scanner) m (c .before .before .before .before .before .before .before .before .before .before .args .payload .now) (c .before .before .before .before .before .before .before .before .before .before .args .crc-ok) (c .before .before .before .before .before .before .before .before .before .before .args .list .now)) (sym (c .before .before .e .given .1) ∙ c .before .before .before .before .parse .ensures) ∙ ap (λ (u : Updated). heardFrom (u .scanner) (parsed (c .before .before .before .before .before .before .before .before .before .before .args .header .now)) (c .before .before .before .before .before .before .before .before .before .before .args .payload .now) (c .before .before .before .before .before .before .before .before .before .before .args .crc-ok) (c .before .before .before .before .before .before .before .before .before .before .args .list .now)) (c .before .before .before .before .before .before .scanner .ensures)
+returns-2 c = c .headless .ensures ∙ ap (λ (m : HeaderMade). heardFrom (c .before .before .before .before .before .before .scanner .result .scanner) m (c .before .before .before .before .before .before .before .before .before .before .args .payload .now) (c .before .before .before .before .before .before .before .before .before .before .args .crc-ok) (c .before .before .before .before .before .before .before .before .before .before .args .list .now)) (sym (c .before .before .e .given .1) ∙ c .before .before .before .before .parse .ensures) ∙ ap (λ (u : Updated). heardFrom (u .scanner) (parsed (c .before .before .before .before .before .before .before .before .before .before .args .header .now)) (c .before .before .before .before .before .before .before .before .before .before .args .payload .now) (c .before .before .before .before .before .before .before .before .before .before .args .crc-ok) (c .before .before .before .before .before .before .before .before .before .before .args .list .now)) (c .before .before .before .before .before .before .scanner .ensures)
 
 pub board-scan-spec : {M : Type 1} → statement M
 board-scan-spec = tie.close (tie.spec (λ c κs. search needs) (λ c κs. search needs) (λ c. search needs) (λ c κs. search needs) (λ c κs. search needs) (λ c. search needs) (λ c κs. search needs) returns returns-2)

@@ -1,5 +1,5 @@
 -- `Pdu::from_header_and_payload` meets its contract: the length is tested, then the type. Assumes nothing.
-use mathlib.Core.Bool.{true, false}
+use mathlib.Core.Bool.{false}
 use mathlib.Core.List.{List, [], _∷_}
 use types.Run.{OneOf, miss}
 use denote.Enum.Declared.{tagOf}
@@ -9,7 +9,8 @@ use Prim.Native.Nat.{ℕ}
 use lib.ListN.{length}
 use borrow.Author.Tests.{eq-eqb, ne-eqb}
 use borrow.Author.Needs.{needs}
-use Rattle.advertising.specs.Pdu.{byType, undirected, directed, decodeOf}
+use Rattle.advertising.proofs.Accepting.{arm-undirected}
+use Rattle.advertising.specs.Pdu.{byType, directed, decodeOf}
 use Rattle.addresses.specs.Header.{allowsAdvData, lengthOf}
 use Rattle.addresses.specs.declared.header.Header.{Header}
 use Rattle.addresses.specs.declared.header.PduType.{PduType}
@@ -34,17 +35,6 @@ arm c ty is =
     let same : lengthOf (a .header) ≡ length (a .payload .now) = sym (c .before .before .payload-length .ensures) ∙ c .before .if1 .left in
     rw (eq-eqb (lengthOf (a .header)) (length (a .payload .now)) same, ← c .type- .ensures, is)
 
-with-records : (ty : PduType) (h : Header) (p : List ℕ) → allowsAdvData ty ≡ true → undirected ty h p ≡ byType ty h p
-unfolding byType
-with-records AdvInd h p is = refl
-with-records AdvNonconnInd h p is = refl
-with-records AdvScanInd h p is = refl
-with-records ScanRsp h p is = refl
-with-records AdvDirectInd h p is = (cc)
-with-records ScanReq h p is = (cc)
-with-records ConnectReq h p is = (cc)
-with-records (Unknown n) h p is = (cc)
-
 without-records : (ty : PduType) (h : Header) (p : List ℕ) → OneOf (0 ∷ 1 ∷ 2 ∷ 3 ∷ 4 ∷ 5 ∷ []) (tagOf the-type ty) → allowsAdvData ty ≡ false → directed ty h p ≡ byType ty h p
 unfolding byType
 without-records AdvDirectInd h p one is = refl
@@ -58,7 +48,7 @@ without-records (Unknown n) h p one is = absurd (miss (0 ∷ 1 ∷ 2 ∷ 3 ∷ 4
 
 returns-2 : tie.Need-returns-2
 returns-2 c =
-    c .read-undirected .ensures ∙ with-records _ _ _ (sym (c .before .before .allows-adv-data .ensures) ∙ c .before .if2 .taken)
+    c .read-undirected .ensures ∙ sym (arm-undirected _ _ _ (sym (c .before .before .allows-adv-data .ensures) ∙ c .before .if2 .taken))
     ∙ arm (c .before .before .before) _ refl
 
 returns-3 : tie.Need-returns-3

@@ -1,6 +1,7 @@
 -- `Device::hop` meets its contract: the hop is made over the connection's own map, hop and unmapped channel. Assumes nothing.
 use mathlib.Core.Path.{_≡_, sym, ap, _∙_}
 use borrow.Author.Needs.{needs}
+use Rattle.channels.specs.Hop.{hopped}
 use Rattle.radio.specs.Calls.{hoppedTo, hops}
 use Rattle.radio.proofs.link.Device.hop.Statement.{statement}
 use Rattle.radio.proofs.link.Device.hop.Tie as tie
