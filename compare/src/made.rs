@@ -430,7 +430,7 @@ fn filter(rng: &mut Rng, address: &[u8], random: u64) -> Vec<u8> {
 
 pub fn scans(share: &Share, count: u64, each: Each) {
     let mut rng = share.rng(8);
-    for _ in 0..count / share.shares {
+    for turn in 0..count / share.shares {
         let (mut header, mut p) = packet(&mut rng);
         if rng.below(4) != 0 {
             let n = rng.below(40);
@@ -445,7 +445,11 @@ pub fn scans(share: &Share, count: u64, each: Each) {
         let random = (header[0] / 64 % 2) as u64;
         let list = filter(&mut rng, &sender, random);
         let crc = (rng.below(8) != 0) as u64;
-        each(&Request::new(Kind::Scan, &[rng.bit(), rng.below(4) as u64, crc], &[&list, &header, &p]));
+        let numbers = [rng.bit(), rng.below(4) as u64, crc];
+        each(&Request::new(Kind::Scan, &numbers, &[&list, &header, &p]));
+        if turn % 64 == 0 {
+            each(&Request::new(Kind::Scan, &numbers, &[&list, &header[..(turn / 64 % 2) as usize], &p]));
+        }
         each(&Request::new(Kind::Whitelist, &[random], &[&list, &sender]));
     }
 }

@@ -87,7 +87,6 @@ impl Request {
             Kind::Build | Kind::Beacon | Kind::Calls => part == 0,
             Kind::BuildDirected | Kind::Map | Kind::Events => true,
             Kind::Whitelist => part == 1,
-            Kind::Scan => part == 1,
             _ => false,
         }
     }

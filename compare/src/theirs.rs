@@ -580,7 +580,13 @@ fn scan_with<F: AddressFilter>(filter: F, r: &Request, out: &mut Vec<u8>) {
     for _ in 0..r.numbers[1] {
         let _ = scanner.timer_update(zero);
     }
-    let header = Header::parse(&r.parts[1]);
+    let header = match panics(4, || Header::parse(&r.parts[1])) {
+        Ok(header) => header,
+        Err(n) => {
+            out.push(n);
+            return out.extend([0; 12]);
+        }
+    };
     let (channel, next) = listens(scanner.process_adv_packet(header, &r.parts[2], r.numbers[2] == 1));
     assert!(matches!(next, NextUpdate::Keep));
     let report = *reports.borrow();
