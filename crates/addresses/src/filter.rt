@@ -1,4 +1,4 @@
-// Link-layer device filtering.
+// Filters: which devices a scanner hears, and which may scan or connect.
 ghost use mathlib.Core.Path.{_≡_};
 ghost use Prim.Native.Nat.{_+_, _*_, _/_, _≤_};
 ghost use lib.ListN.{length};
@@ -10,13 +10,13 @@ use octets::error::Error;
 
 // Which devices pass. The whitelist is lent beside it, as 7 octets for each address: its kind (0 public, 1 random), then its six octets.
 pub enum AddressFilter {
-    // All devices: no whitelist in use.
+    // Every device.
     AllowAll,
     // Those in the list.
     Whitelist,
 }
 
-// Whether a device passes, or why the list is none.
+// Whether a device passes, or the refusal of a malformed list.
 pub enum Matches {
     Is(bool),
     Refused(Error),
@@ -115,7 +115,7 @@ impl AdvFilter {
     }
 }
 
-// Scanner filter policy: which devices are scanned by this device.
+// Whose advertisements a scanner takes (the Core: scanner filter policy).
 pub struct ScanFilter {
     scan: AddressFilter,
 }

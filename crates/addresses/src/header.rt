@@ -26,7 +26,7 @@ pub enum HeaderRead {
 }
 
 impl Header {
-    // A header with the payload type `ty`. Of a type with a name the other bits are 0.
+    // The header that holds the code of a type and nothing else: for a type with a name, bits 4 to 15 are 0.
     pub fn new(ty: PduType) -> Header
         ensures { λ r. ⌜ r ≡ headerOf (typeCode ty) ⌝ }
     {
@@ -43,7 +43,7 @@ impl Header {
         HeaderMade::Header(Header(u16_from_le_bytes(raw[0], raw[1])))
     }
 
-    // The bits, which are sent least significant first as the first two octets of a PDU.
+    // The 16 bits; bit 0 goes out first.
     pub fn to_u16(self) -> u16
         ensures { λ r. ⌜ r ≡ self .0 ⌝ }
     {
@@ -134,7 +134,7 @@ impl Header {
     }
 }
 
-// The 4-bit type in a header.
+// What bits 0 to 3 of a header say, by the Core's names.
 pub enum PduType {
     // `ADV_IND`: to all devices, for connecting and scanning.
     AdvInd,
@@ -144,11 +144,11 @@ pub enum PduType {
     AdvNonconnInd,
     // `ADV_SCAN_IND`: to all devices, for scanning.
     AdvScanInd,
-    // Scan request (`SCAN_REQ`), from a scanning to an advertising device.
+    // `SCAN_REQ`: from a scanner to an advertiser.
     ScanReq,
-    // Scan response (`SCAN_RSP`), from an advertising to a scanning device.
+    // `SCAN_RSP`: the advertiser's answer to that.
     ScanRsp,
-    // Connect request (`CONNECT_IND`), from an initiating to an advertising device.
+    // `CONNECT_IND`, which rubble calls a connect request: from an initiator to an advertiser.
     ConnectReq,
     // Any other.
     Unknown(u8),
@@ -203,7 +203,7 @@ impl PduType {
         }
     }
 
-    // Whether records can follow the address in a PDU of this type.
+    // Whether such a PDU has records behind its address.
     pub fn allows_adv_data(self) -> bool
         ensures { λ r. ⌜ r ≡ allowsAdvData self ⌝ }
     {

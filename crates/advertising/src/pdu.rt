@@ -339,7 +339,7 @@ impl ConnectRequestData {
     pub fn end_of_tx_window(self) -> u32
         ensures { λ r. ⌜ r ≡ windowEnd self ⌝ }
     {
-        // The Core's transmitWindowDelay is 1.25 ms.
+        // 1,250 µs: the Core's transmitWindowDelay after a `CONNECT_IND`.
         let end = std::num::wrapping_add_u32(self.win_offset, self.win_size);
         std::num::wrapping_add_u32(end, 1250)
     }

@@ -58,7 +58,7 @@ impl PduBuf {
         PduBuf::adv(PduType::AdvInd, advertiser_addr, advertiser_data)
     }
 
-    // A connectable directed advertising PDU (`ADV_DIRECT_IND`), which holds no records.
+    // An `ADV_DIRECT_IND`: two addresses and no records.
     pub fn connectable_directed(
         advertiser_addr: DeviceAddress,
         initiator_addr: DeviceAddress,
@@ -98,14 +98,14 @@ impl PduBuf {
         PduBuf::adv(PduType::AdvScanInd, advertiser_addr, advertiser_data)
     }
 
-    // The PDU of a simple beacon: a non-connectable undirected one.
+    // What a beacon sends: an `ADV_NONCONN_IND` with these records.
     pub fn beacon(advertiser_addr: DeviceAddress, advertiser_data: &[u8]) -> Built
         ensures { λ r. ⌜ r ≡ builtOf AdvNonconnInd «advertiser_addr» [] (now («advertiser_data» .entry)) ⌝ }
     {
         PduBuf::nonconnectable_undirected(advertiser_addr, advertiser_data)
     }
 
-    // A PDU that makes this device visible for devices that want to connect: a connectable undirected one, with Flags before its records.
+    // What a start sends: an `ADV_IND` with the record of Flags and then these.
     pub fn discoverable(advertiser_addr: DeviceAddress, advertiser_data: &[u8]) -> Built
         ensures { λ r. ⌜ r ≡ builtOf AdvInd «advertiser_addr» flagsRecord (now («advertiser_data» .entry)) ⌝ }
     {
@@ -122,7 +122,7 @@ impl PduBuf {
         )
     }
 
-    // A scan response PDU (`SCAN_RSP`).
+    // A `SCAN_RSP` with these records.
     pub fn scan_response(advertiser_addr: DeviceAddress, scan_data: &[u8]) -> Built
         ensures { λ r. ⌜ r ≡ builtOf ScanRsp «advertiser_addr» [] (now («scan_data» .entry)) ⌝ }
     {

@@ -22,7 +22,7 @@ use octets::bytes::Written;
 use octets::error::Error;
 use octets::time::Instant;
 
-// A BLE beacon.
+// What is sent of a beacon: one PDU, built once.
 pub struct Beacon {
     pdu: PduBuf,
 }
@@ -40,7 +40,7 @@ pub enum Broadcast {
 }
 
 impl Beacon {
-    // A beacon of an address and records, which are lent encoded and must fit within a single PDU.
+    // A beacon of an address and records, which are lent encoded: at most 31 octets.
     pub fn new(addr: DeviceAddress, data: &[u8]) -> Made
         ensures { λ r. ⌜ r ≡ beaconOf addr (now («data» .entry)) ⌝ }
     {
@@ -61,7 +61,7 @@ impl Beacon {
         }
     }
 
-    // Broadcasts the beacon once on every advertising channel: the payload is written to the front of `tx`, or nothing where that is too short.
+    // Sends the beacon on 37, 38 and 39: the payload is written to the front of `tx`, or nothing where that is too short.
     pub fn broadcast(self, tx: &mut [u8]) -> Broadcast
         ensures { λ r. ⌜ (r ≡ broadcastOf self (now (tx .entry))) × (now (tx .exit) ≡ payloadAfter (self .pdu) (now (tx .entry))) ⌝ }
     {
@@ -87,13 +87,13 @@ pub struct Cmd {
     pub next_update: Instant,
 }
 
-// A scanner that listens.
+// A scanner that listens, and what the radio is to do for it.
 pub struct Updated {
     pub scanner: BeaconScanner,
     pub cmd: Cmd,
 }
 
-// Whether a packet is reported, or why the filter list is none.
+// Whether a packet is reported, or the refusal of a malformed filter list.
 pub enum Report {
     Beacon,
     Nothing,
@@ -110,14 +110,14 @@ pub struct Scanned {
 }
 
 impl BeaconScanner {
-    // A scanner that reports beacons from any device.
+    // A scanner without a filter: every sender passes.
     pub fn new() -> BeaconScanner
         ensures { λ r. ⌜ r ≡ scannerOf AllowAll ⌝ }
     {
         BeaconScanner::with_filter(AddressFilter::AllowAll)
     }
 
-    // A scanner with a device filter.
+    // A scanner that reports those senders only that a filter passes. It does not listen yet.
     pub fn with_filter(scan_filter: AddressFilter) -> BeaconScanner
         ensures { λ r. ⌜ r ≡ scannerOf «scan_filter» ⌝ }
     {
@@ -130,7 +130,7 @@ impl BeaconScanner {
         }
     }
 
-    // Configures the scanner, which begins to listen. The interval is in µs.
+    // Begins to listen, on the first channel. The interval is in µs.
     pub fn configure(self, time: Instant, interval: u32) -> Updated
         ensures { λ r. ⌜ r ≡ configured self time interval ⌝ }
     {
@@ -172,7 +172,7 @@ impl BeaconScanner {
         Updated { scanner: self, cmd }
     }
 
-    // Processes a packet that was received on an advertising channel. A bad filter list is refused, whatever the packet.
+    // Takes a packet from the channel that it listens on. A bad filter list is refused, whatever the packet.
     pub fn process_adv_packet(
         self,
         header: Header,

@@ -24,7 +24,7 @@ pub enum Mode {
     Standby,
     // Advertising, and ready for a connection.
     Advertising,
-    // Connected with another device.
+    // In a connection, whose events are asked for one by one.
     Connected,
 }
 
@@ -34,7 +34,7 @@ pub struct Advertisement {
     next_adv: Instant,
     // Microseconds from one tick to the next.
     interval: u32,
-    // The PDU to copy into the transmit buffer.
+    // What every tick sends.
     pdu: PduBuf,
     // The channel of the last tick.
     channel: AdvertisingChannel,
@@ -49,6 +49,7 @@ pub struct Connection {
     unmapped_channel: u8,
 }
 
+// rubble's `LinkLayer`. `adv` and `conn` have a meaning in their own mode only.
 pub struct Device {
     mode: Mode,
     dev_addr: DeviceAddress,
@@ -81,10 +82,11 @@ pub enum Answer {
     },
     // Listen on the data channel for the next event.
     NextEvent(DataChannel),
-    // Turn the radio off.
+    // Standby: nothing is sent, and nothing listened for.
     Stopped,
 }
 
+// What a call answers, and the device after it.
 pub struct Called {
     pub answer: Answer,
     pub device: Device,
@@ -330,6 +332,7 @@ impl Device {
         let hop = lldata.hop();
         match hop_channel(channel_map, 0, hop) {
             Hop::To { unmapped, channel } => {
+                // rubble's margin of 500 µs: with the 1,250 that the window's end includes, document 01's 1,750.
                 let at = rx_end.add(lldata.end_of_tx_window()).add(500);
                 let dev_addr = self.dev_addr;
                 let adv = self.adv;

@@ -41,18 +41,18 @@ pub enum AdStructure {
         start: usize,
         len: usize,
     },
-    // Service data with a 16-bit service UUID. The data may be empty.
+    // What a service says, after its UUID of 16 bits; that may be nothing.
     ServiceData16 {
         uuid: u16,
         start: usize,
         len: usize,
     },
-    // The full device name.
+    // The device's whole name, in UTF-8.
     CompleteLocalName {
         start: usize,
         len: usize,
     },
-    // The shortened device name.
+    // The beginning of that name.
     ShortenedLocalName {
         start: usize,
         len: usize,
@@ -293,7 +293,7 @@ fn write_lent(outline: Outline, data: &[u8], writer: ByteWriter, out: &mut [u8])
     Written::To(ByteWriter { at: at + 2 + len })
 }
 
-// Writes a record whose data lies in s.
+// Writes a record whose data lie in s.
 pub fn write_record(ad: AdStructure, s: &[u8], writer: ByteWriter, out: &mut [u8]) -> Written
     ensures { λ r. ⌜ (r ≡ writtenTo ad (now (s .entry)) (now (out .entry)) (writer .at)) × (now (out .exit) ≡ writtenAfter ad (now (s .entry)) (now (out .entry)) (writer .at)) ⌝ }
 {
@@ -516,7 +516,7 @@ pub fn next_uuid16(data: &[u8], at: usize) -> NextUuid16
     }
 }
 
-// BR/EDR and LE compatibility flags (the Supplement, Part A, 1.3).
+// The octet of a Flags record: discoverable modes, and BR/EDR beside LE (the Supplement, Part A, 1.3).
 pub struct Flags {
     bits: u8,
 }
@@ -552,7 +552,7 @@ impl Flags {
         }
     }
 
-    // Flags for devices that just broadcast.
+    // The Flags of a beacon: not discoverable, no BR/EDR.
     pub fn broadcast() -> Flags
         ensures { λ r. ⌜ r .bits ≡ 0x04 ⌝ }
     {
@@ -568,7 +568,7 @@ impl Flags {
         self.bits & Flags::ALL
     }
 
-    // rubble answers the opposite.
+    // As the Core has it; rubble answers the opposite (D21).
     pub fn supports_classic_bluetooth(self) -> bool
         ensures { λ r. ⌜ r ≡ eqb (bit 2 (self .bits)) 0 ⌝ }
     {
