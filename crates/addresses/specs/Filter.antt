@@ -6,7 +6,9 @@
 --   any p n               == some number below n passes p
 --   entryAt list i        == the address of entry i
 --   badKind list i        == the kind of entry i is neither public nor random
+--   entryIs list a i      == entry i is the address a
 --   isList list           == whole entries, each of a kind
+--   whitelisted list a    == whether some entry is the address a, or the refusal of what is no list
 --   matchesOf f list a    == whether the address a passes the filter f, with its list
 use mathlib.Core.Bool.{Bool, true, false, cond, not, _&&_, _||_}
 use mathlib.Core.List.{List}

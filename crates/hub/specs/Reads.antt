@@ -1,4 +1,4 @@
--- The log does not depend on the pieces in which the input is read.
+-- The log does not depend on the pieces in which the input is read (`AnyReads`), and a run's turns are never refused (`Turning`).
 use mathlib.Core.Path.{_≡_}
 use mathlib.Core.Bool.{false, cond}
 use mathlib.Core.List.{List, [], _∷_, _++_, flatten}

@@ -1,5 +1,14 @@
 -- Demand 3: what holds of every list of calls from a fresh device in standby. `demand-3` of proofs/Demand.antt proves it of every own address of six
--- octets and every list; `Words` of specs/Laws.antt says what its words mean.
+-- octets and every list; `Words` of specs/Laws.antt says what its words mean, and specs/Trace.antt has `Call`, `Entry` and `trace`.
+--   payloadIn c               == the payload of a packet call
+--   numberIn a                == the number that an answer refuses with; 0 where it refuses nothing
+--   isFirstEvent a            == the answer is a connection's first event
+--   Each P k es               == P holds of each entry and its place, counted from k
+--   transmitted xs c          == the lent buffers of the call c with the payload xs transmitted
+--   Tick, Ticks, TicksOf      == one tick of what a start set up, all of them, and the same by the call
+--   Events p es               == the events of the connection whose request has the payload p
+--   RefusedAt, TicksFrom, BeginsAt, EventsFrom   == what holds at an entry, with the entries after it
+--   Demand3 own calls         == the whole of demand 3
 use mathlib.Core.Bool.{Bool, true, false, _&&_}
 use mathlib.Core.List.{List, [], _∷_, _++_}
 use mathlib.Core.Path.{_≡_}

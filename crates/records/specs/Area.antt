@@ -1,9 +1,10 @@
--- What reading a whole area of records finds, and what writing its records again writes.
+-- What reading a whole area of records finds, and what writing its records again writes (the Core, Vol 3 Part C, 11; document 01, ad_structure.rs).
 --   records s             == the octets of each record, the last cut short where s ends within it
 --   reads rs at           == what reading each of these records finds, the first at position `at`
 --   readArea s            == the number of records, or the refusal of the first bad one
 --   clean r               == a record's octets, that of Flags without the bits that have no name
 --   rewritten s           == these of each record
+--   rewrittenTo s out, rewrittenAfter s out   == what writing them to the front of `out` answers, and what `out` then holds
 use mathlib.Core.Path.{_≡_}
 use Prim.Native.Nat.{ℕ, zero, suc, _+_}
 use mathlib.Core.Bool.{cond}
