@@ -241,6 +241,7 @@ fn read_connect_request(header: Header, payload: &[u8]) -> Decoded
     )
 }
 
+// What reading found, field by field.
 fn answered(
     outcome: Outcome,
     ty: PduType,

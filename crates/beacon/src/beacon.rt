@@ -117,7 +117,7 @@ impl BeaconScanner {
         BeaconScanner::with_filter(AddressFilter::AllowAll)
     }
 
-    // A scanner that reports those senders only that a filter passes. It does not listen yet.
+    // A scanner that reports those senders only that a filter passes.
     pub fn with_filter(scan_filter: AddressFilter) -> BeaconScanner
         ensures { λ r. ⌜ r ≡ scannerOf «scan_filter» ⌝ }
     {

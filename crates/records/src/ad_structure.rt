@@ -223,6 +223,7 @@ impl AdStructure {
     }
 }
 
+// The type octet of a complete list, or of an incomplete one.
 fn either(first: bool, a: u8, b: u8) -> u8
     ensures { λ r. ⌜ r ≡ cond first a b ⌝ }
 {

@@ -575,7 +575,7 @@ fn push(out: &mut [u8], n: usize, b: u8) -> usize
     n
 }
 
-// Two digits.
+// The octet of two digits, or 0 where one of them is none.
 fn both(high: u8, low: u8) -> u8 {
     if high < 16 {
         if low < 16 {
