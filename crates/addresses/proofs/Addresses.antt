@@ -1,5 +1,5 @@
 -- The test of two addresses is equality, octets and kind. Assumes nothing.
-use mathlib.Core.Bool.{Bool, true, false, _&&_}
+use mathlib.Core.Bool.{true, false}
 use mathlib.Core.List.{List, [], _∷_}
 use mathlib.Core.Path.{_≡_, refl}
 use Prim.Native.Nat.{ℕ, suc, _<_}
@@ -13,6 +13,7 @@ use Rattle.addresses.specs.Laws.{Equality}
 use Rattle.addresses.specs.declared.device_address.AddressKind.{AddressKind}
 use Rattle.addresses.specs.declared.device_address.AddressKind.the-variants.{Public, Random}
 use Rattle.addresses.specs.declared.device_address.DeviceAddress.{DeviceAddress}
+use Rattle.octets.proofs.Sequences.{both-true}
 
 -- octets from position i on, by those at the position
 module _ (xs ys : List ℕ) (i : ℕ) (h : i < length xs) (k : i < length ys) where
@@ -28,11 +29,7 @@ pub same-end : (xs ys : List ℕ) (i : ℕ) → i ≡ length xs → i ≡ length
 unfolding sameOctets
 same-end xs ys i h k = rw h (rw (drop-length xs, ← h, k, drop-length ys))
 
-both : (p q : Bool) → p && q ≡ true → (p ≡ true) × (q ≡ true)
-both true q e = (refl, e)
-both false q e = let z : _≡_ {A = ℕ} 0 1 = cc in absurd (omega arith)
-
-one-kind : (k l : AddressKind) → kindNumber k ≡ kindNumber l → k ≡ l
+pub one-kind : (k l : AddressKind) → kindNumber k ≡ kindNumber l → k ≡ l
 one-kind Public Public e = refl
 one-kind Public Random e = absurd (omega arith)
 one-kind Random Public e = absurd (omega arith)
@@ -44,7 +41,7 @@ octets-equal [] [] e = refl
 octets-equal [] (y ∷ ys) e = cc
 octets-equal (x ∷ xs) [] e = cc
 octets-equal (x ∷ xs) (y ∷ ys) e =
-    let parts = both (eqb x y) (sameOctets xs ys) e in
+    let parts = both-true (eqb x y) (sameOctets xs ys) e in
     let first = eqb-true x y (parts .0) in
     let rest = octets-equal xs ys (parts .1) in
     cc
@@ -59,7 +56,7 @@ unfolding sameAddress
 equality a b =
     record {
       sound = λ e.
-          let parts = both (eqb (kindNumber (a .kind)) (kindNumber (b .kind))) (sameOctets (a .bytes) (b .bytes)) e in
+          let parts = both-true (eqb (kindNumber (a .kind)) (kindNumber (b .kind))) (sameOctets (a .bytes) (b .bytes)) e in
           let kind = one-kind (a .kind) (b .kind) (eqb-true _ _ (parts .0)) in
           let bytes = octets-equal (a .bytes) (b .bytes) (parts .1) in
           λ i. record { bytes = bytes i; kind = kind i };

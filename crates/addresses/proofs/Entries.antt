@@ -1,5 +1,5 @@
 -- What it means that some number passes a test, and that a whitelist matches. Assumes nothing.
-use mathlib.Core.Bool.{Bool, true, false, cond, not, _||_}
+use mathlib.Core.Bool.{Bool, true, false, cond, not, _||_, or-false, or-true}
 use mathlib.Core.List.{List, _∷_}
 use mathlib.Core.Path.{_≡_, refl, sym, ap, _∙_}
 use Prim.Native.Nat.{ℕ, zero, suc, _+_, _*_, _/_, _%_, _≤_, _<_}
@@ -14,19 +14,9 @@ use Rattle.octets.specs.declared.error.Error.the-variants.{InvalidValue}
 use Rattle.addresses.specs.Address.{kindNumber, kindOf}
 use Rattle.addresses.specs.Filter.{any, entryAt, badKind, entryIs, isList, whitelisted}
 use Rattle.addresses.specs.Laws.{Entry, Listed}
-use Rattle.addresses.specs.declared.device_address.AddressKind.{AddressKind}
-use Rattle.addresses.specs.declared.device_address.AddressKind.the-variants.{Public, Random}
 use Rattle.addresses.specs.declared.device_address.DeviceAddress.{DeviceAddress}
 use Rattle.addresses.specs.declared.filter.Matches.the-variants.{Is, Refused}
-use Rattle.addresses.proofs.Addresses.{equality}
-
-or-false : (b : Bool) → b ≡ b || false
-or-false true = refl
-or-false false = refl
-
-or-true : (b : Bool) → b || true ≡ true
-or-true true = refl
-or-true false = refl
+use Rattle.addresses.proofs.Addresses.{equality, one-kind}
 
 pub any-more : (p : ℕ → Bool) (n : ℕ) → any p n ≡ false → p n ≡ false → any p (suc n) ≡ false
 unfolding any
@@ -57,7 +47,7 @@ any-passing p (suc n) e = go (p n) refl e (any-passing p n)
     go : (b : Bool) → p n ≡ b → any p n || p n ≡ true → (any p n ≡ true → Passing p n) → Passing p (suc n)
     go true last found before = record { number = n; below = omega arith; passes = last }
     go false last found before =
-        let earlier = before (or-false (any p n) ∙ (rw last at found)) in
+        let earlier = before (sym (or-false (any p n)) ∙ (rw last at found)) in
         record { number = earlier .number; below = omega (arith, earlier .below); passes = earlier .passes }
 
 -- a list without a bad kind
@@ -79,14 +69,8 @@ octets-same : (a b : DeviceAddress) → octetsOf a ≡ octetsOf b → a ≡ b
 octets-same a b e =
     let first : kindNumber (a .kind) ≡ kindNumber (b .kind) = cc in
     let others : a .bytes ≡ b .bytes = cc in
-    let kinds = kind-same (a .kind) (b .kind) first in
+    let kinds = one-kind (a .kind) (b .kind) first in
     λ i. record { bytes = others i; kind = kinds i }
-  where
-    kind-same : (k l : AddressKind) → kindNumber k ≡ kindNumber l → k ≡ l
-    kind-same Public Public e = refl
-    kind-same Random Random e = refl
-    kind-same Public Random e = absurd (omega (arith, e))
-    kind-same Random Public e = absurd (omega (arith, e))
 
 -- the octets of an entry of a list
 entry-octets : (list : List ℕ) (i : ℕ) → 7 * i + 7 ≤ length list → getD list (7 * i) 0 ≤ 1 → part 7 list (7 * i) ≡ octetsOf (entryAt list i)

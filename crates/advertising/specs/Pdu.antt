@@ -19,7 +19,7 @@
 --   decodedAs o ty s r d l    == an answer, with all that it says
 --   refusedPdu e              == the refusal e, with an empty PDU
 --   undirected, directed, connectRequest   == the answer by type, once the length agrees
---   decodeOf h p              == the answer for a header and a payload
+--   decodeOf h p              == the answer for a header and a payload; wellFormed h p: it is no refusal
 --   decodedAt found s         == the same for a header that was found in s, or not, and what follows it
 use mathlib.Core.Bool.{Bool, true, false, cond}
 use mathlib.Core.List.{List, [], _∷_}
@@ -27,7 +27,7 @@ use Prim.Native.Nat.{ℕ, _+_, _-_, _*_, _/_, _%_}
 use lib.Dec.{eqb, ltb}
 use lib.ListN.{length, getD, take, drop}
 use Rattle.channels.specs.Map.{fromRaw}
-use Rattle.octets.specs.Bytes.{has, part, le}
+use Rattle.octets.specs.Bytes.{part, partOr, le}
 use Rattle.octets.specs.Error.{numberOf}
 use Rattle.octets.specs.Time.{later}
 use Rattle.octets.specs.declared.error.Error.{Error}
@@ -138,7 +138,7 @@ hasReceiver ScanRsp = false
 hasReceiver (Unknown n) = false
 
 abbrev pub dataIn : AdvData → List ℕ → List ℕ
-dataIn d p = cond (has (d .len) p (d .start)) (part (d .len) p (d .start)) []
+dataIn d p = partOr (d .len) p (d .start)
 
 abbrev pub isAccepted : Outcome → Bool
 isAccepted Accepted = true
@@ -189,6 +189,10 @@ byType (Unknown n) h p = refusedPdu InvalidValue
 
 unfoldable pub decodeOf : Header → List ℕ → Decoded
 decodeOf h p = cond (eqb (lengthOf h) (length p)) (byType (typeOf h) h p) (refusedPdu InvalidLength)
+
+-- "well-formed if its header and payload decode without refusal"
+abbrev pub wellFormed : Header → List ℕ → Bool
+wellFormed h p = isAccepted (decodeOf h p .outcome)
 
 abbrev pub decodedAt : HeaderRead → List ℕ → Decoded
 decodedAt (read.Header h next) s = decodeOf h (drop (next .at) s)

@@ -13,6 +13,7 @@ use addresses::header::HeaderRead;
 use addresses::header::PduType;
 use channels::channel_map::ChannelMap;
 use octets::bytes::ByteReader;
+use octets::bytes::part_of;
 use octets::bytes::u16_from_le_bytes;
 use octets::bytes::u32_from_le_bytes;
 use octets::error::Error;
@@ -44,16 +45,7 @@ impl AdvData {
     pub fn within(self, payload: &[u8]) -> &[u8]
         ensures { λ r. ⌜ now r ≡ dataIn self (now (payload .entry)) ⌝ }
     {
-        let start = self.start;
-        let len = self.len;
-        if payload.len() < start {
-            return &payload[..0];
-        }
-        if payload.len() - start < len {
-            return &payload[..0];
-        }
-        let end = start + len;
-        &payload[start..end]
+        part_of(payload, self.start, self.len)
     }
 }
 
@@ -81,13 +73,30 @@ pub struct Decoded {
     pub pdu: Pdu,
 }
 
+impl Decoded {
+    // A refusal, with an empty PDU.
+    pub fn refused(e: Error) -> Decoded
+        ensures { λ r. ⌜ r ≡ refusedPdu e ⌝ }
+    {
+        let none = PduType::Unknown(15);
+        answered(
+            Outcome::Refused(e),
+            none,
+            no_address(),
+            no_address(),
+            no_data(),
+            no_request(),
+        )
+    }
+}
+
 impl Pdu {
     // Reads a PDU. Order: the length, the type, then fields from the front.
     pub fn from_header_and_payload(header: Header, payload: &[u8]) -> Decoded
         ensures { λ r. ⌜ r ≡ decodeOf header (now (payload .entry)) ⌝ }
     {
         if header.payload_length() as usize != payload.len() {
-            return refused(Error::InvalidLength);
+            return Decoded::refused(Error::InvalidLength);
         }
         let ty = header.type_();
         if ty.allows_adv_data() {
@@ -95,7 +104,7 @@ impl Pdu {
         }
         match ty {
             PduType::ConnectReq => read_connect_request(header, payload),
-            PduType::Unknown(_) => refused(Error::InvalidValue),
+            PduType::Unknown(_) => Decoded::refused(Error::InvalidValue),
             _ => read_directed(ty, header, payload),
         }
     }
@@ -154,24 +163,9 @@ impl Pdu {
                 let at = next.at;
                 Pdu::from_header_and_payload(header, &s[at..])
             }
-            HeaderRead::Refused(e) => refused(e),
+            HeaderRead::Refused(e) => Decoded::refused(e),
         }
     }
-}
-
-// A refusal, with an empty PDU.
-fn refused(e: Error) -> Decoded
-    ensures { λ r. ⌜ r ≡ refusedPdu e ⌝ }
-{
-    let none = PduType::Unknown(15);
-    answered(
-        Outcome::Refused(e),
-        none,
-        no_address(),
-        no_address(),
-        no_data(),
-        no_request(),
-    )
 }
 
 // Types 0, 2, 4 and 6: an address, then records.
@@ -179,7 +173,7 @@ fn read_undirected(ty: PduType, header: Header, payload: &[u8]) -> Decoded
     ensures { λ r. ⌜ r ≡ undirected ty header (now (payload .entry)) ⌝ }
 {
     if payload.len() < 6 {
-        return refused(Error::Eof);
+        return Decoded::refused(Error::Eof);
     }
     match read_area(&payload[6..]) {
         Area::Accepted(count) => {
@@ -198,7 +192,7 @@ fn read_undirected(ty: PduType, header: Header, payload: &[u8]) -> Decoded
                 no_request(),
             )
         }
-        Area::Refused(e) => refused(e),
+        Area::Refused(e) => Decoded::refused(e),
     }
 }
 
@@ -207,7 +201,7 @@ fn read_directed(ty: PduType, header: Header, payload: &[u8]) -> Decoded
     ensures { λ r. ⌜ r ≡ directed ty header (now (payload .entry)) ⌝ }
 {
     if payload.len() < 12 {
-        return refused(Error::Eof);
+        return Decoded::refused(Error::Eof);
     }
     let sender = address_at(header.tx_add(), payload, 0);
     let receiver = address_at(header.rx_add(), payload, 6);
@@ -226,7 +220,7 @@ fn read_connect_request(header: Header, payload: &[u8]) -> Decoded
     ensures { λ r. ⌜ r ≡ connectRequest header (now (payload .entry)) ⌝ }
 {
     if payload.len() < 34 {
-        return refused(Error::Eof);
+        return Decoded::refused(Error::Eof);
     }
     let sender = address_at(header.tx_add(), payload, 0);
     let receiver = address_at(header.rx_add(), payload, 6);

@@ -28,13 +28,13 @@ use Rattle.advertising.proofs.Accepting.{accepting}
 use Rattle.advertising.proofs.Figures.{field-is, behind, long}
 use Rattle.advertising.specs.Laws.{Shaped, with-records, two-addresses, with-lldata}
 use Rattle.advertising.proofs.Accepting.{is-accepted}
-use Rattle.advertising.specs.Pdu.{dataIn, decodeOf}
+use Rattle.advertising.specs.Pdu.{dataIn, decodeOf, wellFormed}
 use Rattle.advertising.specs.declared.pdu.Decoded.{Decoded}
 use Rattle.advertising.specs.declared.pdu.Outcome.the-variants as outcome
 use Rattle.advertising.specs.declared.pdu.Pdu.{Pdu}
 use Rattle.beacon.specs.Laws as laws
 use Rattle.beacon.specs.Laws.{Lets, Checks, Reports}
-use Rattle.beacon.specs.Scanner.{isListFor, isPass, passes, isType2, decodes, isBeaconPacket, reportOf, unreported, scanned, reportNumber}
+use Rattle.beacon.specs.Scanner.{isListFor, isPass, passes, isType2, isBeaconPacket, reportOf, unreported, scanned, reportNumber}
 use Rattle.beacon.specs.declared.beacon.BeaconScanner.{BeaconScanner}
 use Rattle.beacon.specs.declared.beacon.Report.the-variants as report
 use Rattle.beacon.specs.declared.beacon.Scanned.{Scanned}
@@ -91,7 +91,7 @@ module _ (h : Header) (p : List ℕ) where
   pub holds-decoded : typeOf h ≡ AdvNonconnInd → decodeOf h p .outcome ≡ outcome.Accepted → Holds h p (decodeOf h p .pdu)
   holds-decoded type-2 ok = holds (decodeOf h p) type-2 (accepting h p .sound ok .1)
 
-type-is : (n : ℕ) → n ≡ 2 → pduType n ≡ AdvNonconnInd
+pub type-is : (n : ℕ) → n ≡ 2 → pduType n ≡ AdvNonconnInd
 unfolding pduType
 type-is n e = rw e
 
@@ -118,8 +118,8 @@ module _ (s : BeaconScanner) (h : Header) (p : List ℕ) (crcOk : Bool) (list : 
   checks : checked ≡ true → Checks f h p crcOk list
   checks e =
       let filter = both-true (isBeaconPacket h p crcOk) (passes f list (decodeOf h p .pdu .sender)) e in
-      let crc = both-true crcOk (isType2 h && decodes h p) (filter .0) in
-      let type = both-true (isType2 h) (decodes h p) (crc .1) in
+      let crc = both-true crcOk (isType2 h && wellFormed h p) (filter .0) in
+      let type = both-true (isType2 h) (wellFormed h p) (crc .1) in
       record {
         crc = crc .0;
         type-2 = eqb-true (bits 0 4 h) 2 (type .0);

@@ -3,7 +3,6 @@ use mathlib.Core.Bool.{Bool, true, false, cond, _&&_}
 use mathlib.Core.List.{List}
 use mathlib.Core.Path.{_≡_, refl, ap, _∙_}
 use Prim.Native.Nat.{ℕ, zero, suc, _+_}
-use native.Mathlib.Omega.{arith}
 use lib.Dec.{eqb}
 use Rattle.octets.specs.Time.{later}
 use Rattle.octets.specs.declared.error.Error.the-variants.{InvalidValue}
@@ -12,18 +11,13 @@ use Rattle.channels.specs.Laws.{cycles}
 use Rattle.channels.specs.Phy.{indexOf, firstChannel}
 use Rattle.channels.specs.declared.phy.AdvertisingChannel.{AdvertisingChannel}
 use Rattle.channels.proofs.Counting.{count-ext}
-use Rattle.channels.proofs.Cycles.{once-each}
+use Rattle.channels.proofs.Cycles.{once-each, cycles-add}
 use Rattle.addresses.specs.declared.header.Header.{Header}
 use Rattle.advertising.specs.Pdu.{decodeOf}
 use Rattle.beacon.specs.Laws.{run, Scanning}
 use Rattle.beacon.specs.Scanner.{timerUpdated, isListFor, passes, isBeaconPacket, reportOf, unreported, scanned}
 use Rattle.beacon.specs.declared.beacon.BeaconScanner.{BeaconScanner}
 use Rattle.beacon.specs.declared.beacon.Report.the-variants as report
-
-cycles-on : (k j : ℕ) (c : AdvertisingChannel) → cycles (k + j) c ≡ cycles j (cycles k c)
-unfolding cycles
-cycles-on k zero c = let none : k + 0 ≡ k = omega arith in rw none
-cycles-on k (suc j) c = let more : k + suc j ≡ suc (k + j) = omega arith in rw (more, cycles-on k j c)
 
 -- a packet leaves the channel
 channel-kept : (s : BeaconScanner) (h : Header) (p : List ℕ) (crcOk : Bool) (list : List ℕ) → scanned s h p crcOk list .channel ≡ s .channel
@@ -66,6 +60,6 @@ module _ (s : BeaconScanner) (interval : ℕ) (times : ℕ → Instant) where
         packet = λ h p crcOk list. channel-kept (run s interval times k .scanner) h p crcOk list ∙ ap (λ (x : BeaconScanner). x .channel) (state k);
         once-each = λ d.
             count-ext (λ j. eqb (indexOf (run s interval times (k + j) .cmd .channel)) (indexOf d)) (λ j. eqb (indexOf (cycles j (cycles k firstChannel))) (indexOf d)) 3
-            (λ j below. ap (λ (c : AdvertisingChannel). eqb (indexOf c) (indexOf d)) (listens (k + j) ∙ cycles-on k j firstChannel))
+            (λ j below. ap (λ (c : AdvertisingChannel). eqb (indexOf c) (indexOf d)) (listens (k + j) ∙ cycles-add k j firstChannel))
             ∙ once-each (cycles k firstChannel) d;
       }

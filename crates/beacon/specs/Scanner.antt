@@ -6,7 +6,6 @@
 --   isListFor f list            == the filter f has its list, or needs none
 --   passes f list a             == the filter f passes the address a; isPass m: an answer of a filter that says so
 --   isType2 h                   == a header of type 2
---   decodes h p                 == a header and a payload that decode without refusal
 --   isBeaconPacket h p crcOk    == all checks save the filter
 --   reportOf c pdu              == the report of a PDU, with the channel c
 --   unreported r c              == an answer that reports no PDU
@@ -32,7 +31,7 @@ use Rattle.addresses.specs.declared.filter.AddressFilter.the-variants.{AllowAll
 use Rattle.addresses.specs.declared.filter.Matches.{Matches}
 use Rattle.addresses.specs.declared.filter.Matches.the-variants as matches
 use Rattle.addresses.specs.declared.header.Header.{Header}
-use Rattle.advertising.specs.Pdu.{noAddress, noData, isAccepted, decodeOf}
+use Rattle.advertising.specs.Pdu.{noAddress, noData, isAccepted, decodeOf, wellFormed}
 use Rattle.advertising.specs.declared.pdu.Decoded.{Decoded}
 use Rattle.advertising.specs.declared.pdu.Pdu.{Pdu}
 use Rattle.beacon.specs.declared.beacon.BeaconScanner.{BeaconScanner}
@@ -71,12 +70,9 @@ passes f list a = isPass (matchesOf f list a)
 abbrev pub isType2 : Header → Bool
 isType2 h = eqb (bits 0 4 h) 2
 
-abbrev pub decodes : Header → List ℕ → Bool
-decodes h p = isAccepted (decodeOf h p .outcome)
-
 -- "Checks of the scanner: CRC, type 2, decoding, filter."
 abbrev pub isBeaconPacket : Header → List ℕ → Bool → Bool
-isBeaconPacket h p crcOk = crcOk && (isType2 h && decodes h p)
+isBeaconPacket h p crcOk = crcOk && (isType2 h && wellFormed h p)
 
 -- the sender and record area; blank where nothing is reported
 abbrev pub reportOf : AdvertisingChannel → Pdu → Scanned

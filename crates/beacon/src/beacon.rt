@@ -4,7 +4,7 @@ ghost use Rattle.addresses.specs.declared.filter.AddressFilter.the-variants.{Al
 ghost use Rattle.advertising.specs.Pdu.{dataIn};
 ghost use Rattle.advertising.specs.PduBuf.{payloadAfter};
 ghost use Rattle.beacon.specs.Sending.{beaconOf, broadcastOf};
-ghost use Rattle.beacon.specs.Scanner.{scannerOf, listening, configured, timerUpdated, unreported, ofDecoded, heardOf, scanned};
+ghost use Rattle.beacon.specs.Scanner.{scannerOf, listening, configured, timerUpdated, unreported, ofDecoded, heardOf, scanned, reportNumber, isReport};
 use addresses::device_address::AddressKind;
 use addresses::device_address::DeviceAddress;
 use addresses::filter::AddressFilter;
@@ -98,6 +98,30 @@ pub enum Report {
     Beacon,
     Nothing,
     Refused(Error),
+}
+
+impl Report {
+    // The refusal's number (document 01), 0 where there is none.
+    pub fn number(self) -> u8
+        ensures { λ r. ⌜ r ≡ reportNumber self ⌝ }
+    {
+        match self {
+            Report::Beacon => 0,
+            Report::Nothing => 0,
+            Report::Refused(e) => e.number(),
+        }
+    }
+
+    // Whether a beacon is reported.
+    pub fn is_report(self) -> bool
+        ensures { λ r. ⌜ r ≡ isReport self ⌝ }
+    {
+        match self {
+            Report::Beacon => true,
+            Report::Nothing => false,
+            Report::Refused(_) => false,
+        }
+    }
 }
 
 // What a packet gives: a report, with the beacon's sender and where its records lie in the payload, both blank where none is reported; and the

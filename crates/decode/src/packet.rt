@@ -1,15 +1,12 @@
 // A PDU read, as numbers.
 ghost use mathlib.Core.Path.{_≡_};
 ghost use Rattle.addresses.specs.Header.{parsed};
-ghost use Rattle.advertising.specs.Pdu.{refusedPdu};
 ghost use Rattle.decode.specs.Packet.{accuracyNumber, packetOf, decodedFrom};
 use addresses::header::Header;
 use addresses::header::HeaderMade;
 use advertising::pdu::Decoded;
 use advertising::pdu::Pdu;
 use advertising::pdu::SleepClockAccuracy;
-use channels::channel_map::ChannelMap;
-use octets::error::Error;
 
 // A PDU with all its fields.
 #[repr(C)]
@@ -93,44 +90,12 @@ fn packet_of(decoded: Decoded) -> Packet
     }
 }
 
-fn no_packet(e: Error) -> Packet
-    ensures { λ r. ⌜ r ≡ packetOf (refusedPdu e) ⌝ }
-{
-    let channels = ChannelMap::from_raw([0, 0, 0, 0, 0]);
-    let map = channels.to_raw();
-    let map_count = channels.num_used_channels();
-    Packet {
-        number: e.number(),
-        ty: 15,
-        sender_random: false,
-        sender: [0, 0, 0, 0, 0, 0],
-        has_receiver: false,
-        receiver_random: false,
-        receiver: [0, 0, 0, 0, 0, 0],
-        start: 0,
-        len: 0,
-        count: 0,
-        access_address: 0,
-        crc_init: 0,
-        win_size: 0,
-        win_offset: 0,
-        window_end: 1250,
-        interval: 0,
-        latency: 0,
-        timeout: 0,
-        map,
-        map_count,
-        hop: 0,
-        sca: 0,
-    }
-}
-
 #[no_mangle]
 pub extern "C" fn board_decode(header: &[u8], payload: &[u8]) -> Packet
     ensures { λ r. ⌜ r ≡ decodedFrom (parsed (now (header .entry))) (now (payload .entry)) ⌝ }
 {
     match Header::parse(header) {
         HeaderMade::Header(h) => packet_of(Pdu::from_header_and_payload(h, payload)),
-        HeaderMade::Refused(e) => no_packet(e),
+        HeaderMade::Refused(e) => packet_of(Decoded::refused(e)),
     }
 }

@@ -1,4 +1,5 @@
 -- A call's octets name a call, and turn after turn of a list gives `ran`. Assumes nothing.
+use Rattle.octets.specs.Bytes.{partOr}
 use mathlib.Core.Bool.{Bool, false}
 use mathlib.Core.List.{List}
 use mathlib.Core.Path.{_≡_, sym, ap, _∙_}
@@ -11,7 +12,7 @@ use Rattle.radio.specs.Calls.{instant}
 use Rattle.radio.specs.Trace.{start, tick, packet, event, stop}
 use Rattle.radio.specs.declared.link.Called.{Called}
 use Rattle.radio.specs.declared.link.Device.{Device}
-use Rattle.exports.specs.Lists.{partAt, timeIn, intervalIn, headerIn, octetsIn, callIn, State, state, calledBy, stepOf, ran}
+use Rattle.exports.specs.Lists.{timeIn, intervalIn, headerIn, octetsIn, callIn, State, state, calledBy, stepOf, ran}
 
 module _ (c tx : List ℕ) where
   pub as-start : {t i : ℕ} {o : List ℕ} → getD c 0 0 ≡ 0 → t ≡ timeIn c → i ≡ intervalIn c → o ≡ octetsIn c → start (instant t) i o tx ≡ callIn c tx
@@ -43,7 +44,7 @@ pub record Turn (s : State) (calls : List ℕ) (n : ℕ) (first second : List �
   pub long-first : length first ≡ length (s .first)
   pub long-second : length second ≡ length (s .second)
 
-pub turned : (s : State) (calls : List ℕ) (i : ℕ) {d : Device} {a b : List ℕ} {p : List ℕ} {r : Called} {a′ b′ : List ℕ} → state d a b ≡ ran s calls i → p ≡ partAt 80 calls (80 * i)
+pub turned : (s : State) (calls : List ℕ) (i : ℕ) {d : Device} {a b : List ℕ} {p : List ℕ} {r : Called} {a′ b′ : List ℕ} → state d a b ≡ ran s calls i → p ≡ partOr 80 calls (80 * i)
     → r ≡ calledBy p (state d a b) → a′ ≡ stepOf p (state d a b) .first → b′ ≡ stepOf p (state d a b) .second → state (r .device) a′ b′ ≡ ran s calls (i + 1)
 unfolding ran stepOf
 turned s calls i {d} {a} {b} {p} so part r first second =

@@ -1,5 +1,4 @@
 -- Lists of calls given as octets, 80 for each call (drawn in src/lists.rt), on a fresh device with two transmit buffers.
---   partAt n s at             == n octets at a position, or none
 --   callIn c tx               == the call of 80 octets, lent a transmit buffer
 --   bufferAfter d c tx        == the transmit buffer after a call
 --   State, state              == a device and its two transmit buffers
@@ -11,7 +10,7 @@ use mathlib.Core.List.{List, [], _∷_}
 use Prim.Native.Nat.{ℕ, zero, suc, _*_, _/_}
 use lib.Dec.{eqb}
 use lib.ListN.{length, getD}
-use Rattle.octets.specs.Bytes.{has, part, le}
+use Rattle.octets.specs.Bytes.{partOr, le}
 use Rattle.octets.specs.Error.{numberOf}
 use Rattle.channels.specs.Phy.{indexOf}
 use Rattle.addresses.specs.Header.{headerOf, parsed}
@@ -27,9 +26,6 @@ use Rattle.radio.specs.declared.link.Called.{Called}
 use Rattle.radio.specs.declared.link.Device.{Device}
 use Rattle.exports.specs.declared.lists.Said.{Said}
 
-abbrev pub partAt : ℕ → List ℕ → ℕ → List ℕ
-partAt n s at = cond (has n s at) (part n s at) []
-
 abbrev pub headerOr : HeaderMade → Header
 headerOr (made.Header h) = h
 headerOr (made.Refused e) = headerOf 0
@@ -41,10 +37,10 @@ abbrev pub intervalIn : List ℕ → ℕ
 intervalIn c = le (getD c 8 0 ∷ getD c 9 0 ∷ getD c 10 0 ∷ getD c 11 0 ∷ [])
 
 abbrev pub headerIn : List ℕ → Header
-headerIn c = headerOr (parsed (partAt 2 c 12))
+headerIn c = headerOr (parsed (partOr 2 c 12))
 
 abbrev pub octetsIn : List ℕ → List ℕ
-octetsIn c = partAt (getD c 3 0) c 14
+octetsIn c = partOr (getD c 3 0) c 14
 
 unfoldable pub callIn : List ℕ → List ℕ → Call
 callIn c tx =
@@ -85,7 +81,7 @@ stepOf c s =
 
 unfoldable pub ran : State → List ℕ → ℕ → State
 ran s calls zero = s
-ran s calls (suc i) = stepOf (partAt 80 calls (80 * i)) (ran s calls i)
+ran s calls (suc i) = stepOf (partOr 80 calls (80 * i)) (ran s calls i)
 
 unfoldable pub ranAll : DeviceAddress → List ℕ → List ℕ → List ℕ → State
 ranAll own calls a b = ran (state (fresh own) a b) calls (length calls / 80)

@@ -3,7 +3,7 @@ ghost use mathlib.Core.Path.{_≡_};
 ghost use Rattle.addresses.specs.Address.{kindOf, addressOf};
 ghost use Rattle.addresses.specs.Header.{parsed};
 ghost use Rattle.beacon.specs.Sending.{beaconOf};
-ghost use Rattle.beacon.specs.Scanner.{timerUpdated, reportNumber, isReport};
+ghost use Rattle.beacon.specs.Scanner.{timerUpdated};
 ghost use mathlib.Core.Bool.{false};
 ghost use Rattle.exports.specs.Air.{broadcastSent, notSent, beaconSent, beaconAfter, filterFor, scannerAfter, updatedGot, heardOf, heardFrom, judgedBy, headlessOf, unheard};
 use crate::got::Got;
@@ -135,26 +135,6 @@ pub struct Heard {
     pub channel: u8,
 }
 
-fn report_number(report: Report) -> u8
-    ensures { λ r. ⌜ r ≡ reportNumber report ⌝ }
-{
-    match report {
-        Report::Beacon => 0,
-        Report::Nothing => 0,
-        Report::Refused(e) => e.number(),
-    }
-}
-
-fn is_report(report: Report) -> bool
-    ensures { λ r. ⌜ r ≡ isReport report ⌝ }
-{
-    match report {
-        Report::Beacon => true,
-        Report::Nothing => false,
-        Report::Refused(_) => false,
-    }
-}
-
 fn told(scanned: Scanned) -> Heard
     ensures { λ r. ⌜ r ≡ heardOf scanned ⌝ }
 {
@@ -164,8 +144,8 @@ fn told(scanned: Scanned) -> Heard
     let on = scanned.channel;
     let sender = from.raw();
     Heard {
-        number: report_number(report),
-        reported: is_report(report),
+        number: report.number(),
+        reported: report.is_report(),
         random: from.is_random(),
         sender,
         start: place.start,

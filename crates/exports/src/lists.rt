@@ -9,12 +9,13 @@ ghost use lib.ListN.{getD};
 ghost use Rattle.addresses.specs.Address.{kindOf, addressOf};
 ghost use Rattle.addresses.specs.Header.{parsed};
 ghost use Rattle.radio.specs.Trace.{callOf};
-ghost use Rattle.exports.specs.Lists.{partAt, headerOr, timeIn, intervalIn, callIn, bufferAfter, state, calledBy, stepOf, ranAll, answerSaid, calledSaid};
+ghost use Rattle.exports.specs.Lists.{headerOr, timeIn, intervalIn, callIn, bufferAfter, state, calledBy, stepOf, ranAll, answerSaid, calledSaid};
 use crate::packets::address;
 use addresses::device_address::DeviceAddress;
 use addresses::header::Header;
 use addresses::header::HeaderMade;
 use addresses::header::PduType;
+use octets::bytes::part_of;
 use octets::bytes::u32_from_le_bytes;
 use octets::time::Instant;
 use radio::link::Answer;
@@ -25,20 +26,6 @@ fn octet(s: &[u8], at: usize) -> u8
     ensures { λ r. ⌜ r ≡ getD (now (s .entry)) at 0 ⌝ }
 {
     if at < s.len() { s[at] } else { 0 }
-}
-
-// n octets at a position, or none.
-fn part_of(s: &[u8], at: usize, n: usize) -> &[u8]
-    ensures { λ r. ⌜ now r ≡ partAt n (now (s .entry)) at ⌝ }
-{
-    if s.len() < at {
-        return &s[..0];
-    }
-    if s.len() - at < n {
-        return &s[..0];
-    }
-    let end = at + n;
-    &s[at..end]
 }
 
 fn header_of(raw: &[u8]) -> Header

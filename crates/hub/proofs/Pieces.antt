@@ -1,14 +1,13 @@
 -- One piece written after the other: `Wrote`, and how many octets lines have. Assumes nothing.
 use mathlib.Core.Path.{_≡_, refl, sym, ap, _∙_}
-use mathlib.Core.List.{List, [], _∷_, _++_, append-assoc, map, flatten}
+use mathlib.Core.List.{List, [], _∷_, _++_, map, flatten}
 use Prim.Native.Nat.{ℕ, _+_, _-_, _*_, _<_, _≤_}
 use native.Mathlib.Omega.{arith}
-use native.Mathlib.Numerals.{add-one}
 use lib.ListN.{length, set, take, drop, length-append, length-take, length-drop, take-append-drop}
-use lib.Seq.{take-at, drop-at, drop-drop, set-split, length-take-le}
+use lib.Seq.{drop-drop}
 use borrow.Rule.Slice.PartMut.{putMid}
 use Rattle.octets.specs.Bytes.{written}
-use Rattle.octets.proofs.Laws.{written-keeps}
+use Rattle.octets.proofs.Laws.{written-keeps, set-written, written-written}
 use Rattle.addresses.specs.declared.device_address.DeviceAddress.{DeviceAddress}
 use Rattle.columns.specs.Column.{column}
 use Rattle.columns.proofs.Widths.{column-length}
@@ -29,21 +28,6 @@ pub last-length : (h : Hub) (n : ℕ) → length (lastLine h n) ≡ lastSize
 unfolding lastLine
 last-length h n = simp (length-append, column-length)
 
--- two pieces are one
-written-then : (xs ys out : List ℕ) (at : ℕ) → at ≤ length out → written ys (written xs out at) (at + length xs) ≡ written (xs ++ ys) out at
-written-then xs ys out at inside =
-    let front : length (take at out ++ xs) ≡ at + length xs = simp (length-append, length-take-le at out inside) in
-    let rest : List ℕ = drop (at + length xs) out in
-    let whole : written xs out at ≡ (take at out ++ xs) ++ rest = sym (append-assoc (take at out) xs rest) in
-    let before : take (at + length xs) (written xs out at) ≡ take at out ++ xs =
-    ap (take (at + length xs)) whole ∙ take-at (take at out ++ xs) rest (at + length xs) front in
-    let tail : drop (at + length xs) (written xs out at) ≡ rest =
-    ap (drop (at + length xs)) whole ∙ drop-at (take at out ++ xs) rest (at + length xs) front in
-    let later : drop (at + length xs + length ys) (written xs out at) ≡ drop (at + length xs + length ys) out =
-    sym (drop-drop (length ys) (at + length xs) (written xs out at)) ∙ ap (drop (length ys)) tail ∙ drop-drop (length ys) (at + length xs) out in
-    let all : at + length (xs ++ ys) ≡ at + length xs + length ys = rw length-append (omega arith) in
-    rw (before, later, all) (simp append-assoc)
-
 -- a column is written to a part of `out`
 pub put-column : (out : List ℕ) (at width n : ℕ) {part : List ℕ} → at + width ≤ length out
     → part ≡ column (length (take (at + width - at) (drop at out))) n → putMid at (at + width - at) out part ≡ written (column width n) out at
@@ -51,10 +35,6 @@ put-column out at width n fits is =
     let w : length (take (at + width - at) (drop at out)) ≡ width = simp (length-take, length-drop) (omega arith) in
     let end : at + (at + width - at) ≡ at + width = omega arith in
     simp (is, w, drop-drop, end, column-length)
-
--- an octet is stored
-put-octet : (out : List ℕ) (at x : ℕ) → at < length out → set out at x ≡ written (x ∷ []) out at
-put-octet out at x inside = rw (set-split out at x inside, add-one)
 
 -- `out` is `out₀` with `done` written from `at` on, up to `next`
 pub record Wrote (out₀ : List ℕ) (at : ℕ) (done out : List ℕ) (next : ℕ) : Type 0 where
@@ -76,7 +56,7 @@ module _ {out₀ : List ℕ} {at : ℕ} {done out : List ℕ} {next : ℕ} (w : 
   then-piece piece long e =
       record {
         size = rw length-append (omega (arith, w .size, long, e .0));
-        contents = e .1 ∙ (λ i. written piece (w .contents i) (w .size i)) ∙ written-then done piece out₀ at (omega (arith, w .size));
+        contents = e .1 ∙ (λ i. written piece (w .contents i) (w .size i)) ∙ written-written done piece out₀ at (at + length done) refl (omega (arith, w .size));
       }
 
   pub then-column : (width n : ℕ) {out′ : List ℕ} {next′ : ℕ} → (next′ ≡ next + width) × (out′ ≡ written (column width n) out next)
@@ -84,4 +64,4 @@ module _ {out₀ : List ℕ} {at : ℕ} {done out : List ℕ} {next : ℕ} (w : 
   then-column width n e = then-piece (column width n) (column-length width n) e
 
   pub then-octet : (x : ℕ) → next < length out₀ → Wrote out₀ at (done ++ (x ∷ [])) (set out next x) (next + 1)
-  then-octet x more = then-piece (x ∷ []) {size = 1} refl (refl, put-octet out next x (rw as-long more))
+  then-octet x more = then-piece (x ∷ []) {size = 1} refl (refl, set-written x out next (rw as-long more))

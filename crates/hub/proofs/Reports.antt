@@ -8,11 +8,10 @@ use lib.ListN.{length}
 use lib.Seq.{length-take-le}
 use lib.Dec.{eqb}
 use Rattle.octets.specs.Bytes.{le}
-use Rattle.addresses.specs.Header.{bits, pduType, headerOf}
+use Rattle.addresses.specs.Header.{bits, headerOf}
 use Rattle.addresses.specs.declared.device_address.DeviceAddress.{DeviceAddress}
 use Rattle.addresses.specs.declared.header.Header.{Header}
-use Rattle.addresses.specs.declared.header.PduType.the-variants.{AdvNonconnInd}
-use Rattle.beacon.proofs.Reports.{holds-decoded, reports}
+use Rattle.beacon.proofs.Reports.{holds-decoded, reports, type-is}
 use Rattle.beacon.specs.Scanner.{scanned, isReport}
 use Rattle.beacon.specs.declared.beacon.BeaconScanner.{BeaconScanner}
 use Rattle.beacon.specs.declared.beacon.Report.{Report}
@@ -21,10 +20,6 @@ use Rattle.beacon.specs.declared.beacon.Scanned.{Scanned}
 use Rattle.hub.specs.Line.{lineSize, roomFor, line, reportsIn}
 use Rattle.hub.specs.Log.{heardIn}
 use Rattle.hub.proofs.Pieces.{line-length}
-
-type-is : (n : ℕ) → n ≡ 2 → pduType n ≡ AdvNonconnInd
-unfolding pduType
-type-is n e = rw e
 
 is-beacon : (r : Report) → isReport r ≡ true → r ≡ report.Beacon
 is-beacon report.Beacon e = refl

@@ -4,7 +4,7 @@ ghost use mathlib.Core.List.{[], _∷_};
 ghost use Prim.Native.Nat.{_-_, min};
 ghost use lib.Dec.{leb};
 ghost use lib.ListN.{length};
-ghost use Rattle.octets.specs.Bytes.{has, le, leBytes, beBytes, skipTo, u8Read, u16Read, u32Read, sliceRead, filled, arrayRead, writeTo, outAfter, fitting, countedTo, truncateTo};
+ghost use Rattle.octets.specs.Bytes.{has, partOr, le, leBytes, beBytes, skipTo, u8Read, u16Read, u32Read, sliceRead, filled, arrayRead, writeTo, outAfter, fitting, countedTo, truncateTo};
 use crate::error::Error;
 
 // A position to which octets are written; those before it are kept. rubble's writer holds the slice; here each call is lent it.
@@ -79,6 +79,17 @@ pub fn has_octets(s: &[u8], at: usize, n: usize) -> bool
         return false;
     }
     n <= s.len() - at
+}
+
+// The n octets of s from position `at` on, or none where s has fewer.
+pub fn part_of(s: &[u8], at: usize, n: usize) -> &[u8]
+    ensures { λ r. ⌜ now r ≡ partOr n (now (s .entry)) at ⌝ }
+{
+    if has_octets(s, at, n) {
+        let end = at + n;
+        return &s[at..end];
+    }
+    &s[..0]
 }
 
 // Copies src over dst, which is as long.

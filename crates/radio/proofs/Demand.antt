@@ -9,10 +9,10 @@ use Rattle.octets.specs.declared.error.Error.the-variants.{WrongMode}
 use Rattle.octets.specs.declared.time.Instant.{Instant}
 use Rattle.addresses.specs.declared.device_address.DeviceAddress.{DeviceAddress}
 use Rattle.addresses.specs.declared.header.Header.{Header}
-use Rattle.advertising.specs.Pdu.{hasReceiver, decodeOf}
+use Rattle.advertising.specs.Pdu.{hasReceiver, decodeOf, wellFormed}
 use Rattle.radio.specs.Calls.{fresh, isAdvertising, isFor, listens, refusal, addressed, packetOf}
 use Rattle.radio.specs.Demand.{RefusedAt, TicksFrom, BeginsAt, EventsFrom, Demand3}
-use Rattle.radio.specs.Trace.{Call, packet, callOf, wellFormed, forBoard, Reading, unread, readOn, Entry, traceFrom, trace, deviceFrom, deviceAfter, readFrom, modeAfter, AtEach, none, here, Strikable, crcBad, malformed, foreign, Choice, keep, strike, left}
+use Rattle.radio.specs.Trace.{Call, packet, callOf, forBoard, Reading, unread, readOn, Entry, traceFrom, trace, deviceFrom, deviceAfter, readFrom, modeAfter, AtEach, none, here, Strikable, crcBad, malformed, foreign, Choice, keep, strike, left}
 use Rattle.radio.specs.declared.link.Called.{Called}
 use Rattle.radio.specs.declared.link.Device.{Device}
 use Rattle.radio.proofs.Packets.{known}

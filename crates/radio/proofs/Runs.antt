@@ -3,12 +3,12 @@ use mathlib.Core.Bool.{Bool, true, false, _&&_, and-false, false≢true}
 use mathlib.Core.List.{List, [], _∷_, _++_}
 use mathlib.Core.Path.{_≡_, refl, sym, ap, _∙_}
 use Prim.Native.Nat.{ℕ, zero, suc, _+_, _*_, _%_, _≤_, _<_}
-use native.Mathlib.Nat.{add-suc, add-zero, zero-add, suc-mul}
+use native.Mathlib.Nat.{add-zero, zero-add, suc-mul}
 use native.Mathlib.Omega.{arith}
 use lib.Dec.{eqb}
 use lib.ListN.{length, getD}
 use Rattle.channels.proofs.Counting.{count-ext}
-use Rattle.channels.proofs.Cycles.{once-each}
+use Rattle.channels.proofs.Cycles.{once-each, cycles-add}
 use Rattle.channels.proofs.Events.{fair, run}
 use Rattle.channels.specs.Count.{count}
 use Rattle.channels.specs.Hop.{eventChannel, uses as usesIn, before, hopped}
@@ -89,11 +89,6 @@ module _ (channel : Answer → ℕ) (f : ℕ → ℕ) where
 
 -- Ticks: what a start set up moves by the cycle and the interval
 
-cycles-add : (k j : ℕ) (c : AdvertisingChannel) → cycles j (cycles k c) ≡ cycles (k + j) c
-unfolding cycles
-cycles-add k zero c = rw (add-zero k)
-cycles-add k (suc j) c = rw (add-suc k j) (ap cycled (cycles-add k j c))
-
 module _ (own : DeviceAddress) (time : Instant) (interval : ℕ) (records : List ℕ) (pdu : PduBuf) (made : Made own records pdu) where
   -- what is set up, after k ticks
   abbrev pub advAt : ℕ → Advertisement
@@ -156,7 +151,7 @@ module _ (own : DeviceAddress) (time : Instant) (interval : ℕ) (records : List
             (indexOf c) k 3 fits
             ∙ (count-ext _ _ 3 (λ j below.
             let same : suc k + j ≡ suc (k + j) = omega arith in
-            ap (λ (x : AdvertisingChannel). eqb (indexOf x) (indexOf c)) (sym (cycles-add (suc k) j firstChannel ∙ ap (λ (n : ℕ). cycles n firstChannel) same)))
+            ap (λ (x : AdvertisingChannel). eqb (indexOf x) (indexOf c)) (sym (sym (cycles-add (suc k) j firstChannel) ∙ ap (λ (n : ℕ). cycles n firstChannel) same)))
             ∙ once-each (cycles (suc k) firstChannel) c);
       }
 

@@ -34,7 +34,7 @@ use Rattle.advertising.specs.Pdu.{requestOf, decodeOf}
 use Rattle.advertising.specs.PduBuf.{headerFor, flagsRecord, payloadOf, payloadTo}
 use Rattle.advertising.specs.declared.pdu.Pdu.{Pdu}
 use Rattle.advertising.specs.declared.pdu_buf.PduBuf.{PduBuf}
-use Rattle.radio.specs.Calls.{isAdvertising, isConnected, refusal, advertised, sent, beginning, isFor, listens, connectedAt, hoppedTo, connects as connection, addressed, hops, startOf, startAfter, tickOf, tickAfter, packetOf, eventOf, stopOf}
+use Rattle.radio.specs.Calls.{isAdvertising, isConnected, refusal, advertised, sent, beginning, isFor, listens, connectedAt, hoppedTo, connectsTo, addressed, hops, startOf, startAfter, tickOf, tickAfter, packetOf, eventOf, stopOf}
 use Rattle.radio.specs.Demand.{numberIn, isFirstEvent}
 use Rattle.radio.specs.Trace.{Call, start, tick, packet, event, stop, callOf, isConnectRequest, asks, mapIn, hopIn, connects, Reading, firstOf, startNumber, refusedBy, readOn, passes, tickRole, eventRole}
 use Rattle.radio.specs.declared.link.Answer.{Answer}
@@ -257,8 +257,8 @@ module _ (d : Device) (sound : Sound d) where
         rw (crc, known header payload .good (both-true _ _ ours .0), ours, ty)
 
     begun : d .mode ≡ Advertising → asks own crcGood header payload ≡ true → (some : Bool) → ltb 0 (marks (mapIn payload)) ≡ some
-        → Happens d this (connection d end (requestOf payload))
-    unfolding connection requestOf connects refusedBy
+        → Happens d this (connectsTo d end (requestOf payload))
+    unfolding connectsTo requestOf connects refusedBy
     begun m a true s =
         let n : 0 < marks (mapIn payload) = ltb-true 0 (marks (mapIn payload)) s in
         let there = hop-there (fromRaw (mapIn payload)) 0 (hopIn payload) (omega arith) n in

@@ -37,16 +37,16 @@ use Rattle.addresses.specs.declared.header.PduType.the-variants.{AdvInd, AdvDir
 use Rattle.advertising.proofs.Accepting.{is-accepted}
 use Rattle.advertising.proofs.Building.{building}
 use Rattle.advertising.specs.Laws.{ReadsBack}
-use Rattle.advertising.specs.Pdu.{requestOf, hasReceiver, decodeOf}
+use Rattle.advertising.specs.Pdu.{requestOf, hasReceiver, decodeOf, wellFormed}
 use Rattle.advertising.specs.PduBuf.{headerFor, flagsRecord, payloadOf, payloadTo, payloadAfter}
 use Rattle.advertising.specs.declared.pdu.ConnectRequestData.{ConnectRequestData}
 use Rattle.advertising.specs.declared.pdu.Outcome.{Outcome}
 use Rattle.advertising.specs.declared.pdu.Outcome.the-variants as outcome
 use Rattle.advertising.specs.declared.pdu_buf.Built.{Built}
-use Rattle.radio.specs.Calls.{instant, isAdvertising, isConnected, refusal, sent, beginning, discoverable, started, startedAfter, isFor, listens, heard, connectedAt, connects, addressed, hoppedTo, hops, startOf, startAfter, tickOf, tickAfter, packetOf, eventOf, stopOf}
+use Rattle.radio.specs.Calls.{instant, isAdvertising, isConnected, refusal, sent, beginning, discoverable, started, startedAfter, isFor, listens, heard, connectedAt, connectsTo, addressed, hoppedTo, hops, startOf, startAfter, tickOf, tickAfter, packetOf, eventOf, stopOf}
 use Rattle.radio.specs.Demand.{numberIn}
 use Rattle.radio.specs.Laws.{ForBoard, Requests, Words, Refusing, Transmits, Hearing}
-use Rattle.radio.specs.Trace.{Call, start, tick, packet, event, stop, callOf, isConnectRequest, wellFormed, forBoard, asks, mapIn, hopIn, connects as connection, Strikable}
+use Rattle.radio.specs.Trace.{Call, start, tick, packet, event, stop, callOf, isConnectRequest, forBoard, asks, mapIn, hopIn, connects, Strikable}
 use Rattle.radio.specs.declared.link.Advertisement.{Advertisement}
 use Rattle.radio.specs.declared.link.Answer.{Answer}
 use Rattle.radio.specs.declared.link.Answer.the-variants.{Refused, Sent, Listen, Respond, FirstEvent, NextEvent, Stopped}
@@ -109,8 +109,8 @@ module _ (own : DeviceAddress) (h : Header) (p : List ℕ) where
   type-5 ScanRsp e = absurd (false≢true e)
   type-5 (Unknown n) e = absurd (false≢true e)
 
-  request : (end : Instant) (crcGood : Bool) → connection own (packet end h p crcGood) ≡ true → Requests own h p crcGood
-  unfolding connection asks
+  request : (end : Instant) (crcGood : Bool) → connects own (packet end h p crcGood) ≡ true → Requests own h p crcGood
+  unfolding connects asks
   request end crcGood e =
       let d = decodeOf h p in
       let asked = both-true _ _ e in
@@ -125,8 +125,8 @@ module _ (own : DeviceAddress) (h : Header) (p : List ℕ) where
         some = ltb-true 0 (marks (mapIn p)) (asked .1);
       }
 
-  request-if : (end : Instant) (crcGood : Bool) → Requests own h p crcGood → connection own (packet end h p crcGood) ≡ true
-  unfolding connection asks
+  request-if : (end : Instant) (crcGood : Bool) → Requests own h p crcGood → connects own (packet end h p crcGood) ≡ true
+  unfolding connects asks
   request-if end crcGood r =
       let ours : forBoard own h p ≡ true = for-board-if (record { good = r .good; type = inr (inr (r .type)); second = r .second }) in
       let ty : decodeOf h p .pdu .ty ≡ ConnectReq = known h p .type (r .good) ∙ (ap pduType (r .type) ∙ codes .code-5) in
@@ -192,7 +192,7 @@ module _ (d : Device) where
   connect-refused end l (hop.Refused x) is = refl
 
   addressed-refused : (end : Instant) (l : ConnectRequestData) (ty : PduType) {e : Error} → addressed d end l ty .answer ≡ Refused e → addressed d end l ty .device ≡ d
-  unfolding addressed connects
+  unfolding addressed connectsTo
   addressed-refused end l ConnectReq is = connect-refused end l (hopped (l .chm) 0 (l .hop)) is
   addressed-refused end l ScanReq is = refl
   addressed-refused end l AdvDirectInd is = refl
@@ -334,12 +334,12 @@ module _ (d : Device) (end : Instant) (h : Header) (p : List ℕ) (crcGood : Boo
       → packetOf d end h p crcGood .answer
       ≡ FirstEvent (record { index = eventChannel (part 5 p 28) (le (part 1 p 33) % 32) 0 })
       (instant (later (end .0) (le (part 2 p 20) * 1250 + le (part 1 p 19) * 1250 + 1750))) (le (part 4 p 12)) (le (part 3 p 16))
-  unfolding addressed connects requestOf
+  unfolding addressed connectsTo requestOf
   requested r =
       let ours : ForBoard own h p = record { good = r .good; type = inr (inr (r .type)); second = r .second } in
       let is : decodeOf h p .pdu .ty ≡ ConnectReq = typed ours ConnectReq (ap pduType (r .type) ∙ codes .code-5) in
       ap (λ (x : Called). x .answer) (taken (r .crc) ours ConnectReq is)
-      ∙ (ap (λ (l : ConnectRequestData). connects d end l .answer) (known h p .request (ap isConnectRequest is))
+      ∙ (ap (λ (l : ConnectRequestData). connectsTo d end l .answer) (known h p .request (ap isConnectRequest is))
       ∙ ap (λ (x : Hop). connectedAt d end (requestOf p) x .answer) (first-hop (r .some)))
 
 pub hearing : (d : Device) (end : Instant) (h : Header) (p : List ℕ) (crcGood : Bool) → Hearing d end h p crcGood

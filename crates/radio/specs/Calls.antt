@@ -9,7 +9,7 @@
 --   beginning t i pdu         == the advertisement that a start sets up
 --   isFor own pdu             == the PDU has a second address, and that is `own`, kind included
 --   listens d, responds d     == the device keeps listening, or answers a scan request and keeps listening
---   connects d end l          == the connection that a request asks for, at its first event
+--   connectsTo d end l        == the connection that a request asks for, at its first event
 --   addressed d end l ty      == a packet of type ty that is for this device
 --   heard d end pdu           == a CRC-good packet
 --   hops d                    == the next event of the connection
@@ -146,13 +146,13 @@ connectedAt d end l (hop.To unmapped channel) =
 connectedAt d end l (hop.Refused e) = refusal d e
 
 -- "Each event adds hop modulo 37, starting at 0 before the first"
-unfoldable pub connects : Device → Instant → ConnectRequestData → Called
-connects d end l = connectedAt d end l (hopped (l .chm) 0 (l .hop))
+unfoldable pub connectsTo : Device → Instant → ConnectRequestData → Called
+connectsTo d end l = connectedAt d end l (hopped (l .chm) 0 (l .hop))
 
 -- "other types sent to us, keep listening"
 unfoldable pub addressed : Device → Instant → ConnectRequestData → PduType → Called
 addressed d end l ScanReq = responds d
-addressed d end l ConnectReq = connects d end l
+addressed d end l ConnectReq = connectsTo d end l
 addressed d end l AdvDirectInd = listens d
 addressed d end l AdvInd = listens d
 addressed d end l AdvNonconnInd = listens d

@@ -24,12 +24,12 @@ use Rattle.addresses.specs.Header.{headerOf, bits, rxAdd}
 use Rattle.addresses.specs.declared.device_address.AddressKind.the-variants.{Public}
 use Rattle.addresses.specs.declared.device_address.DeviceAddress.{DeviceAddress}
 use Rattle.addresses.specs.declared.header.Header.{Header}
-use Rattle.advertising.specs.Pdu.{decodeOf}
+use Rattle.advertising.specs.Pdu.{decodeOf, wellFormed}
 use Rattle.advertising.specs.PduBuf.{flagsRecord, payloadOf}
 use Rattle.advertising.specs.declared.pdu.Outcome.the-variants as outcome
 use Rattle.radio.specs.Calls.{instant, fresh, packetOf}
 use Rattle.radio.specs.Demand.{numberIn}
-use Rattle.radio.specs.Trace.{Call, start, tick, packet, event, stop, callOf, octetsOf, wellFormed, forBoard, mapIn, hopIn, connects, Entry, trace, eventOn, channelsBy, times, Strikable}
+use Rattle.radio.specs.Trace.{Call, start, tick, packet, event, stop, callOf, octetsOf, forBoard, mapIn, hopIn, connects, Entry, trace, eventOn, channelsBy, times, Strikable}
 use Rattle.radio.specs.declared.link.Answer.{Answer}
 use Rattle.radio.specs.declared.link.Answer.the-variants.{Refused, Sent, Listen, Respond, FirstEvent, NextEvent}
 use Rattle.radio.specs.declared.link.Device.{Device}

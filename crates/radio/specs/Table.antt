@@ -18,6 +18,8 @@ use Rattle.advertising.specs.Pdu.{decodeOf}
 use Rattle.advertising.specs.declared.pdu.Outcome.{Outcome}
 use Rattle.advertising.specs.declared.pdu.Outcome.the-variants as outcome
 use Rattle.advertising.specs.declared.pdu.Pdu.{Pdu}
+use Rattle.advertising.specs.Laws.{nine}
+use Rattle.channels.specs.Laws.{rowMap}
 
 -- what a header and a payload, or an area, come to: a type with a random or public sender and a number of records, a number of records, or a refusal
 pub data Result : Type 0 where
@@ -39,12 +41,6 @@ areaResult (area.Refused e) = refused (numberOf e)
 
 abbrev pub areaOf : List ℕ → Result
 areaOf s = areaResult (readArea s)
-
-abbrev pub nine : List ℕ
-nine = 0x01 ∷ 0x02 ∷ 0x03 ∷ 0x04 ∷ 0x05 ∷ 0xC6 ∷ 0x02 ∷ 0x01 ∷ 0x06 ∷ []
-
-abbrev pub map-0A : List ℕ
-map-0A = 0x0A ∷ 0x00 ∷ 0x00 ∷ 0x00 ∷ 0x00 ∷ []
 
 pub record Table : Type 0 where
   -- 42 09, nine octets: type 2, random sender, one record
@@ -69,5 +65,5 @@ pub record Table : Type 0 where
   -- 00: 2
   pub row-10 : areaOf (0x00 ∷ []) ≡ refused 2
   -- map 0A 00 00 00 00, hop 5: channels 3, then 1; in 37 events channel 1 has 20, channel 3 has 17
-  pub row-11 : eventChannel map-0A 5 0 ∷ eventChannel map-0A 5 1 ∷ [] ≡ 3 ∷ 1 ∷ []
-  pub row-11-counts : uses map-0A 5 0 1 ∷ uses map-0A 5 0 3 ∷ [] ≡ 20 ∷ 17 ∷ []
+  pub row-11 : eventChannel rowMap 5 0 ∷ eventChannel rowMap 5 1 ∷ [] ≡ 3 ∷ 1 ∷ []
+  pub row-11-counts : uses rowMap 5 0 1 ∷ uses rowMap 5 0 3 ∷ [] ≡ 20 ∷ 17 ∷ []

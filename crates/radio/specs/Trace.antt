@@ -1,6 +1,5 @@
 -- Lists of calls: what the list alone says of each call, what the calls give, and what is read off them (document 01, "The list of demand 3").
 --   callOf d c, octetsOf d c  == what a call answers with the device after it, and the octets of its lent buffers afterwards
---   wellFormed h p            == "well-formed if its header and payload decode without refusal"
 --   forBoard own h p          == "for this board if it has type 1, 3 or 5 and its second address equals the device's own"
 --   asks own crcGood h p      == a CRC-good, well-formed connect request to the address `own`
 --   mapIn p, hopIn p          == the map and the hop of a connect request
@@ -33,7 +32,7 @@ use Rattle.addresses.specs.declared.device_address.DeviceAddress.{DeviceAddress
 use Rattle.addresses.specs.declared.header.Header.{Header}
 use Rattle.addresses.specs.declared.header.PduType.{PduType}
 use Rattle.addresses.specs.declared.header.PduType.the-variants.{AdvInd, AdvDirectInd, AdvNonconnInd, AdvScanInd, ScanReq, ScanRsp, ConnectReq, Unknown}
-use Rattle.advertising.specs.Pdu.{fieldAt, connectFigure, isAccepted, decodeOf}
+use Rattle.advertising.specs.Pdu.{fieldAt, connectFigure, decodeOf, wellFormed}
 use Rattle.radio.specs.Calls.{fresh, isAdvertising, isConnected, isFor, startOf, startAfter, tickOf, tickAfter, packetOf, eventOf, stopOf}
 use Rattle.radio.specs.declared.link.Answer.{Answer}
 use Rattle.radio.specs.declared.link.Answer.the-variants.{Refused, Sent, Listen, Respond, FirstEvent, NextEvent, Stopped}
@@ -77,9 +76,6 @@ isConnectRequest AdvScanInd = false
 isConnectRequest ScanReq = false
 isConnectRequest ScanRsp = false
 isConnectRequest (Unknown n) = false
-
-abbrev pub wellFormed : Header → List ℕ → Bool
-wellFormed h p = isAccepted (decodeOf h p .outcome)
 
 abbrev pub forBoard : DeviceAddress → Header → List ℕ → Bool
 forBoard own h p = isFor own (decodeOf h p .pdu)

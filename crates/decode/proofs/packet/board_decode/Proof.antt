@@ -14,8 +14,9 @@ returns c =
 
 returns-2 : tie.Need-returns-2
 returns-2 c =
-    c .no-packet .ensures
-    ∙ ap (λ (m : HeaderMade). decodedFrom m (c .before .before .before .before .before .before .before .args .payload .now)) (sym (c .before .before .e .given .1) ∙ c .before .before .before .before .parse .ensures)
+    c .packet-of2 .ensures
+    ∙ rw (c .before .refused .ensures)
+    (ap (λ (m : HeaderMade). decodedFrom m (c .before .before .before .before .before .before .before .before .args .payload .now)) (sym (c .before .before .before .e .given .1) ∙ c .before .before .before .before .before .parse .ensures))
 
 pub board-decode-spec : {M : Type 1} → statement M
-board-decode-spec = tie.close (tie.spec (λ c κs. search needs) (λ c. search needs) (λ c κs. search needs) (λ c κs. search needs) (λ c. search needs) (λ c κs. search needs) returns returns-2)
+board-decode-spec = tie.close (tie.spec (λ c κs. search needs) (λ c. search needs) (λ c κs. search needs) (λ c κs. search needs) (λ c. search needs) (λ c κs. search needs) (λ c κs. search needs) returns returns-2)

@@ -3,7 +3,7 @@ use Rattle.exports.proofs.air.told.Statement.{statement}
 use Rattle.exports.proofs.air.told.Tie as tie
 
 returns : tie.Need-returns
-returns c = λ i. record { number = c .before .before .before .report-number .ensures i; reported = c .before .before .is-report .ensures i; random = c .before .is-random .ensures i; sender = c .before .before .before .before .raw .ensures i; start = c .before .before .before .before .before .before .before .args .scanned .«adv_data» .start; len = c .before .before .before .before .before .before .before .args .scanned .«adv_data» .len; count = c .before .before .before .before .before .before .before .args .scanned .«adv_data» .count; channel = c .channel .ensures i }
+returns c = λ i. record { number = c .before .before .before .number .ensures i; reported = c .before .before .is-report .ensures i; random = c .before .is-random .ensures i; sender = c .before .before .before .before .raw .ensures i; start = c .before .before .before .before .before .before .before .args .scanned .«adv_data» .start; len = c .before .before .before .before .before .before .before .args .scanned .«adv_data» .len; count = c .before .before .before .before .before .before .before .args .scanned .«adv_data» .count; channel = c .channel .ensures i }
 
 pub told-spec : {M : Type 1} → statement M
 told-spec = tie.close (tie.spec (λ c κs. search needs) (λ c κs. search needs) (λ c κs. search needs) (λ c κs. search needs) (λ c κs. search needs) returns)

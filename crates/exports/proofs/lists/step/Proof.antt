@@ -1,3 +1,4 @@
+use Rattle.octets.specs.Bytes.{partOr}
 use mathlib.Core.Path.{sym, ap, _∙_}
 use mathlib.Core.List.{List}
 use Prim.Native.Nat.{ℕ}
@@ -5,20 +6,20 @@ use lib.Dec.{eqb}
 use borrow.Author.Tests.{ne-eqb}
 use Rattle.addresses.specs.Header.{parsed}
 use Rattle.radio.specs.Trace.{Call, callOf}
-use Rattle.exports.specs.Lists.{partAt, headerOr, bufferAfter}
+use Rattle.exports.specs.Lists.{headerOr, bufferAfter}
 use Rattle.exports.proofs.Turns.{as-start, as-tick, as-packet, as-event, as-stop}
 use borrow.Author.Needs.{needs}
 use Rattle.exports.proofs.lists.step.Statement.{statement}
 use Rattle.exports.proofs.lists.step.Tie as tie
 
 returns : tie.Need-returns
-returns c = (c .before .before .start-advertise .ensures .0 ∙ ap (callOf (c .before .before .before .before .before .before .before .before .before .before .before .before .before .args .device)) (as-start (c .before .before .before .before .before .before .before .before .before .before .before .before .before .args .call .now) (c .before .before .before .before .before .before .before .before .before .before .before .before .before .args .tx .now) (sym (c .before .before .before .before .before .before .octet2 .ensures) ∙ c .before .before .before .before .before .match .keys1) (c .before .before .before .before .before .before .before .before .before .from-raw-micros .ensures ∙ c .before .before .before .before .before .before .before .before .before .before .time-of .ensures) (c .before .before .before .before .interval-of .ensures) (c .before .before .before .before .before .before .before .part-of .ensures ∙ ap (λ (k : ℕ). partAt k (c .before .before .before .before .before .before .before .before .before .before .before .before .before .args .call .now) 14) (c .before .before .before .before .before .before .before .before .octet .ensures))), c .before .before .start-advertise .ensures .1 ∙ ap (λ (k : Call). bufferAfter (c .before .before .before .before .before .before .before .before .before .before .before .before .before .args .device) k (c .before .before .before .before .before .before .before .before .before .before .before .before .before .args .tx .now)) (as-start (c .before .before .before .before .before .before .before .before .before .before .before .before .before .args .call .now) (c .before .before .before .before .before .before .before .before .before .before .before .before .before .args .tx .now) (sym (c .before .before .before .before .before .before .octet2 .ensures) ∙ c .before .before .before .before .before .match .keys1) (c .before .before .before .before .before .before .before .before .before .from-raw-micros .ensures ∙ c .before .before .before .before .before .before .before .before .before .before .time-of .ensures) (c .before .before .before .before .interval-of .ensures) (c .before .before .before .before .before .before .before .part-of .ensures ∙ ap (λ (k : ℕ). partAt k (c .before .before .before .before .before .before .before .before .before .before .before .before .before .args .call .now) 14) (c .before .before .before .before .before .before .before .before .octet .ensures))))
+returns c = (c .before .before .start-advertise .ensures .0 ∙ ap (callOf (c .before .before .before .before .before .before .before .before .before .before .before .before .before .args .device)) (as-start (c .before .before .before .before .before .before .before .before .before .before .before .before .before .args .call .now) (c .before .before .before .before .before .before .before .before .before .before .before .before .before .args .tx .now) (sym (c .before .before .before .before .before .before .octet2 .ensures) ∙ c .before .before .before .before .before .match .keys1) (c .before .before .before .before .before .before .before .before .before .from-raw-micros .ensures ∙ c .before .before .before .before .before .before .before .before .before .before .time-of .ensures) (c .before .before .before .before .interval-of .ensures) (c .before .before .before .before .before .before .before .part-of .ensures ∙ ap (λ (k : ℕ). partOr k (c .before .before .before .before .before .before .before .before .before .before .before .before .before .args .call .now) 14) (c .before .before .before .before .before .before .before .before .octet .ensures))), c .before .before .start-advertise .ensures .1 ∙ ap (λ (k : Call). bufferAfter (c .before .before .before .before .before .before .before .before .before .before .before .before .before .args .device) k (c .before .before .before .before .before .before .before .before .before .before .before .before .before .args .tx .now)) (as-start (c .before .before .before .before .before .before .before .before .before .before .before .before .before .args .call .now) (c .before .before .before .before .before .before .before .before .before .before .before .before .before .args .tx .now) (sym (c .before .before .before .before .before .before .octet2 .ensures) ∙ c .before .before .before .before .before .match .keys1) (c .before .before .before .before .before .before .before .before .before .from-raw-micros .ensures ∙ c .before .before .before .before .before .before .before .before .before .before .time-of .ensures) (c .before .before .before .before .interval-of .ensures) (c .before .before .before .before .before .before .before .part-of .ensures ∙ ap (λ (k : ℕ). partOr k (c .before .before .before .before .before .before .before .before .before .before .before .before .before .args .call .now) 14) (c .before .before .before .before .before .before .before .before .octet .ensures))))
 
 returns-2 : tie.Need-returns-2
 returns-2 c = (c .before .before .update-timer .ensures .0 ∙ ap (callOf (c .before .before .before .before .before .before .before .before .before .before .before .before .args .device)) (as-tick (c .before .before .before .before .before .before .before .before .before .before .before .before .args .call .now) (c .before .before .before .before .before .before .before .before .before .before .before .before .args .tx .now) (sym (c .before .before .before .before .before .octet2 .ensures) ∙ c .before .before .before .before .match .keys2)), c .before .before .update-timer .ensures .1 ∙ ap (λ (k : Call). bufferAfter (c .before .before .before .before .before .before .before .before .before .before .before .before .args .device) k (c .before .before .before .before .before .before .before .before .before .before .before .before .args .tx .now)) (as-tick (c .before .before .before .before .before .before .before .before .before .before .before .before .args .call .now) (c .before .before .before .before .before .before .before .before .before .before .before .before .args .tx .now) (sym (c .before .before .before .before .before .octet2 .ensures) ∙ c .before .before .before .before .match .keys2)))
 
 returns-3 : tie.Need-returns-3
-returns-3 c = (c .process-adv-packet .ensures ∙ ap (callOf (c .before .before .before .before .before .before .before .before .before .before .before .before .args .device)) (as-packet (c .before .before .before .before .before .before .before .before .before .before .before .before .args .call .now) (c .before .before .before .before .before .before .before .before .before .before .before .before .args .tx .now) (sym (c .before .before .before .before .before .octet2 .ensures) ∙ c .before .before .before .before .match .keys3) (c .before .before .before .before .before .before .before .before .from-raw-micros .ensures ∙ c .before .before .before .before .before .before .before .before .before .time-of .ensures) (c .before .before .header-of .ensures ∙ ap (λ (s : List ℕ). headerOr (parsed s)) (c .before .before .before .part-of2 .ensures)) (c .before .before .before .before .before .before .part-of .ensures ∙ ap (λ (k : ℕ). partAt k (c .before .before .before .before .before .before .before .before .before .before .before .before .args .call .now) 14) (c .before .before .before .before .before .before .before .octet .ensures)) (ap (λ (k : ℕ). eqb k 1) (c .before .octet3 .ensures))), ap (λ (k : Call). bufferAfter (c .before .before .before .before .before .before .before .before .before .before .before .before .args .device) k (c .before .before .before .before .before .before .before .before .before .before .before .before .args .tx .now)) (as-packet (c .before .before .before .before .before .before .before .before .before .before .before .before .args .call .now) (c .before .before .before .before .before .before .before .before .before .before .before .before .args .tx .now) (sym (c .before .before .before .before .before .octet2 .ensures) ∙ c .before .before .before .before .match .keys3) (c .before .before .before .before .before .before .before .before .from-raw-micros .ensures ∙ c .before .before .before .before .before .before .before .before .before .time-of .ensures) (c .before .before .header-of .ensures ∙ ap (λ (s : List ℕ). headerOr (parsed s)) (c .before .before .before .part-of2 .ensures)) (c .before .before .before .before .before .before .part-of .ensures ∙ ap (λ (k : ℕ). partAt k (c .before .before .before .before .before .before .before .before .before .before .before .before .args .call .now) 14) (c .before .before .before .before .before .before .before .octet .ensures)) (ap (λ (k : ℕ). eqb k 1) (c .before .octet3 .ensures))))
+returns-3 c = (c .process-adv-packet .ensures ∙ ap (callOf (c .before .before .before .before .before .before .before .before .before .before .before .before .args .device)) (as-packet (c .before .before .before .before .before .before .before .before .before .before .before .before .args .call .now) (c .before .before .before .before .before .before .before .before .before .before .before .before .args .tx .now) (sym (c .before .before .before .before .before .octet2 .ensures) ∙ c .before .before .before .before .match .keys3) (c .before .before .before .before .before .before .before .before .from-raw-micros .ensures ∙ c .before .before .before .before .before .before .before .before .before .time-of .ensures) (c .before .before .header-of .ensures ∙ ap (λ (s : List ℕ). headerOr (parsed s)) (c .before .before .before .part-of2 .ensures)) (c .before .before .before .before .before .before .part-of .ensures ∙ ap (λ (k : ℕ). partOr k (c .before .before .before .before .before .before .before .before .before .before .before .before .args .call .now) 14) (c .before .before .before .before .before .before .before .octet .ensures)) (ap (λ (k : ℕ). eqb k 1) (c .before .octet3 .ensures))), ap (λ (k : Call). bufferAfter (c .before .before .before .before .before .before .before .before .before .before .before .before .args .device) k (c .before .before .before .before .before .before .before .before .before .before .before .before .args .tx .now)) (as-packet (c .before .before .before .before .before .before .before .before .before .before .before .before .args .call .now) (c .before .before .before .before .before .before .before .before .before .before .before .before .args .tx .now) (sym (c .before .before .before .before .before .octet2 .ensures) ∙ c .before .before .before .before .match .keys3) (c .before .before .before .before .before .before .before .before .from-raw-micros .ensures ∙ c .before .before .before .before .before .before .before .before .before .time-of .ensures) (c .before .before .header-of .ensures ∙ ap (λ (s : List ℕ). headerOr (parsed s)) (c .before .before .before .part-of2 .ensures)) (c .before .before .before .before .before .before .part-of .ensures ∙ ap (λ (k : ℕ). partOr k (c .before .before .before .before .before .before .before .before .before .before .before .before .args .call .now) 14) (c .before .before .before .before .before .before .before .octet .ensures)) (ap (λ (k : ℕ). eqb k 1) (c .before .octet3 .ensures))))
 
 returns-4 : tie.Need-returns-4
 returns-4 c = (c .event .ensures ∙ ap (callOf (c .before .before .before .before .before .before .before .before .before .args .device)) (as-event (c .before .before .before .before .before .before .before .before .before .args .call .now) (c .before .before .before .before .before .before .before .before .before .args .tx .now) (sym (c .before .before .octet2 .ensures) ∙ c .before .match .keys4)), ap (λ (k : Call). bufferAfter (c .before .before .before .before .before .before .before .before .before .args .device) k (c .before .before .before .before .before .before .before .before .before .args .tx .now)) (as-event (c .before .before .before .before .before .before .before .before .before .args .call .now) (c .before .before .before .before .before .before .before .before .before .args .tx .now) (sym (c .before .before .octet2 .ensures) ∙ c .before .match .keys4)))

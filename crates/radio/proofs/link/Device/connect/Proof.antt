@@ -2,7 +2,7 @@
 use mathlib.Core.Path.{_≡_, sym, ap, _∙_}
 use borrow.Author.Needs.{needs}
 use Rattle.channels.specs.Hop.{hopped}
-use Rattle.radio.specs.Calls.{firstEventAt, connectedAt, connects}
+use Rattle.radio.specs.Calls.{firstEventAt, connectedAt, connectsTo}
 use Rattle.radio.proofs.Answers.{first-event}
 use Rattle.radio.proofs.link.Device.connect.Statement.{statement}
 use Rattle.radio.proofs.link.Device.connect.Tie as tie
@@ -10,8 +10,8 @@ use Rattle.radio.proofs.link.Device.connect.Tie as tie
 -- what the first hop came to
 is : (c : tie.After-hop-channel)
     → let a = c .before .before .before .args in
-    connects (a .self) (a .rx-end) (a .lldata) ≡ connectedAt (a .self) (a .rx-end) (a .lldata) (c .hop-channel .result)
-unfolding connects
+    connectsTo (a .self) (a .rx-end) (a .lldata) ≡ connectedAt (a .self) (a .rx-end) (a .lldata) (c .hop-channel .result)
+unfolding connectsTo
 is c =
     let a = c .before .before .before .args in
     let hop : c .hop-channel .result ≡ hopped (a .lldata .chm) 0 (a .lldata .hop) =

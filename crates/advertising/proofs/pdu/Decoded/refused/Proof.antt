@@ -1,8 +1,8 @@
--- `pdu::refused` meets its contract. Assumes nothing.
+-- `Decoded::refused` meets its contract. Assumes nothing.
 use mathlib.Core.Path.{_∙_}
 use borrow.Author.Needs.{needs}
-use Rattle.advertising.proofs.pdu.refused.Statement.{statement}
-use Rattle.advertising.proofs.pdu.refused.Tie as tie
+use Rattle.advertising.proofs.pdu.Decoded.refused.Statement.{statement}
+use Rattle.advertising.proofs.pdu.Decoded.refused.Tie as tie
 
 returns : tie.Need-returns
 returns c =
