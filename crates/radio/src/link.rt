@@ -1,7 +1,7 @@
 // The link layer: a device in standby, advertising or connected. It goes into each call by value and comes back beside the answer.
 ghost use mathlib.Core.Path.{_≡_};
 ghost use Rattle.advertising.specs.PduBuf.{payloadTo, payloadAfter};
-ghost use Rattle.radio.specs.Calls.{fresh, isAdvertising, isConnected, refusal, listens, responds, connects, addressed, advertised, sent, heard, hops, startOf, startAfter, tickOf, tickAfter, packetOf, eventOf, stopOf};
+ghost use Rattle.radio.specs.Calls.{fresh, isAdvertising, isConnected, refusal, listens, responds, connectsTo, addressed, advertised, sent, heard, hops, startOf, startAfter, tickOf, tickAfter, packetOf, eventOf, stopOf};
 use addresses::device_address::DeviceAddress;
 use addresses::header::Header;
 use addresses::header::PduType;
@@ -326,7 +326,7 @@ impl Device {
 
     // Begins the connection that a request asks for, at its first event; rubble's `Connection::create`.
     fn connect(self, rx_end: Instant, lldata: ConnectRequestData) -> Called
-        ensures { λ r. ⌜ r ≡ connects self «rx_end» lldata ⌝ }
+        ensures { λ r. ⌜ r ≡ connectsTo self «rx_end» lldata ⌝ }
     {
         let channel_map = lldata.channel_map();
         let hop = lldata.hop();
