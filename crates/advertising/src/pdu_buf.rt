@@ -19,10 +19,13 @@ use octets::error::Error;
 use records::ad_structure::Flags;
 use records::area::rewrite_area;
 
-// A PDU to be sent: its header, and its payload with zeros behind it.
+// The most octets of a payload on an advertising channel (the Core, Vol 6 Part B, 2.3).
+pub const MAX_PAYLOAD_SIZE: usize = 37;
+
+// A PDU that was built: its header, and its payload with zeros behind it.
 pub struct PduBuf {
     header: Header,
-    payload_buf: [u8; 37],
+    payload_buf: [u8; MAX_PAYLOAD_SIZE],
 }
 
 // What building a PDU finds. Where it is refused, the PDU is all zeros and has no meaning.
@@ -38,7 +41,7 @@ impl PduBuf {
     {
         PduBuf {
             header: Header::new(PduType::AdvInd),
-            payload_buf: [0u8; 37],
+            payload_buf: [0u8; MAX_PAYLOAD_SIZE],
         }
     }
 
@@ -47,7 +50,7 @@ impl PduBuf {
         ensures { λ r. ⌜ r ≡ builtOf ty adv [] (now («adv_data» .entry)) ⌝ }
     {
         let bytes = adv.raw();
-        let front = placed([0u8; 37], 0, &bytes);
+        let front = placed([0u8; MAX_PAYLOAD_SIZE], 0, &bytes);
         fill(ty, adv.is_random(), front, 6, adv_data)
     }
 
@@ -67,7 +70,7 @@ impl PduBuf {
     {
         let bytes = advertiser_addr.raw();
         let other = initiator_addr.raw();
-        let front = placed([0u8; 37], 0, &bytes);
+        let front = placed([0u8; MAX_PAYLOAD_SIZE], 0, &bytes);
         let payload_buf = placed(front, 6, &other);
         let header = header_for(
             PduType::AdvDirectInd,
@@ -110,7 +113,7 @@ impl PduBuf {
         ensures { λ r. ⌜ r ≡ builtOf AdvInd «advertiser_addr» flagsRecord (now («advertiser_data» .entry)) ⌝ }
     {
         let bytes = advertiser_addr.raw();
-        let front = placed([0u8; 37], 0, &bytes);
+        let front = placed([0u8; MAX_PAYLOAD_SIZE], 0, &bytes);
         let flags = [2, 1, Flags::discoverable().to_u8()];
         let front = placed(front, 6, &flags);
         fill(
@@ -136,7 +139,7 @@ impl PduBuf {
     }
 
     // The payload, with the zeros behind it: the header counts its octets.
-    pub fn payload(self) -> [u8; 37]
+    pub fn payload(self) -> [u8; MAX_PAYLOAD_SIZE]
         ensures { λ r. ⌜ r ≡ self .«payload_buf» ⌝ }
     {
         self.payload_buf
@@ -148,13 +151,13 @@ impl PduBuf {
     {
         let header = self.header;
         let payload = self.payload_buf;
-        let n = least(header.payload_length() as usize, 37);
+        let n = least(header.payload_length() as usize, MAX_PAYLOAD_SIZE);
         ByteWriter::new().write_slice(out, &payload[..n])
     }
 }
 
 // The octets of a payload with others in their place from `at` on, where they fit.
-fn placed(payload: [u8; 37], at: usize, octets: &[u8]) -> [u8; 37]
+fn placed(payload: [u8; MAX_PAYLOAD_SIZE], at: usize, octets: &[u8]) -> [u8; MAX_PAYLOAD_SIZE]
     ensures { λ r. ⌜ r ≡ outAfter (now (octets .entry)) payload at ⌝ }
 {
     let mut out = payload;
@@ -184,7 +187,13 @@ fn rewrite_behind(adv_data: &[u8], payload: &mut [u8], start: usize) -> Written
 }
 
 // The PDU whose payload begins with the first `start` octets of `front` and goes on with records.
-fn fill(ty: PduType, random: bool, front: [u8; 37], start: usize, adv_data: &[u8]) -> Built
+fn fill(
+    ty: PduType,
+    random: bool,
+    front: [u8; MAX_PAYLOAD_SIZE],
+    start: usize,
+    adv_data: &[u8],
+) -> Built
     requires { ⌜ ((6 ≤ start) × (start ≤ 9)) × (front ≡ padded (take start front)) ⌝ }
     ensures { λ r. ⌜ r ≡ withRecords ty random (take start front) (now («adv_data» .entry)) ⌝ }
 {

@@ -480,15 +480,15 @@ fn scan(s: &[u8]) {
 // Those that need no device and write nothing.
 fn ask(letter: u8, s: &[u8]) {
     match letter {
-        35 => {}
-        97 => area(s),
-        98 => build(s),
-        99 => scan(s),
-        100 => decode(s),
-        103 => set_header(s),
-        104 => hop(s),
-        105 => data_channel(s),
-        109 => map(s),
+        b'#' => {}
+        b'a' => area(s),
+        b'b' => build(s),
+        b'c' => scan(s),
+        b'd' => decode(s),
+        b'g' => set_header(s),
+        b'h' => hop(s),
+        b'i' => data_channel(s),
+        b'm' => map(s),
         _ => text(b" no request"),
     }
 }
@@ -496,9 +496,9 @@ fn ask(letter: u8, s: &[u8]) {
 // Where a request has the room of the buffer that it is lent.
 fn room_at(letter: u8) -> usize {
     match letter {
-        107 => 7,
-        115 => 8,
-        119 => 3,
+        b'k' => 7,
+        b's' => 8,
+        b'w' => 3,
         _ => 0,
     }
 }
@@ -506,24 +506,24 @@ fn room_at(letter: u8) -> usize {
 // A request: a call on the device hands on another one.
 fn take(d: Device, letter: u8, s: &[u8], out: &mut [u8]) -> Device {
     match letter {
-        101 => called(d.event()),
-        107 => {
+        b'e' => called(d.event()),
+        b'k' => {
             beacon(s, out);
             d
         }
-        110 => Device::new(address_in(s)),
-        112 => packet(d, s),
-        114 => {
+        b'n' => Device::new(address_in(s)),
+        b'p' => packet(d, s),
+        b'r' => {
             rewrite(s, out);
             d
         }
-        115 => start(d, s, out),
-        116 => tick(d, out),
-        119 => {
+        b's' => start(d, s, out),
+        b't' => tick(d, out),
+        b'w' => {
             write(s, out);
             d
         }
-        120 => called(d.stop()),
+        b'x' => called(d.stop()),
         _ => {
             ask(letter, s);
             d
@@ -595,7 +595,7 @@ fn read_octets(out: &mut [u8]) -> usize
     while 0 < left {
         left -= 1;
         let c = next_octet();
-        if c == 10 {
+        if c == b'\n' {
             return n;
         }
         let low = digit(c);
