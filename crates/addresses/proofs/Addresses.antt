@@ -13,7 +13,7 @@ use Rattle.addresses.specs.Laws.{Equality}
 use Rattle.addresses.specs.declared.device_address.AddressKind.{AddressKind}
 use Rattle.addresses.specs.declared.device_address.AddressKind.the-variants.{Public, Random}
 use Rattle.addresses.specs.declared.device_address.DeviceAddress.{DeviceAddress}
-use Rattle.octets.proofs.Sequences.{both-true}
+use Rattle.octets.proofs.Places.{both-true}
 
 -- octets from position i on, by those at the position
 module _ (xs ys : List ℕ) (i : ℕ) (h : i < length xs) (k : i < length ys) where

@@ -7,8 +7,7 @@ use native.Mathlib.Omega.{arith}
 use lib.ListN.{length, getD}
 use lib.Dec.{eqb, ltb}
 use borrow.Author.Tests.{eqb-true, ltb-false, not-true}
-use Rattle.octets.proofs.Places.{front}
-use Rattle.octets.proofs.Sequences.{both-true}
+use Rattle.octets.proofs.Places.{both-true, front}
 use Rattle.octets.specs.Bytes.{part}
 use Rattle.octets.specs.declared.error.Error.the-variants.{InvalidValue}
 use Rattle.addresses.specs.Address.{kindNumber, kindOf}

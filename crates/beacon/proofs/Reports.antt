@@ -8,8 +8,7 @@ use native.Mathlib.Omega.{arith}
 use lib.ListN.{length, take, drop}
 use lib.Seq.{take-length}
 use borrow.Author.Tests.{eq-eqb, eqb-true}
-use Rattle.octets.proofs.Places.{enough}
-use Rattle.octets.proofs.Sequences.{both-true}
+use Rattle.octets.proofs.Places.{both-true, enough}
 use Rattle.octets.specs.declared.error.Error.the-variants.{InvalidValue}
 use Rattle.records.specs.Area.{readArea}
 use Rattle.records.specs.declared.area.Area.the-variants as area

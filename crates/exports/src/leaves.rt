@@ -1,7 +1,7 @@
 // UTF-8, UUIDs, instants, channels, maps and hops.
 ghost use mathlib.Core.Path.{_≡_};
 ghost use Rattle.octets.specs.Time.{later, since};
-ghost use Rattle.octets.specs.Utf8.{isUtf8};
+ghost use Rattle.utf8.specs.Utf8.{isUtf8};
 ghost use Rattle.octets.specs.Uuid.{fullUuid};
 ghost use Rattle.channels.specs.Hop.{hopped};
 ghost use Rattle.channels.specs.Map.{fromRaw, isUsed, byIndex};
@@ -19,10 +19,10 @@ use channels::phy::AdvertisingChannel;
 use channels::phy::DataChannel;
 use channels::phy::Found;
 use octets::time::Instant;
-use octets::utf8::is_utf8;
 use octets::uuid::Uuid16;
 use octets::uuid::Uuid32;
 use octets::uuid::Uuid128;
+use utf8::is_utf8;
 
 #[repr(C)]
 pub struct Uuid {

@@ -160,7 +160,7 @@ fn instants() {
 fn utf8(s: &[u8]) {
     text(b"utf-8");
     octets_of(s);
-    if octets::utf8::is_utf8(s) {
+    if utf8::is_utf8(s) {
         text(b": yes\n");
     } else {
         text(b": no\n");

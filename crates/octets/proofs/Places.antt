@@ -1,7 +1,7 @@
 -- Laws of octets at a position: whether there are octets enough, and what a part and a written slice hold.
 -- Assumes nothing.
 use mathlib.Core.Path.{_≡_, refl, sym, ap, _∙_}
-use mathlib.Core.Bool.{Bool, true, false}
+use mathlib.Core.Bool.{Bool, true, false, _&&_}
 use mathlib.Core.List.{List, [], _∷_}
 use Prim.Native.Nat.{ℕ, zero, suc, _+_, _-_, _≤_, _<_, min}
 use native.Mathlib.Numerals.{add-one}
@@ -86,3 +86,8 @@ truncated xs out at n is count wrote =
       count ∙ (rw (wrote .0, first) (ap (λ (k : ℕ). countedTo k (writeTo (length (fitting xs out at)) out at)) size)),
       wrote .1 ∙ ap (λ (ys : List ℕ). outAfter ys out at) first,
     )
+
+-- of two tests that both pass each passes
+pub both-true : (a b : Bool) → (a && b) ≡ true → (a ≡ true) × (b ≡ true)
+both-true true b e = (refl, e)
+both-true false b e = absurd (let z : _≡_ {A = ℕ} 0 1 = cc in omega arith)

@@ -8,8 +8,7 @@ use native.Mathlib.Omega.{arith}
 use lib.Dec.{eqb, ltb}
 use lib.ListN.{length, drop, length-append}
 use borrow.Author.Tests.{le-ltb, ne-eqb, eq-eqb, ltb-true, ltb-false}
-use Rattle.octets.proofs.Places.{enough, too-few}
-use Rattle.octets.proofs.Sequences.{both-true}
+use Rattle.octets.proofs.Places.{both-true, enough, too-few}
 use Rattle.octets.specs.Error.{numberOf}
 use Rattle.octets.specs.declared.error.Error.{Error}
 use Rattle.octets.specs.declared.error.Error.the-variants.{Eof, InvalidLength, InvalidValue, ShortHeader, WrongMode, EmptyMap, PayloadLength, NoSuchChannel, RecordLength}

@@ -9,7 +9,7 @@ use native.Mathlib.Omega.{arith}
 use lib.Dec.{ltb}
 use lib.ListN.{length, drop, length-append}
 use borrow.Author.Tests.{eq-eqb, lt-ltb, ltb-true, ltb-false}
-use Rattle.octets.proofs.Sequences.{both-true}
+use Rattle.octets.proofs.Places.{both-true}
 use Rattle.octets.specs.Bytes.{part, le, has}
 use Rattle.octets.specs.Error.{numberOf}
 use Rattle.octets.specs.Time.{later}

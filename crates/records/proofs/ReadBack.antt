@@ -14,7 +14,7 @@ use Rattle.octets.specs.declared.error.Error.{Error}
 use Rattle.octets.specs.declared.error.Error.the-variants.{Eof, InvalidValue, RecordLength}
 use Rattle.octets.specs.declared.uuid.UuidKind.{UuidKind}
 use Rattle.octets.specs.declared.uuid.UuidKind.the-variants.{Uuid16, Uuid32, Uuid128}
-use Rattle.octets.specs.Utf8.{isUtf8}
+use Rattle.utf8.specs.Utf8.{isUtf8}
 use Rattle.octets.specs.Bytes.{has, part, leBytes, written}
 use Rattle.octets.proofs.Laws.{written-keeps}
 use Rattle.octets.proofs.Numbers.{field}

@@ -21,7 +21,7 @@ use Rattle.octets.specs.declared.error.Error.the-variants.{Eof, InvalidLength, 
 use Rattle.octets.specs.declared.uuid.UuidKind.{UuidKind}
 use Rattle.octets.specs.declared.uuid.UuidKind.the-variants.{Uuid16, Uuid32, Uuid128}
 use Rattle.octets.specs.Bytes.{has, part, le}
-use Rattle.octets.specs.Utf8.{isUtf8}
+use Rattle.utf8.specs.Utf8.{isUtf8}
 use Rattle.octets.specs.Uuid.{uuidSize}
 use Rattle.records.specs.declared.ad_structure.AdStructure.{AdStructure}
 use Rattle.records.specs.declared.ad_structure.AdStructure.the-variants as ad

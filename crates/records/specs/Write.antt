@@ -16,7 +16,7 @@ use Rattle.octets.specs.declared.uuid.UuidKind.the-variants.{Uuid16, Uuid32, Uu
 use Rattle.octets.specs.declared.bytes.Written.{Written}
 use Rattle.octets.specs.declared.bytes.Written.the-variants.{To}
 use Rattle.octets.specs.Bytes.{has, part, leBytes, written}
-use Rattle.octets.specs.Utf8.{isUtf8}
+use Rattle.utf8.specs.Utf8.{isUtf8}
 use Rattle.records.specs.declared.ad_structure.AdStructure.{AdStructure}
 use Rattle.records.specs.declared.ad_structure.AdStructure.the-variants.{Flags, ServiceUuids16, ServiceUuids32, ServiceUuids128, ServiceData16, CompleteLocalName, ShortenedLocalName, ManufacturerSpecificData, Unknown}
 use Rattle.records.specs.declared.ad_structure.Checked.{Checked}

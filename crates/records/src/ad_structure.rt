@@ -17,10 +17,10 @@ use octets::bytes::u16_from_le_bytes;
 use octets::bytes::u16_to_le_bytes;
 use octets::comp_id::CompanyId;
 use octets::error::Error;
-use octets::utf8::is_utf8;
 use octets::uuid::Uuid16;
 use octets::uuid::Uuid16Read;
 use octets::uuid::UuidKind;
+use utf8::is_utf8;
 
 // A record. rubble's holds its data; here `start` and `len` say where they lie in octets that are lent beside it.
 pub enum AdStructure {

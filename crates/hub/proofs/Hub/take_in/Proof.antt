@@ -7,7 +7,7 @@ use lib.Dec.{leb}
 use lib.ListN.{length, take}
 use borrow.Author.Needs.{needs}
 use borrow.Author.Tests.{leb-true}
-use Rattle.octets.proofs.Sequences.{both-true}
+use Rattle.octets.proofs.Places.{both-true}
 use Rattle.hub.specs.Line.{roomFor}
 use Rattle.hub.specs.Log.{turnOf, Counted, isReady, restIn, linesIn, takenIn, restAfter, linesAfter}
 use Rattle.hub.specs.declared.Hub.{Hub}

@@ -9,8 +9,8 @@ use mathlib.Core.Option.{Option, none, some}
 use mathlib.Core.List.{List, [], _∷_, _++_}
 use lib.ListN.{length, getD, replicate}
 use lib.Dec.{leb}
-use Rattle.octets.specs.declared.utf8.Lead.{Lead}
-use Rattle.octets.specs.declared.utf8.Lead.the-variants.{Begins, Never}
+use Rattle.utf8.specs.declared.Lead.{Lead}
+use Rattle.utf8.specs.declared.Lead.the-variants.{Begins, Never}
 
 infix 80 _to_
 -- the octets from `low` to `high`

@@ -1,6 +1,6 @@
 // Well-formed UTF-8 (the Unicode Standard, Table 3-7), in the place of Rust's `str`.
 ghost use mathlib.Core.Path.{_≡_};
-ghost use Rattle.octets.specs.Utf8.{table, rowIn, rowFrom, isUtf8};
+ghost use Rattle.utf8.specs.Utf8.{table, rowIn, rowFrom, isUtf8};
 
 // What a lead octet begins: a sequence in which `count` octets follow, the first of them from `low` to `high`, the others from 80 to BF.
 enum Lead {

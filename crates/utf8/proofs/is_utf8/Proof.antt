@@ -1,15 +1,15 @@
--- `octets::utf8::is_utf8` meets its contract. The loop's invariant, `Reading`: what is left of s decides, from the ranges still to come.
+-- `utf8::is_utf8` meets its contract. The loop's invariant, `Reading`: what is left of s decides, from the ranges still to come.
 -- Assumes nothing.
 use mathlib.Core.Path.{refl, sym, ap, _∙_}
 use mathlib.Core.Logic.{⊎-elim}
 use Prim.Native.Nat.{_-_}
 use borrow.Author.Needs.{needs}
 use lib.ListN.{length}
-use Rattle.octets.specs.Utf8.{rowFrom}
-use Rattle.octets.specs.declared.utf8.Lead.the-variants.{Begins, Never}
-use Rattle.octets.proofs.Sequences.{in-range, below-range, above-range, Reading, led, followed, done}
-use Rattle.octets.proofs.utf8.is_utf8.Statement.{statement}
-use Rattle.octets.proofs.utf8.is_utf8.Tie as tie
+use Rattle.utf8.specs.Utf8.{rowFrom}
+use Rattle.utf8.specs.declared.Lead.the-variants.{Begins, Never}
+use Rattle.utf8.proofs.Sequences.{in-range, below-range, above-range, Reading, led, followed, done}
+use Rattle.utf8.proofs.is_utf8.Statement.{statement}
+use Rattle.utf8.proofs.is_utf8.Tie as tie
 
 abbrev Inv-loop : tie.InvT-loop
 Inv-loop s count₀ low₀ high₀ i₀ count low high i = Reading s i count low high

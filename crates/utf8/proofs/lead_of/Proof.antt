@@ -1,10 +1,10 @@
--- `octets::utf8::lead_of` meets its contract: each arm has the row of the table that begins with its octets.
+-- `utf8::lead_of` meets its contract: each arm has the row of the table that begins with its octets.
 -- Assumes nothing.
 use mathlib.Core.Path.{refl}
 use native.Mathlib.Omega.{arith}
-use Rattle.octets.proofs.Sequences.{row, no-row}
-use Rattle.octets.proofs.utf8.lead_of.Statement.{statement}
-use Rattle.octets.proofs.utf8.lead_of.Tie as tie
+use Rattle.utf8.proofs.Sequences.{row, no-row}
+use Rattle.utf8.proofs.lead_of.Statement.{statement}
+use Rattle.utf8.proofs.lead_of.Tie as tie
 
 pub lead-of-spec : {M : Type 1} → statement M
 lead-of-spec =

@@ -10,13 +10,9 @@ use native.Mathlib.Omega.{arith}
 use lib.ListN.{length, getD, take, drop, drop-of-length-le}
 use lib.Dec.{leb, ltb, eqb, eqb·suc-zero}
 use borrow.Author.Tests.{le-leb, lt-leb, ltb-true}
-use Rattle.octets.specs.Utf8.{Range, _to_, within, table, rowIn, following, utf8After, pending, isUtf8, rowFrom}
-use Rattle.octets.specs.declared.utf8.Lead.{Lead}
-use Rattle.octets.proofs.Places.{front}
-
-pub both-true : (a b : Bool) → (a && b) ≡ true → (a ≡ true) × (b ≡ true)
-both-true true b e = (refl, e)
-both-true false b e = absurd (let z : _≡_ {A = ℕ} 0 1 = cc in omega arith)
+use Rattle.utf8.specs.Utf8.{Range, _to_, within, table, rowIn, following, utf8After, pending, isUtf8, rowFrom}
+use Rattle.utf8.specs.declared.Lead.{Lead}
+use Rattle.octets.proofs.Places.{both-true, front}
 
 -- b lies in a range, below it or above it
 pub in-range : (l h b : ℕ) → l ≤ b → b ≤ h → within b (l to h) ≡ true

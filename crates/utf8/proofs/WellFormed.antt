@@ -9,8 +9,9 @@ use native.Mathlib.Omega.{arith}
 use lib.ListN.{length, getD}
 use lib.Dec.{leb, ltb}
 use borrow.Author.Tests.{leb-true, ltb-true}
-use Rattle.octets.specs.Utf8.{Range, within, table, rowIn, utf8After, isUtf8, Sequence, WellFormed, nothing, and-then, Utf8Is}
-use Rattle.octets.proofs.Sequences.{both-true, over, above-range}
+use Rattle.utf8.specs.Utf8.{Range, within, table, rowIn, utf8After, isUtf8, Sequence, WellFormed, nothing, and-then, Utf8Is}
+use Rattle.octets.proofs.Places.{both-true}
+use Rattle.utf8.proofs.Sequences.{over, above-range}
 
 within-low : (b : ℕ) (r : Range) → within b r ≡ true → r .low ≤ b
 within-low b r e = leb-true (r .low) b (both-true (leb (r .low) b) (leb b (r .high)) e .0)
