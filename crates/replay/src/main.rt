@@ -595,7 +595,7 @@ fn read_octets(out: &mut [u8]) -> usize
     while 0 < left {
         left -= 1;
         let c = next_octet();
-        if c == b'\n' {
+        if c == 10 {
             return n;
         }
         let low = digit(c);
