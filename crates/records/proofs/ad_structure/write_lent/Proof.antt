@@ -62,16 +62,24 @@ space c =
     let a = c .before .before .before .before .before .args in
     room (lentCheck (a .outline .name) (a .outline .unit) (a .«data» .now)) _ _ _ (told c)
 
+-- the octets of its own are as many as are held
+own-held : (n : ℕ) (own : List ℕ) → length own ≡ 2 → n ≤ 2 → length (take n own) ≡ n
+own-held n own two short = simp length-take (omega arith)
+
 own-long : tie.Need-slice-aggregate-put-raw
 own-long c =
     let two : length (c .before .u16-to-le-bytes .result) ≡ 2 = search needs in
-    sym (simp length-take (omega arith))
+    let entry = c .before .before .before .before .before .before .before in
+    let held = own-held (entry .args .outline .held) (c .before .u16-to-le-bytes .result) two (entry .pre .0) in
+    omega (arith, two, held)
 
 own-fits : tie.Need-put-raw-requires
 own-fits c κs =
     let two : length (c .before .before .u16-to-le-bytes .result) ≡ 2 = search needs in
+    let entry = c .before .before .before .before .before .before .before .before in
+    let held = own-held (entry .args .outline .held) (c .before .before .u16-to-le-bytes .result) two (entry .pre .0) in
     let fits = space (c .before .before .before) .0 in
-    (simp length-take (omega (arith, fits)), simp length-take (omega arith))
+    (omega (arith, fits, two, held), omega (arith, two, held))
 
 -- a record that may be written, and was put
 put : (check : Checked) (ty : ℕ) (own d out : List ℕ) (at n end : ℕ) {own₁ l : List ℕ} → length (own ++ d) ≡ n → end ≡ at + 2 + n → Fine ≡ andThen check (spaceIn n (length out) at)
