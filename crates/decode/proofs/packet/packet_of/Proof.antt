@@ -1,5 +1,6 @@
 -- `packet_of` meets its contract: each field is what its accessor ensures. Assumes nothing.
-use mathlib.Core.Path.{ap, _∙_}
+use mathlib.Core.Path.{_≡_, ap, _∙_}
+use Rattle.addresses.specs.Address.{isRandom}
 use Rattle.channels.specs.declared.channel_map.ChannelMap.{ChannelMap}
 use Rattle.decode.specs.Packet.{accuracyNumber, packetOf}
 use borrow.Author.Needs.{needs}
@@ -9,17 +10,19 @@ use Rattle.decode.proofs.packet.packet_of.Tie as tie
 returns : tie.Need-returns
 unfolding packetOf
 returns c =
+    let entry = c .before .before .before .before .before .before .before .before .before .before .before .before .before .before .before .before .before .before .before .before .before .before .before .before .before .before in
+    let kind : c .before .before .before .before .before .before .before .before .before .before .before .before .before .before .is-random .result ≡ isRandom (entry .args .decoded .pdu .sender .kind) = c .before .before .before .before .before .before .before .before .before .before .before .before .before .before .is-random .ensures in
     λ i. record {
       number = c .before .before .before .before .before .before .before .before .before .before .before .before .before .before .before .before .number .ensures i;
       ty = c .before .before .before .before .before .before .before .before .before .before .before .before .before .before .before .to-u8 .ensures i;
-      «sender_random» = c .before .before .before .before .before .before .before .before .before .before .before .before .before .before .is-random .ensures i;
+      «sender_random» = kind i;
       sender = c .before .before .before .before .before .before .before .before .before .before .before .before .before .before .before .before .before .before .before .raw .ensures i;
       «has_receiver» = c .before .before .before .before .before .before .before .before .before .before .before .before .before .has-receiver .ensures i;
       «receiver_random» = c .before .before .before .before .before .before .before .before .before .before .before .before .is-random2 .ensures i;
       receiver = c .before .before .before .before .before .before .before .before .before .before .before .before .before .before .before .before .before .before .raw2 .ensures i;
-      start = c .before .before .before .before .before .before .before .before .before .before .before .before .before .before .before .before .before .before .before .before .before .before .before .before .before .before .args .decoded .pdu .«adv_data» .start;
-      len = c .before .before .before .before .before .before .before .before .before .before .before .before .before .before .before .before .before .before .before .before .before .before .before .before .before .before .args .decoded .pdu .«adv_data» .len;
-      count = c .before .before .before .before .before .before .before .before .before .before .before .before .before .before .before .before .before .before .before .before .before .before .before .before .before .before .args .decoded .pdu .«adv_data» .count;
+      start = entry .args .decoded .pdu .«adv_data» .start;
+      len = entry .args .decoded .pdu .«adv_data» .len;
+      count = entry .args .decoded .pdu .«adv_data» .count;
       «access_address» = c .before .before .before .before .before .before .before .before .before .before .before .access-address .ensures i;
       «crc_init» = c .before .before .before .before .before .before .before .before .before .before .crc-init .ensures i;
       «win_size» = c .before .before .before .before .before .before .before .before .before .win-size .ensures i;
