@@ -1,5 +1,5 @@
 -- What is sent of a beacon, and heard of it: `sends`, `refusing`, `broadcasting`, `sendable`. Assumes nothing.
-use mathlib.Core.Bool.{Bool, true, false, cond}
+use mathlib.Core.Bool.{Bool, true, false}
 use mathlib.Core.List.{List, [], _++_, append-nil}
 use mathlib.Core.Path.{_≡_, refl, sym, ap, subst, _∙_}
 use Prim.Native.Nat.{ℕ, _+_, _≤_}
@@ -8,7 +8,7 @@ use native.Mathlib.Omega.{arith}
 use lib.Dec.{ltb}
 use lib.ListN.{length, take, length-append}
 use borrow.Author.Tests.{ltb-true, ltb-false}
-use Rattle.octets.proofs.Places.{enough, too-few}
+use Rattle.octets.proofs.Places.{enough, too-few, cond-same}
 use Rattle.octets.specs.declared.error.Error.{Error}
 use Rattle.octets.specs.declared.error.Error.the-variants.{Eof}
 use Rattle.records.proofs.RoundTrip.{round-trip}
@@ -30,7 +30,6 @@ use Rattle.advertising.specs.declared.pdu.AdvData.{AdvData}
 use Rattle.advertising.specs.declared.pdu.Decoded.{Decoded}
 use Rattle.advertising.specs.declared.pdu.Outcome.the-variants as outcome
 use Rattle.advertising.specs.declared.pdu_buf.Built.{Built}
-use Rattle.advertising.specs.declared.pdu_buf.PduBuf.{PduBuf}
 use Rattle.beacon.specs.Laws.{Sends, Refusing, Broadcasting, Sendable}
 use Rattle.beacon.specs.Scanner.{reportOf}
 use Rattle.beacon.specs.Sending.{beaconPdu, beaconOf}
@@ -108,10 +107,6 @@ sent a s n b =
 no-records : readArea [] ≡ area.Accepted 0
 unfolding readArea areaOf reads cut
 no-records = refl
-
-cond-same : (b : Bool) (pdu : PduBuf) → cond b pdu pdu ≡ pdu
-cond-same true pdu = refl
-cond-same false pdu = refl
 
 module _ (a : DeviceAddress) (s : List ℕ) where
   beacon-refused : (e : Error) → beaconOf a s .outcome ≡ outcome.Refused e → beaconOf a s .beacon ≡ beaconOf a [] .beacon

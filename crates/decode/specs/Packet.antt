@@ -1,5 +1,5 @@
 -- A PDU that was read, as numbers: the refusal's (document 01), or 0, and all fields; those that the type lacks are 0, `window_end` 1250.
---   packetOf d                == what was decoded
+--   packetSaid d                == what was decoded
 --   decodedFrom made p        == of a header that was made, or not, and a payload
 use mathlib.Core.List.{List}
 use Prim.Native.Nat.{ℕ}
@@ -24,8 +24,8 @@ accuracyNumber Ppm31To50 = 5
 accuracyNumber Ppm21To30 = 6
 accuracyNumber Ppm0To20 = 7
 
-unfoldable pub packetOf : Decoded → Packet
-packetOf d =
+unfoldable pub packetSaid : Decoded → Packet
+packetSaid d =
     record {
       number = outcomeNumber (d .outcome);
       ty = typeCode (d .pdu .ty);
@@ -52,5 +52,5 @@ packetOf d =
     }
 
 abbrev pub decodedFrom : HeaderMade → List ℕ → Packet
-decodedFrom (made.Header h) p = packetOf (decodeOf h p)
-decodedFrom (made.Refused e) p = packetOf (refusedPdu e)
+decodedFrom (made.Header h) p = packetSaid (decodeOf h p)
+decodedFrom (made.Refused e) p = packetSaid (refusedPdu e)

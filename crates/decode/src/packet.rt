@@ -1,7 +1,7 @@
 // A PDU read, as numbers.
 ghost use mathlib.Core.Path.{_≡_};
 ghost use Rattle.addresses.specs.Header.{parsed};
-ghost use Rattle.decode.specs.Packet.{accuracyNumber, packetOf, decodedFrom};
+ghost use Rattle.decode.specs.Packet.{accuracyNumber, packetSaid, decodedFrom};
 use addresses::header::Header;
 use addresses::header::HeaderMade;
 use advertising::pdu::Decoded;
@@ -51,7 +51,7 @@ fn accuracy_number(sca: SleepClockAccuracy) -> u8
 }
 
 fn packet_of(decoded: Decoded) -> Packet
-    ensures { λ r. ⌜ r ≡ packetOf decoded ⌝ }
+    ensures { λ r. ⌜ r ≡ packetSaid decoded ⌝ }
 {
     let outcome = decoded.outcome;
     let pdu = decoded.pdu;

@@ -1,6 +1,6 @@
 -- Beacons and scanners as numbers.
 --   beaconSent made tx, beaconAfter made tx == what is transmitted of a beacon that was made, or not, and the transmit buffer afterwards
---   scannerAfter f t i n      == a scanner with a filter or without, configured at time t with interval i, after up to 3 timer updates at time t
+--   scannerWith f t i n      == a scanner with a filter or without, configured at time t with interval i, after up to 3 timer updates at time t
 --   heardFrom s made p crc l  == what a scanner says of a packet whose header was made, or not
 use mathlib.Core.Bool.{Bool, false, cond}
 use mathlib.Core.List.{List, [], _∷_}
@@ -74,14 +74,14 @@ updatedTimes n t u =
 abbrev pub at : ℕ → Instant
 at t = record { 0 = t }
 
-unfoldable pub scannerAfter : Bool → ℕ → ℕ → ℕ → Updated
-scannerAfter filtered t interval n = updatedTimes n (at t) (configured (scannerOf (filterFor filtered)) (at t) interval)
+unfoldable pub scannerWith : Bool → ℕ → ℕ → ℕ → Updated
+scannerWith filtered t interval n = updatedTimes n (at t) (configured (scannerOf (filterFor filtered)) (at t) interval)
 
 abbrev pub updatedGot : Updated → Got
 updatedGot u = found (indexOf (u .cmd .channel)) (u .cmd .«next_update» .0)
 
-abbrev pub heardOf : Scanned → Heard
-heardOf s =
+abbrev pub heardSaid : Scanned → Heard
+heardSaid s =
     record {
       number = reportNumber (s .report);
       reported = isReport (s .report);
@@ -101,11 +101,11 @@ unheard e =
 abbrev pub judgedBy : Report → Scanned → Error → Heard
 judgedBy report.Beacon s e = unheard e
 judgedBy report.Nothing s e = unheard e
-judgedBy (report.Refused x) s e = heardOf s
+judgedBy (report.Refused x) s e = heardSaid s
 
 abbrev pub headlessOf : BeaconScanner → List ℕ → Error → Heard
 headlessOf s list e = judgedBy (scanned s (headerOf 0) [] false list .report) (scanned s (headerOf 0) [] false list) e
 
 abbrev pub heardFrom : BeaconScanner → HeaderMade → List ℕ → Bool → List ℕ → Heard
-heardFrom s (made.Header h) p crcOk list = heardOf (scanned s h p crcOk list)
+heardFrom s (made.Header h) p crcOk list = heardSaid (scanned s h p crcOk list)
 heardFrom s (made.Refused e) p crcOk list = headlessOf s list e

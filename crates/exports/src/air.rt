@@ -5,7 +5,7 @@ ghost use Rattle.addresses.specs.Header.{parsed};
 ghost use Rattle.beacon.specs.Sending.{beaconOf};
 ghost use Rattle.beacon.specs.Scanner.{timerUpdated};
 ghost use mathlib.Core.Bool.{false};
-ghost use Rattle.exports.specs.Air.{broadcastSent, notSent, beaconSent, beaconAfter, filterFor, scannerAfter, updatedGot, heardOf, heardFrom, judgedBy, headlessOf, unheard};
+ghost use Rattle.exports.specs.Air.{broadcastSent, notSent, beaconSent, beaconAfter, filterFor, scannerWith, updatedGot, heardSaid, heardFrom, judgedBy, headlessOf, unheard};
 use crate::got::Got;
 use crate::got::found;
 use crate::packets::address;
@@ -80,7 +80,7 @@ pub extern "C" fn board_beacon(own: &[u8; 6], random: bool, records: &[u8], tx: 
 
 // A scanner after up to 3 timer updates, all at one time.
 fn scanner(filtered: bool, time: u32, interval: u32, updates: u8) -> Updated
-    ensures { λ r. ⌜ r ≡ scannerAfter filtered time interval updates ⌝ }
+    ensures { λ r. ⌜ r ≡ scannerWith filtered time interval updates ⌝ }
 {
     let at = Instant::from_raw_micros(time);
     let configured = BeaconScanner::with_filter(filter(filtered)).configure(at, interval);
@@ -113,7 +113,7 @@ fn filter(filtered: bool) -> AddressFilter
 // The channel that it listens on, and until when.
 #[no_mangle]
 pub extern "C" fn board_scanner(time: u32, interval: u32, updates: u8) -> Got
-    ensures { λ r. ⌜ r ≡ updatedGot (scannerAfter false time interval updates) ⌝ }
+    ensures { λ r. ⌜ r ≡ updatedGot (scannerWith false time interval updates) ⌝ }
 {
     let updated = scanner(false, time, interval, updates);
     let cmd = updated.cmd;
@@ -136,7 +136,7 @@ pub struct Heard {
 }
 
 fn told(scanned: Scanned) -> Heard
-    ensures { λ r. ⌜ r ≡ heardOf scanned ⌝ }
+    ensures { λ r. ⌜ r ≡ heardSaid scanned ⌝ }
 {
     let report = scanned.report;
     let from = scanned.sender;
@@ -202,7 +202,7 @@ pub extern "C" fn board_scan(
     payload: &[u8],
     crc_ok: bool,
 ) -> Heard
-    ensures { λ r. ⌜ r ≡ heardFrom (scannerAfter filtered 0 0 updates .scanner) (parsed (now (header .entry))) (now (payload .entry)) «crc_ok» (now (list .entry)) ⌝ }
+    ensures { λ r. ⌜ r ≡ heardFrom (scannerWith filtered 0 0 updates .scanner) (parsed (now (header .entry))) (now (payload .entry)) «crc_ok» (now (list .entry)) ⌝ }
 {
     let updated = scanner(filtered, 0, 0, updates);
     let listening = updated.scanner;

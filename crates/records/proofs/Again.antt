@@ -12,7 +12,7 @@ use borrow.Author.Tests.{eqb-true, eqb-false, ltb-false, le-ltb}
 use Rattle.octets.specs.declared.error.Error.the-variants.{Eof, InvalidLength}
 use Rattle.octets.specs.declared.uuid.UuidKind.the-variants.{Uuid16}
 use Rattle.octets.specs.Bytes.{part}
-use Rattle.octets.proofs.Places.{enough, front}
+use Rattle.octets.proofs.Places.{enough, front, drop-take}
 use Rattle.records.specs.declared.ad_structure.AdStructure.{AdStructure}
 use Rattle.records.specs.declared.ad_structure.AdStructure.the-variants as ad
 use Rattle.records.specs.declared.ad_structure.Parsed.{Parsed}
@@ -23,7 +23,7 @@ use Rattle.records.specs.declared.ad_structure.Checked.the-variants.{Fin
 use Rattle.records.specs.Record.{recordOf, named, flagsRead, uuidsRead, dataRead, upTo, recordRead, first}
 use Rattle.records.specs.Write.{typeOf, startOf, lenOf, checkOf, dataOf, mayWrite, octetsOf}
 use Rattle.records.specs.Area.{clean}
-use Rattle.records.proofs.Lists.{drop-one-take, take-length-take}
+use Rattle.records.proofs.Lists.{take-length-take}
 use Rattle.records.proofs.Cuts.{here, Step, stepped}
 
 pub named-twice : (x : ℕ) → named (named x) ≡ named x
@@ -119,7 +119,7 @@ meaning s at n body is h = go (eqb n 0) (ltb (length body) n) (dataRead (getD bo
     next = omega arith
 
     d-is : drop 1 body ≡ take (n - 1) (drop (at + 2) s)
-    d-is = rw (is, drop-one-take, drop-drop, next)
+    d-is = rw (is, drop-take 1 _ _, drop-drop, next)
 
     room : 0 < length body → at + 2 + length (drop 1 body) ≤ length s
     room some = rw (length-drop, is, length-take, length-drop) (omega (arith, rw (is, length-take, length-drop) at some))

@@ -6,7 +6,7 @@ use mathlib.Core.List.{List, _∷_, _++_}
 use Prim.Native.Nat.{ℕ, suc, _+_, _-_, _≤_, _<_, _^_}
 use native.Mathlib.Nat.{add-zero}
 use native.Mathlib.Omega.{arith}
-use lib.ListN.{length, take, drop, length-take, length-drop}
+use lib.ListN.{length, take, drop}
 use lib.Seq.{length-take-le, take-at, drop-at, drop-drop}
 use lib.Dec.{ltb, eqb·suc-zero}
 use borrow.Author.Tests.{leb-true, le-ltb, ne-eqb}
@@ -16,7 +16,7 @@ use Rattle.octets.specs.declared.uuid.UuidKind.{UuidKind}
 use Rattle.octets.specs.declared.uuid.UuidKind.the-variants.{Uuid16, Uuid32, Uuid128}
 use Rattle.utf8.specs.Utf8.{isUtf8}
 use Rattle.octets.specs.Bytes.{has, part, leBytes, written}
-use Rattle.octets.proofs.Laws.{written-keeps}
+use Rattle.octets.proofs.Laws.{written-keeps, parts}
 use Rattle.octets.proofs.Numbers.{field}
 use Rattle.octets.proofs.Places.{enough}
 use Rattle.records.specs.declared.ad_structure.AdStructure.{AdStructure}
@@ -68,10 +68,6 @@ module _ (ty : ℕ) (d out : List ℕ) (at : ℕ) (space : at + (length d + 2) �
   read-written =
       rw (le-ltb (length (written (recordOf ty d) out at)) at (omega (arith, long)), begins, take-at d behind (length d) refl, eqb·suc-zero, le-ltb (suc (length d)) (suc (length d)) (omega arith))
 
--- the lent part is as long as it says
-lent-long : (len start : ℕ) (s : List ℕ) → start + len ≤ length s → length (part len s start) ≡ len
-lent-long len start s h = rw (length-take, length-drop) (omega arith)
-
 -- a list or a name that passed its check
 whole-fine : (b : Bool) (e : Error) → cond b Fine (Checked.Refused e) ≡ Fine → b ≡ true
 whole-fine true e h = refl
@@ -80,12 +76,12 @@ whole-fine false e h = absurd (let z : _≡_ {A = ℕ} 0 1 = cc in omega arith)
 uuids-back : (k : UuidKind) (complete : Bool) (len from : ℕ) (s : List ℕ) (start : ℕ) → from + len ≤ length s → listCheck k (part len s from) ≡ Fine
     → uuidsRead k complete (part len s from) start ≡ Structure (uuidList k complete start len)
 unfolding uuidsRead
-uuids-back k complete len from s start placed fine = rw (whole-fine (wholeUuids k (part len s from)) Eof fine, lent-long len from s placed)
+uuids-back k complete len from s start placed fine = rw (whole-fine (wholeUuids k (part len s from)) Eof fine, parts s .as-long len from placed)
 
 name-back : (complete : Bool) (len from : ℕ) (s : List ℕ) (start : ℕ) → from + len ≤ length s → nameCheck (part len s from) ≡ Fine
     → nameRead complete (part len s from) start ≡ Structure (localName complete start len)
 unfolding nameRead
-name-back complete len from s start placed fine = rw (whole-fine (isUtf8 (part len s from)) InvalidValue fine, lent-long len from s placed)
+name-back complete len from s start placed fine = rw (whole-fine (isUtf8 (part len s from)) InvalidValue fine, parts s .as-long len from placed)
 
 read-itself : (a : AdStructure) (s out : List ℕ) (at start : ℕ) → May a s out at → AsItself a → dataRead (typeOf a) (dataOf a s) start ≡ Structure (movedTo start a)
 unfolding dataRead dataOf flagsRead
@@ -98,7 +94,7 @@ read-itself (ad.ServiceData16 uuid from len) s out at start m is = absurd is
 read-itself (ad.CompleteLocalName from len) s out at start m is = absurd is
 read-itself (ad.ShortenedLocalName from len) s out at start m is = absurd is
 read-itself (ad.ManufacturerSpecificData company from len) s out at start m is = absurd is
-read-itself (ad.Unknown ty from len) s out at start m is = rw (ne-eqb ty 1 (is .0), ne-eqb ty 2 (is .1), ne-eqb ty 3 (is .2), lent-long len from s (m .placed))
+read-itself (ad.Unknown ty from len) s out at start m is = rw (ne-eqb ty 1 (is .0), ne-eqb ty 2 (is .1), ne-eqb ty 3 (is .2), parts s .as-long len from (m .placed))
 
 left : (a : AdStructure) (s : List ℕ) (start : ℕ) → OfKnownType a → dataRead (typeOf a) (dataOf a s) start ≡ Structure (leftAs a s start)
 unfolding dataRead
@@ -130,10 +126,10 @@ known-itself (ad.ServiceUuids32 true from len) s out at start m is = rw add-zero
 known-itself (ad.ServiceUuids32 false from len) s out at start m is = rw add-zero (uuids-back Uuid32 false len from s start (m .placed) (m .checked))
 known-itself (ad.ServiceUuids128 true from len) s out at start m is = rw add-zero (uuids-back Uuid128 true len from s start (m .placed) (m .checked))
 known-itself (ad.ServiceUuids128 false from len) s out at start m is = rw add-zero (uuids-back Uuid128 false len from s start (m .placed) (m .checked))
-known-itself (ad.ServiceData16 uuid from len) s out at start m is = rw (pair-back serviceData uuid (part len s from) start is, lent-long len from s (m .placed))
+known-itself (ad.ServiceData16 uuid from len) s out at start m is = rw (pair-back serviceData uuid (part len s from) start is, parts s .as-long len from (m .placed))
 known-itself (ad.CompleteLocalName from len) s out at start m is = rw add-zero (name-back true len from s start (m .placed) (m .checked))
 known-itself (ad.ShortenedLocalName from len) s out at start m is = rw add-zero (name-back false len from s start (m .placed) (m .checked))
-known-itself (ad.ManufacturerSpecificData company from len) s out at start m is = rw (pair-back manufacturerData (company .0) (part len s from) start is, lent-long len from s (m .placed))
+known-itself (ad.ManufacturerSpecificData company from len) s out at start m is = rw (pair-back manufacturerData (company .0) (part len s from) start is, parts s .as-long len from (m .placed))
 known-itself (ad.Unknown ty from len) s out at start m is = absurd is
 
 pub written-and-read-back : WrittenAndReadBack

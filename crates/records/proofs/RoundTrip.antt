@@ -18,11 +18,11 @@ use Rattle.records.specs.Record.{named, flagsRead, dataRead, recordRead,
 use Rattle.records.specs.Write.{writtenTo, writtenAfter}
 use Rattle.records.specs.Area.{cut, records, reads, areaOf, readArea, clean, rewritten}
 use Rattle.records.specs.RoundTrip.{Cleans, NamedOnly, RoundTrip, ReadAndRewritten}
-use Rattle.records.proofs.Lists.{cond-same}
 use Rattle.octets.proofs.Laws.{octet-at}
 use Rattle.records.proofs.Cuts.{cut-skip, here, at-here, Step, stepped}
 use Rattle.records.proofs.Again.{named-twice, written-again}
 use Rattle.records.proofs.Rewritten.{clean-length, tile, rewritten-length}
+use Rattle.octets.proofs.Places.{cond-same}
 
 -- a record reads the same when it is written again
 reads-clean : (r : List ℕ) (at : ℕ) → recordRead (clean r) at ≡ recordRead r at

@@ -39,7 +39,10 @@ returns c =
     (reports .put-next2 .ensures) (c .before .before .put-next3 .ensures)
 
 same-length : tie.Need-same-length
-same-length c = ap length (returns c) ∙ last-length _ _ ∙ sym (c .before .before .before .before .before .before .before .before .before .before .before .before .before .before .pre)
+same-length c =
+    ap length (returns c)
+    ∙ last-length _ _
+    ∙ sym (c .before .before .before .before .before .before .before .before .before .before .before .before .before .before .pre)
 
 pub put-last-line-spec : {M : Type 1} → statement M
 put-last-line-spec =

@@ -1,11 +1,10 @@
 -- `hub::take_turn` meets its contract: what is left over of the octets is what the items do not take. Assumes nothing.
 use mathlib.Core.Path.{_≡_, sym, ap, _∙_}
 use mathlib.Core.Bool.{Bool}
-use mathlib.Core.List.{List, [], _∷_, _++_}
-use Prim.Native.Nat.{ℕ, zero, suc, _-_, _≤_}
+use mathlib.Core.List.{List, _++_}
+use Prim.Native.Nat.{ℕ, _-_, _≤_}
 use native.Mathlib.Omega.{arith}
 use lib.ListN.{length, take, drop, length-take, length-drop}
-use lib.Seq.{take-nil}
 use borrow.Author.Needs.{needs}
 use Rattle.items.specs.Item.{behind}
 use Rattle.hub.specs.Log.{hubOf, restOf, isStuck, loggedOf, turnOf, restIn}
@@ -14,12 +13,7 @@ use Rattle.hub.specs.declared.Logged.{Logged}
 use Rattle.items.proofs.Items.{items-fit}
 use Rattle.hub.proofs.take_turn.Statement.{statement}
 use Rattle.hub.proofs.take_turn.Tie as tie
-
-drop-take : (m n : ℕ) (l : List ℕ) → drop m (take n l) ≡ take (n - m) (drop m l)
-drop-take zero n l = let all : n - 0 ≡ n = omega arith in simp all
-drop-take (suc m) zero l = let nothing : 0 - suc m ≡ 0 = omega arith in simp nothing
-drop-take (suc m) (suc n) [] = sym (take-nil (suc n - suc m))
-drop-take (suc m) (suc n) (x ∷ l) = let less : suc n - suc m ≡ n - m = omega arith in rw less (drop-take m n l)
+use Rattle.octets.proofs.Places.{drop-take}
 
 module _ (h : Hub) (buf : List ℕ) (filled : ℕ) (g : Logged) (inside : filled ≤ length buf) (is : g ≡ loggedOf h (take filled buf)) where
   filled-long : length (take filled buf) ≡ filled

@@ -19,4 +19,15 @@ returns-2 c =
     (ap (λ (m : HeaderMade). decodedFrom m (c .before .before .before .before .before .before .before .before .args .payload .now)) (sym (c .before .before .before .e .given .1) ∙ c .before .before .before .before .before .parse .ensures))
 
 pub board-decode-spec : {M : Type 1} → statement M
-board-decode-spec = tie.close (tie.spec (λ c κs. search needs) (λ c. search needs) (λ c κs. search needs) (λ c κs. search needs) (λ c. search needs) (λ c κs. search needs) (λ c κs. search needs) returns returns-2)
+board-decode-spec =
+    tie.close
+    (tie.spec
+    (λ c κs. search needs)
+    (λ c. search needs)
+    (λ c κs. search needs)
+    (λ c κs. search needs)
+    (λ c. search needs)
+    (λ c κs. search needs)
+    (λ c κs. search needs)
+    returns
+    returns-2)

@@ -2,13 +2,13 @@
 use mathlib.Core.Path.{_≡_, ap, _∙_}
 use Rattle.addresses.specs.Address.{isRandom}
 use Rattle.channels.specs.declared.channel_map.ChannelMap.{ChannelMap}
-use Rattle.decode.specs.Packet.{accuracyNumber, packetOf}
+use Rattle.decode.specs.Packet.{accuracyNumber, packetSaid}
 use borrow.Author.Needs.{needs}
 use Rattle.decode.proofs.packet.packet_of.Statement.{statement}
 use Rattle.decode.proofs.packet.packet_of.Tie as tie
 
 returns : tie.Need-returns
-unfolding packetOf
+unfolding packetSaid
 returns c =
     let entry = c .before .before .before .before .before .before .before .before .before .before .before .before .before .before .before .before .before .before .before .before .before .before .before .before .before .before in
     let kind : c .before .before .before .before .before .before .before .before .before .before .before .before .before .before .is-random .result ≡ isRandom (entry .args .decoded .pdu .sender .kind) = c .before .before .before .before .before .before .before .before .before .before .before .before .before .before .is-random .ensures in

@@ -1,10 +1,22 @@
+-- `board_scanner` meets its contract. Assumes nothing.
 use mathlib.Core.Path.{_∙_}
 use borrow.Author.Needs.{needs}
 use Rattle.exports.proofs.air.board_scanner.Statement.{statement}
 use Rattle.exports.proofs.air.board_scanner.Tie as tie
 
 returns : tie.Need-returns
-returns c = c .found .ensures ∙ rw (c .before .raw-micros .ensures, c .before .before .channel .ensures, c .before .before .before .before .before .scanner .ensures)
+returns c =
+    c .found .ensures
+    ∙ rw (c .before .raw-micros .ensures, c .before .before .channel .ensures, c .before .before .before .before .before .scanner .ensures)
 
 pub board-scanner-spec : {M : Type 1} → statement M
-board-scanner-spec = tie.close (tie.spec (λ c κs. search needs) (λ c κs. search needs) (λ c. search needs) (λ c κs. search needs) (λ c. search needs) (λ c κs. search needs) returns)
+board-scanner-spec =
+    tie.close
+    (tie.spec
+    (λ c κs. search needs)
+    (λ c κs. search needs)
+    (λ c. search needs)
+    (λ c κs. search needs)
+    (λ c. search needs)
+    (λ c κs. search needs)
+    returns)

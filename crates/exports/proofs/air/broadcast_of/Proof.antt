@@ -1,3 +1,4 @@
+-- `broadcast_of` meets its contract. Assumes nothing.
 use mathlib.Core.Path.{sym, ap, _∙_}
 use Rattle.exports.specs.Air.{broadcastSent}
 use borrow.Author.Needs.{needs}
@@ -11,4 +12,15 @@ returns-2 : tie.Need-returns-2
 returns-2 c = c .not-sent .ensures ∙ ap broadcastSent (sym (c .before .before .broadcast2 .given .1))
 
 pub broadcast-of-spec : {M : Type 1} → statement M
-broadcast-of-spec = tie.close (tie.spec (λ c. search needs) (λ c κs. search needs) (λ c κs. search needs) (λ c κs. search needs) (λ c κs. search needs) (λ c. search needs) (λ c κs. search needs) returns returns-2)
+broadcast-of-spec =
+    tie.close
+    (tie.spec
+    (λ c. search needs)
+    (λ c κs. search needs)
+    (λ c κs. search needs)
+    (λ c κs. search needs)
+    (λ c κs. search needs)
+    (λ c. search needs)
+    (λ c κs. search needs)
+    returns
+    returns-2)

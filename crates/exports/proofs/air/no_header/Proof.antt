@@ -1,3 +1,4 @@
+-- `no_header` meets its contract. Assumes nothing.
 use borrow.Author.Needs.{needs}
 use Rattle.exports.proofs.air.no_header.Statement.{statement}
 use Rattle.exports.proofs.air.no_header.Tie as tie

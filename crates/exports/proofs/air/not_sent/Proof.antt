@@ -1,3 +1,4 @@
+-- `not_sent` meets its contract. Assumes nothing.
 use borrow.Author.Needs.{needs}
 use Rattle.exports.proofs.air.not_sent.Statement.{statement}
 use Rattle.exports.proofs.air.not_sent.Tie as tie

@@ -1,9 +1,29 @@
+-- `told` meets its contract. Assumes nothing.
 use borrow.Author.Needs.{needs}
 use Rattle.exports.proofs.air.told.Statement.{statement}
 use Rattle.exports.proofs.air.told.Tie as tie
 
 returns : tie.Need-returns
-returns c = λ i. record { number = c .before .before .before .number .ensures i; reported = c .before .before .is-report .ensures i; random = c .before .is-random .ensures i; sender = c .before .before .before .before .raw .ensures i; start = c .before .before .before .before .before .before .before .args .scanned .«adv_data» .start; len = c .before .before .before .before .before .before .before .args .scanned .«adv_data» .len; count = c .before .before .before .before .before .before .before .args .scanned .«adv_data» .count; channel = c .channel .ensures i }
+returns c =
+    let a = c .before .before .before .before .before .before .before .args in
+    λ i. record {
+      number = c .before .before .before .number .ensures i;
+      reported = c .before .before .is-report .ensures i;
+      random = c .before .is-random .ensures i;
+      sender = c .before .before .before .before .raw .ensures i;
+      start = a .scanned .«adv_data» .start;
+      len = a .scanned .«adv_data» .len;
+      count = a .scanned .«adv_data» .count;
+      channel = c .channel .ensures i;
+    }
 
 pub told-spec : {M : Type 1} → statement M
-told-spec = tie.close (tie.spec (λ c κs. search needs) (λ c κs. search needs) (λ c κs. search needs) (λ c κs. search needs) (λ c κs. search needs) returns)
+told-spec =
+    tie.close
+    (tie.spec
+    (λ c κs. search needs)
+    (λ c κs. search needs)
+    (λ c κs. search needs)
+    (λ c κs. search needs)
+    (λ c κs. search needs)
+    returns)

@@ -1,3 +1,4 @@
+-- `board_record` meets its contract. Assumes nothing.
 use mathlib.Core.Path.{sym, ap, _∙_}
 use Rattle.exports.specs.Areas.{readSaid}
 use borrow.Author.Needs.{needs}
@@ -14,4 +15,16 @@ returns-3 : tie.Need-returns-3
 returns-3 c = c .say-refused .ensures ∙ ap readSaid (sym (c .before .before .e .given .1) ∙ c .before .before .before .before .read-record .ensures)
 
 pub board-record-spec : {M : Type 1} → statement M
-board-record-spec = tie.close (tie.spec (λ c κs. search needs) (λ c. search needs) (λ c κs. search needs) (λ c. search needs) (λ c κs. search needs) (λ c. search needs) (λ c κs. search needs) returns returns-2 returns-3)
+board-record-spec =
+    tie.close
+    (tie.spec
+    (λ c κs. search needs)
+    (λ c. search needs)
+    (λ c κs. search needs)
+    (λ c. search needs)
+    (λ c κs. search needs)
+    (λ c. search needs)
+    (λ c κs. search needs)
+    returns
+    returns-2
+    returns-3)

@@ -1,3 +1,4 @@
+-- `board_rewrite` meets its contract. Assumes nothing.
 use mathlib.Core.Path.{ap, _∙_}
 use Rattle.exports.specs.Got.{writtenGot}
 use borrow.Author.Needs.{needs}

@@ -1,3 +1,4 @@
+-- `given` meets its contract. Assumes nothing.
 use borrow.Author.Tests.{ne-eqb}
 use Rattle.exports.specs.Areas.{structureIn}
 use borrow.Author.Needs.{needs}
@@ -41,4 +42,19 @@ unfolding structureIn
 returns-9 c = rw (ne-eqb _ 1 (c .match .rest .0 .0 .0 .0 .0 .0 .0 .1), ne-eqb _ 2 (c .match .rest .0 .0 .0 .0 .0 .0 .1), ne-eqb _ 3 (c .match .rest .0 .0 .0 .0 .0 .1), ne-eqb _ 4 (c .match .rest .0 .0 .0 .0 .1), ne-eqb _ 5 (c .match .rest .0 .0 .0 .1), ne-eqb _ 6 (c .match .rest .0 .0 .1), ne-eqb _ 7 (c .match .rest .0 .1), ne-eqb _ 8 (c .match .rest .1))
 
 pub given-spec : {M : Type 1} → statement M
-given-spec = tie.close (tie.spec (λ c. search needs) (λ c κs. search needs) (λ c κs. search needs) (λ c. search needs) returns returns-2 returns-3 returns-4 returns-5 returns-6 returns-7 returns-8 returns-9)
+given-spec =
+    tie.close
+    (tie.spec
+    (λ c. search needs)
+    (λ c κs. search needs)
+    (λ c κs. search needs)
+    (λ c. search needs)
+    returns
+    returns-2
+    returns-3
+    returns-4
+    returns-5
+    returns-6
+    returns-7
+    returns-8
+    returns-9)

@@ -1,3 +1,4 @@
+-- `say_parsed` meets its contract. Assumes nothing.
 use mathlib.Core.Path.{_∙_}
 use borrow.Author.Needs.{needs}
 use Rattle.exports.proofs.areas.say_parsed.Statement.{statement}

@@ -1,3 +1,4 @@
+-- `say_refused` meets its contract. Assumes nothing.
 use borrow.Author.Needs.{needs}
 use Rattle.exports.proofs.areas.say_refused.Statement.{statement}
 use Rattle.exports.proofs.areas.say_refused.Tie as tie

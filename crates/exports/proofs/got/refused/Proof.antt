@@ -1,3 +1,4 @@
+-- `refused` meets its contract. Assumes nothing.
 use borrow.Author.Needs.{needs}
 use Rattle.exports.proofs.got.refused.Statement.{statement}
 use Rattle.exports.proofs.got.refused.Tie as tie

@@ -1,3 +1,4 @@
+-- `written` meets its contract. Assumes nothing.
 use mathlib.Core.Path.{sym, ap, _∙_}
 use Rattle.exports.specs.Got.{writtenGot}
 use borrow.Author.Needs.{needs}

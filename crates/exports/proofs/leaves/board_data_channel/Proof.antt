@@ -1,3 +1,4 @@
+-- `board_data_channel` meets its contract. Assumes nothing.
 use mathlib.Core.Path.{sym, ap, _∙_}
 use Rattle.exports.specs.Leaves.{dataChannel}
 use borrow.Author.Needs.{needs}
@@ -11,4 +12,16 @@ returns-2 : tie.Need-returns-2
 returns-2 c = rw (c .number .ensures) (ap dataChannel (sym (c .before .before .e .given .1) ∙ c .before .before .before .before .new .ensures))
 
 pub board-data-channel-spec : {M : Type 1} → statement M
-board-data-channel-spec = tie.close (tie.spec (λ c κs. search needs) (λ c. search needs) (λ c κs. search needs) (λ c κs. search needs) (λ c κs. search needs) (λ c κs. search needs) (λ c. search needs) (λ c κs. search needs) returns returns-2)
+board-data-channel-spec =
+    tie.close
+    (tie.spec
+    (λ c κs. search needs)
+    (λ c. search needs)
+    (λ c κs. search needs)
+    (λ c κs. search needs)
+    (λ c κs. search needs)
+    (λ c κs. search needs)
+    (λ c. search needs)
+    (λ c κs. search needs)
+    returns
+    returns-2)

@@ -1,3 +1,4 @@
+-- `header_of` meets its contract. Assumes nothing.
 use mathlib.Core.Path.{sym, ap, _∙_}
 use Rattle.exports.specs.Lists.{headerOr}
 use borrow.Author.Needs.{needs}

@@ -1,3 +1,4 @@
+-- `step` meets its contract. Assumes nothing.
 use Rattle.octets.specs.Bytes.{partOr}
 use mathlib.Core.Path.{sym, ap, _∙_}
 use mathlib.Core.List.{List}
@@ -13,19 +14,53 @@ use Rattle.exports.proofs.lists.step.Statement.{statement}
 use Rattle.exports.proofs.lists.step.Tie as tie
 
 returns : tie.Need-returns
-returns c = (c .before .before .start-advertise .ensures .0 ∙ ap (callOf (c .before .before .before .before .before .before .before .before .before .before .before .before .before .args .device)) (as-start (c .before .before .before .before .before .before .before .before .before .before .before .before .before .args .call .now) (c .before .before .before .before .before .before .before .before .before .before .before .before .before .args .tx .now) (sym (c .before .before .before .before .before .before .octet2 .ensures) ∙ c .before .before .before .before .before .match .keys1) (c .before .before .before .before .before .before .before .before .before .from-raw-micros .ensures ∙ c .before .before .before .before .before .before .before .before .before .before .time-of .ensures) (c .before .before .before .before .interval-of .ensures) (c .before .before .before .before .before .before .before .part-of .ensures ∙ ap (λ (k : ℕ). partOr k (c .before .before .before .before .before .before .before .before .before .before .before .before .before .args .call .now) 14) (c .before .before .before .before .before .before .before .before .octet .ensures))), c .before .before .start-advertise .ensures .1 ∙ ap (λ (k : Call). bufferAfter (c .before .before .before .before .before .before .before .before .before .before .before .before .before .args .device) k (c .before .before .before .before .before .before .before .before .before .before .before .before .before .args .tx .now)) (as-start (c .before .before .before .before .before .before .before .before .before .before .before .before .before .args .call .now) (c .before .before .before .before .before .before .before .before .before .before .before .before .before .args .tx .now) (sym (c .before .before .before .before .before .before .octet2 .ensures) ∙ c .before .before .before .before .before .match .keys1) (c .before .before .before .before .before .before .before .before .before .from-raw-micros .ensures ∙ c .before .before .before .before .before .before .before .before .before .before .time-of .ensures) (c .before .before .before .before .interval-of .ensures) (c .before .before .before .before .before .before .before .part-of .ensures ∙ ap (λ (k : ℕ). partOr k (c .before .before .before .before .before .before .before .before .before .before .before .before .before .args .call .now) 14) (c .before .before .before .before .before .before .before .before .octet .ensures))))
+returns c =
+    let a = c .before .before .before .before .before .before .before .before .before .before .before .before .before .args in
+    (c .before .before .start-advertise .ensures .0 ∙ ap (callOf (a .device)) (as-start (a .call .now) (a .tx .now) (sym (c .before .before .before .before .before .before .octet2 .ensures) ∙ c .before .before .before .before .before .match .keys1) (c .before .before .before .before .before .before .before .before .before .from-raw-micros .ensures ∙ c .before .before .before .before .before .before .before .before .before .before .time-of .ensures) (c .before .before .before .before .interval-of .ensures) (c .before .before .before .before .before .before .before .part-of .ensures ∙ ap (λ (k : ℕ). partOr k (a .call .now) 14) (c .before .before .before .before .before .before .before .before .octet .ensures))), c .before .before .start-advertise .ensures .1 ∙ ap (λ (k : Call). bufferAfter (a .device) k (a .tx .now)) (as-start (a .call .now) (a .tx .now) (sym (c .before .before .before .before .before .before .octet2 .ensures) ∙ c .before .before .before .before .before .match .keys1) (c .before .before .before .before .before .before .before .before .before .from-raw-micros .ensures ∙ c .before .before .before .before .before .before .before .before .before .before .time-of .ensures) (c .before .before .before .before .interval-of .ensures) (c .before .before .before .before .before .before .before .part-of .ensures ∙ ap (λ (k : ℕ). partOr k (a .call .now) 14) (c .before .before .before .before .before .before .before .before .octet .ensures))))
 
 returns-2 : tie.Need-returns-2
-returns-2 c = (c .before .before .update-timer .ensures .0 ∙ ap (callOf (c .before .before .before .before .before .before .before .before .before .before .before .before .args .device)) (as-tick (c .before .before .before .before .before .before .before .before .before .before .before .before .args .call .now) (c .before .before .before .before .before .before .before .before .before .before .before .before .args .tx .now) (sym (c .before .before .before .before .before .octet2 .ensures) ∙ c .before .before .before .before .match .keys2)), c .before .before .update-timer .ensures .1 ∙ ap (λ (k : Call). bufferAfter (c .before .before .before .before .before .before .before .before .before .before .before .before .args .device) k (c .before .before .before .before .before .before .before .before .before .before .before .before .args .tx .now)) (as-tick (c .before .before .before .before .before .before .before .before .before .before .before .before .args .call .now) (c .before .before .before .before .before .before .before .before .before .before .before .before .args .tx .now) (sym (c .before .before .before .before .before .octet2 .ensures) ∙ c .before .before .before .before .match .keys2)))
+returns-2 c =
+    let a = c .before .before .before .before .before .before .before .before .before .before .before .before .args in
+    (c .before .before .update-timer .ensures .0 ∙ ap (callOf (a .device)) (as-tick (a .call .now) (a .tx .now) (sym (c .before .before .before .before .before .octet2 .ensures) ∙ c .before .before .before .before .match .keys2)), c .before .before .update-timer .ensures .1 ∙ ap (λ (k : Call). bufferAfter (a .device) k (a .tx .now)) (as-tick (a .call .now) (a .tx .now) (sym (c .before .before .before .before .before .octet2 .ensures) ∙ c .before .before .before .before .match .keys2)))
 
 returns-3 : tie.Need-returns-3
-returns-3 c = (c .process-adv-packet .ensures ∙ ap (callOf (c .before .before .before .before .before .before .before .before .before .before .before .before .args .device)) (as-packet (c .before .before .before .before .before .before .before .before .before .before .before .before .args .call .now) (c .before .before .before .before .before .before .before .before .before .before .before .before .args .tx .now) (sym (c .before .before .before .before .before .octet2 .ensures) ∙ c .before .before .before .before .match .keys3) (c .before .before .before .before .before .before .before .before .from-raw-micros .ensures ∙ c .before .before .before .before .before .before .before .before .before .time-of .ensures) (c .before .before .header-of .ensures ∙ ap (λ (s : List ℕ). headerOr (parsed s)) (c .before .before .before .part-of2 .ensures)) (c .before .before .before .before .before .before .part-of .ensures ∙ ap (λ (k : ℕ). partOr k (c .before .before .before .before .before .before .before .before .before .before .before .before .args .call .now) 14) (c .before .before .before .before .before .before .before .octet .ensures)) (ap (λ (k : ℕ). eqb k 1) (c .before .octet3 .ensures))), ap (λ (k : Call). bufferAfter (c .before .before .before .before .before .before .before .before .before .before .before .before .args .device) k (c .before .before .before .before .before .before .before .before .before .before .before .before .args .tx .now)) (as-packet (c .before .before .before .before .before .before .before .before .before .before .before .before .args .call .now) (c .before .before .before .before .before .before .before .before .before .before .before .before .args .tx .now) (sym (c .before .before .before .before .before .octet2 .ensures) ∙ c .before .before .before .before .match .keys3) (c .before .before .before .before .before .before .before .before .from-raw-micros .ensures ∙ c .before .before .before .before .before .before .before .before .before .time-of .ensures) (c .before .before .header-of .ensures ∙ ap (λ (s : List ℕ). headerOr (parsed s)) (c .before .before .before .part-of2 .ensures)) (c .before .before .before .before .before .before .part-of .ensures ∙ ap (λ (k : ℕ). partOr k (c .before .before .before .before .before .before .before .before .before .before .before .before .args .call .now) 14) (c .before .before .before .before .before .before .before .octet .ensures)) (ap (λ (k : ℕ). eqb k 1) (c .before .octet3 .ensures))))
+returns-3 c =
+    let a = c .before .before .before .before .before .before .before .before .before .before .before .before .args in
+    (c .process-adv-packet .ensures ∙ ap (callOf (a .device)) (as-packet (a .call .now) (a .tx .now) (sym (c .before .before .before .before .before .octet2 .ensures) ∙ c .before .before .before .before .match .keys3) (c .before .before .before .before .before .before .before .before .from-raw-micros .ensures ∙ c .before .before .before .before .before .before .before .before .before .time-of .ensures) (c .before .before .header-of .ensures ∙ ap (λ (s : List ℕ). headerOr (parsed s)) (c .before .before .before .part-of2 .ensures)) (c .before .before .before .before .before .before .part-of .ensures ∙ ap (λ (k : ℕ). partOr k (a .call .now) 14) (c .before .before .before .before .before .before .before .octet .ensures)) (ap (λ (k : ℕ). eqb k 1) (c .before .octet3 .ensures))), ap (λ (k : Call). bufferAfter (a .device) k (a .tx .now)) (as-packet (a .call .now) (a .tx .now) (sym (c .before .before .before .before .before .octet2 .ensures) ∙ c .before .before .before .before .match .keys3) (c .before .before .before .before .before .before .before .before .from-raw-micros .ensures ∙ c .before .before .before .before .before .before .before .before .before .time-of .ensures) (c .before .before .header-of .ensures ∙ ap (λ (s : List ℕ). headerOr (parsed s)) (c .before .before .before .part-of2 .ensures)) (c .before .before .before .before .before .before .part-of .ensures ∙ ap (λ (k : ℕ). partOr k (a .call .now) 14) (c .before .before .before .before .before .before .before .octet .ensures)) (ap (λ (k : ℕ). eqb k 1) (c .before .octet3 .ensures))))
 
 returns-4 : tie.Need-returns-4
-returns-4 c = (c .event .ensures ∙ ap (callOf (c .before .before .before .before .before .before .before .before .before .args .device)) (as-event (c .before .before .before .before .before .before .before .before .before .args .call .now) (c .before .before .before .before .before .before .before .before .before .args .tx .now) (sym (c .before .before .octet2 .ensures) ∙ c .before .match .keys4)), ap (λ (k : Call). bufferAfter (c .before .before .before .before .before .before .before .before .before .args .device) k (c .before .before .before .before .before .before .before .before .before .args .tx .now)) (as-event (c .before .before .before .before .before .before .before .before .before .args .call .now) (c .before .before .before .before .before .before .before .before .before .args .tx .now) (sym (c .before .before .octet2 .ensures) ∙ c .before .match .keys4)))
+returns-4 c =
+    let a = c .before .before .before .before .before .before .before .before .before .args in
+    (c .event .ensures ∙ ap (callOf (a .device)) (as-event (a .call .now) (a .tx .now) (sym (c .before .before .octet2 .ensures) ∙ c .before .match .keys4)), ap (λ (k : Call). bufferAfter (a .device) k (a .tx .now)) (as-event (a .call .now) (a .tx .now) (sym (c .before .before .octet2 .ensures) ∙ c .before .match .keys4)))
 
 returns-5 : tie.Need-returns-5
-returns-5 c = (c .stop .ensures ∙ ap (callOf (c .before .before .before .before .before .before .before .before .before .args .device)) (as-stop (c .before .before .before .before .before .before .before .before .before .args .call .now) (c .before .before .before .before .before .before .before .before .before .args .tx .now) (ap (λ (k : ℕ). eqb k 0) (sym (c .before .before .octet2 .ensures)) ∙ ne-eqb _ 0 (c .before .match .rest .0 .0 .0 .1)) (ap (λ (k : ℕ). eqb k 1) (sym (c .before .before .octet2 .ensures)) ∙ ne-eqb _ 1 (c .before .match .rest .0 .0 .1)) (ap (λ (k : ℕ). eqb k 2) (sym (c .before .before .octet2 .ensures)) ∙ ne-eqb _ 2 (c .before .match .rest .0 .1)) (ap (λ (k : ℕ). eqb k 3) (sym (c .before .before .octet2 .ensures)) ∙ ne-eqb _ 3 (c .before .match .rest .1))), ap (λ (k : Call). bufferAfter (c .before .before .before .before .before .before .before .before .before .args .device) k (c .before .before .before .before .before .before .before .before .before .args .tx .now)) (as-stop (c .before .before .before .before .before .before .before .before .before .args .call .now) (c .before .before .before .before .before .before .before .before .before .args .tx .now) (ap (λ (k : ℕ). eqb k 0) (sym (c .before .before .octet2 .ensures)) ∙ ne-eqb _ 0 (c .before .match .rest .0 .0 .0 .1)) (ap (λ (k : ℕ). eqb k 1) (sym (c .before .before .octet2 .ensures)) ∙ ne-eqb _ 1 (c .before .match .rest .0 .0 .1)) (ap (λ (k : ℕ). eqb k 2) (sym (c .before .before .octet2 .ensures)) ∙ ne-eqb _ 2 (c .before .match .rest .0 .1)) (ap (λ (k : ℕ). eqb k 3) (sym (c .before .before .octet2 .ensures)) ∙ ne-eqb _ 3 (c .before .match .rest .1))))
+returns-5 c =
+    let a = c .before .before .before .before .before .before .before .before .before .args in
+    (c .stop .ensures ∙ ap (callOf (a .device)) (as-stop (a .call .now) (a .tx .now) (ap (λ (k : ℕ). eqb k 0) (sym (c .before .before .octet2 .ensures)) ∙ ne-eqb _ 0 (c .before .match .rest .0 .0 .0 .1)) (ap (λ (k : ℕ). eqb k 1) (sym (c .before .before .octet2 .ensures)) ∙ ne-eqb _ 1 (c .before .match .rest .0 .0 .1)) (ap (λ (k : ℕ). eqb k 2) (sym (c .before .before .octet2 .ensures)) ∙ ne-eqb _ 2 (c .before .match .rest .0 .1)) (ap (λ (k : ℕ). eqb k 3) (sym (c .before .before .octet2 .ensures)) ∙ ne-eqb _ 3 (c .before .match .rest .1))), ap (λ (k : Call). bufferAfter (a .device) k (a .tx .now)) (as-stop (a .call .now) (a .tx .now) (ap (λ (k : ℕ). eqb k 0) (sym (c .before .before .octet2 .ensures)) ∙ ne-eqb _ 0 (c .before .match .rest .0 .0 .0 .1)) (ap (λ (k : ℕ). eqb k 1) (sym (c .before .before .octet2 .ensures)) ∙ ne-eqb _ 1 (c .before .match .rest .0 .0 .1)) (ap (λ (k : ℕ). eqb k 2) (sym (c .before .before .octet2 .ensures)) ∙ ne-eqb _ 2 (c .before .match .rest .0 .1)) (ap (λ (k : ℕ). eqb k 3) (sym (c .before .before .octet2 .ensures)) ∙ ne-eqb _ 3 (c .before .match .rest .1))))
 
 pub step-spec : {M : Type 1} → statement M
-step-spec = tie.close (tie.spec (λ c κs. search needs) (λ c κs. search needs) (λ c κs. search needs) (λ c. search needs) (λ c κs. search needs) (λ c κs. search needs) (λ c κs. search needs) (λ c κs. search needs) (λ c κs. search needs) (λ c κs. search needs) (λ c κs. search needs) (λ c κs. search needs) (λ c κs. search needs) (λ c κs. search needs) (λ c κs. search needs) (λ c. search needs) returns (λ c. search needs) returns-2 returns-3 returns-4 returns-5)
+step-spec =
+    tie.close
+    (tie.spec
+    (λ c κs. search needs)
+    (λ c κs. search needs)
+    (λ c κs. search needs)
+    (λ c. search needs)
+    (λ c κs. search needs)
+    (λ c κs. search needs)
+    (λ c κs. search needs)
+    (λ c κs. search needs)
+    (λ c κs. search needs)
+    (λ c κs. search needs)
+    (λ c κs. search needs)
+    (λ c κs. search needs)
+    (λ c κs. search needs)
+    (λ c κs. search needs)
+    (λ c κs. search needs)
+    (λ c. search needs)
+    returns
+    (λ c. search needs)
+    returns-2
+    returns-3
+    returns-4
+    returns-5)

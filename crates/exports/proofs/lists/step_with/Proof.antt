@@ -1,3 +1,4 @@
+-- `step_with` meets its contract. Assumes nothing.
 use mathlib.Core.Path.{_≡_, sym, ap, _∙_}
 use mathlib.Core.Bool.{true, false}
 use Prim.Native.Nat.{ℕ}
@@ -17,4 +18,13 @@ unfolding calledBy stepOf
 returns-2 c = let which : usesSecond (c .before .before .before .before .before .before .before .before .before .args .call .now) ≡ false = ap (λ (k : ℕ). eqb k 1) (sym (c .before .before .before .before .before .octet .ensures)) ∙ ne-eqb _ 1 (c .before .before .before .before .if1 .left) in (c .before .before .step2 .ensures .0 ∙ rw which, c .before .before .step2 .ensures .1 ∙ rw which, rw which)
 
 pub step-with-spec : {M : Type 1} → statement M
-step-with-spec = tie.close (tie.spec (λ c κs. search needs) (λ c κs. search needs) (λ c κs. search needs) (λ c. search needs) returns (λ c. search needs) returns-2)
+step-with-spec =
+    tie.close
+    (tie.spec
+    (λ c κs. search needs)
+    (λ c κs. search needs)
+    (λ c κs. search needs)
+    (λ c. search needs)
+    returns
+    (λ c. search needs)
+    returns-2)

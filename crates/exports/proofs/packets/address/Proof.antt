@@ -1,3 +1,4 @@
+-- `address` meets its contract. Assumes nothing.
 use mathlib.Core.Path.{_∙_}
 use borrow.Author.Needs.{needs}
 use Rattle.exports.proofs.packets.address.Statement.{statement}

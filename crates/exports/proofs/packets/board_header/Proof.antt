@@ -1,3 +1,4 @@
+-- `board_header` meets its contract. Assumes nothing.
 use mathlib.Core.Path.{sym, ap, _∙_}
 use Rattle.exports.specs.Packets.{headerSaid}
 use borrow.Author.Needs.{needs}
@@ -11,4 +12,20 @@ returns-2 : tie.Need-returns-2
 returns-2 c = rw (c .number .ensures) (ap headerSaid (sym (c .before .before .e .given .1) ∙ c .before .before .before .before .parse .ensures))
 
 pub board-header-spec : {M : Type 1} → statement M
-board-header-spec = tie.close (tie.spec (λ c κs. search needs) (λ c. search needs) (λ c κs. search needs) (λ c κs. search needs) (λ c κs. search needs) (λ c κs. search needs) (λ c κs. search needs) (λ c κs. search needs) (λ c κs. search needs) (λ c κs. search needs) (λ c. search needs) (λ c κs. search needs) returns returns-2)
+board-header-spec =
+    tie.close
+    (tie.spec
+    (λ c κs. search needs)
+    (λ c. search needs)
+    (λ c κs. search needs)
+    (λ c κs. search needs)
+    (λ c κs. search needs)
+    (λ c κs. search needs)
+    (λ c κs. search needs)
+    (λ c κs. search needs)
+    (λ c κs. search needs)
+    (λ c κs. search needs)
+    (λ c. search needs)
+    (λ c κs. search needs)
+    returns
+    returns-2)

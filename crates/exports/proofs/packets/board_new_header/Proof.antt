@@ -1,3 +1,4 @@
+-- `board_new_header` meets its contract. Assumes nothing.
 use mathlib.Core.Path.{_∙_}
 use borrow.Author.Needs.{needs}
 use Rattle.exports.proofs.packets.board_new_header.Statement.{statement}

@@ -1,3 +1,4 @@
+-- `frame_of` meets its contract. Assumes nothing.
 use borrow.Author.Needs.{needs}
 use Rattle.exports.proofs.packets.frame_of.Statement.{statement}
 use Rattle.exports.proofs.packets.frame_of.Tie as tie

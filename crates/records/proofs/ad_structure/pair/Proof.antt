@@ -8,4 +8,9 @@ use Rattle.records.proofs.ad_structure.pair.Statement.{statement}
 use Rattle.records.proofs.ad_structure.pair.Tie as tie
 
 pub pair-spec : {M : Type 1} → statement M
-pair-spec = tie.close (tie.spec (λ c. rw (c .if1 .taken)) (λ c κs. search needs) (λ c. let a = c .before .before .args in rw (c .before .if1 .left) (ap (λ (number : ℕ). manufacturerData number (a .start) (a .len)) (c .from-raw .ensures))))
+pair-spec =
+    tie.close
+    (tie.spec
+    (λ c. rw (c .if1 .taken))
+    (λ c κs. search needs)
+    (λ c. let a = c .before .before .args in rw (c .before .if1 .left) (ap (λ (number : ℕ). manufacturerData number (a .start) (a .len)) (c .from-raw .ensures))))

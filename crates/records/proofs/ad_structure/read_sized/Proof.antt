@@ -9,8 +9,7 @@ use lib.Seq.{getD-drop, getD-take, drop-drop}
 use borrow.Author.Needs.{needs}
 use borrow.Author.Tests.{eq-eqb, ne-eqb, lt-ltb, le-ltb}
 use Rattle.records.specs.Record.{dataRead, upTo, recordRead, first}
-use Rattle.octets.proofs.Places.{front}
-use Rattle.records.proofs.Lists.{drop-one-take}
+use Rattle.octets.proofs.Places.{front, drop-take}
 use Rattle.records.proofs.ad_structure.read_sized.Statement.{statement}
 use Rattle.records.proofs.ad_structure.read_sized.Tie as tie
 
@@ -40,7 +39,7 @@ within s at n is more fits =
     let data-at : at + 1 + 1 ≡ at + 2 = omega arith in
     let data-long : at + 1 + n - (at + 2) ≡ n - 1 = omega arith in
     let end : at + suc n ≡ at + 1 + n = omega arith in
-    simp (front s at (omega arith), ← is, ne-eqb _ _ more, whole, le-ltb n n (omega arith), getD-take, drop-one-take, getD-drop, drop-drop, type-at, data-at, data-long, end)
+    simp (front s at (omega arith), ← is, ne-eqb _ _ more, whole, le-ltb n n (omega arith), getD-take, drop-take 1 n (drop (at + 1) s), getD-drop, drop-drop, type-at, data-at, data-long, end)
 
 room : (size at n : ℕ) → at < size → n ≤ size - at - 1 → at + 1 + n ≤ size
 room size at n within fits = omega arith

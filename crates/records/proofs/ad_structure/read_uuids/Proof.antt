@@ -16,4 +16,11 @@ unfolding uuidsRead
 refused c = rw (← c .before .size .ensures, ne-eqb _ _ (c .if1 .left))
 
 pub read-uuids-spec : {M : Type 1} → statement M
-read-uuids-spec = tie.close (tie.spec (λ c κs. search needs) (λ c. rw (c .size .ensures) (uuidSize-positive (c .before .before .args .kind))) (λ c κs. search needs) whole refused)
+read-uuids-spec =
+    tie.close
+    (tie.spec
+    (λ c κs. search needs)
+    (λ c. rw (c .size .ensures) (uuidSize-positive (c .before .before .args .kind)))
+    (λ c κs. search needs)
+    whole
+    refused)

@@ -1,3 +1,4 @@
+-- `Device::advertise` meets its contract. Assumes nothing.
 use borrow.Author.Needs.{needs}
 use Rattle.radio.proofs.link.Device.advertise.Statement.{statement}
 use Rattle.radio.proofs.link.Device.advertise.Tie as tie

@@ -1,3 +1,4 @@
+-- `Device::event` meets its contract. Assumes nothing.
 use mathlib.Core.Path.{_∙_}
 use Rattle.radio.specs.Calls.{eventOf}
 use borrow.Author.Needs.{needs}

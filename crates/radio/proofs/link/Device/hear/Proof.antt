@@ -1,3 +1,4 @@
+-- `Device::hear` meets its contract. Assumes nothing.
 use mathlib.Core.Path.{_∙_}
 use Rattle.radio.specs.Calls.{isFor}
 use borrow.Author.Needs.{needs}
@@ -6,11 +7,15 @@ use Rattle.radio.proofs.link.Device.hear.Tie as tie
 
 returns : tie.Need-returns
 unfolding isFor
-returns c = c .take .ensures ∙ rw (← c .before .before .before .before .before .before .has-receiver .ensures, c .before .before .before .before .before .if1 .taken, ← c .before .before .before .receiver .ensures, ← c .before .before .eq .ensures, c .before .if2 .taken)
+returns c =
+    c .take .ensures
+    ∙ rw (← c .before .before .before .before .before .before .has-receiver .ensures, c .before .before .before .before .before .if1 .taken, ← c .before .before .before .receiver .ensures, ← c .before .before .eq .ensures, c .before .if2 .taken)
 
 returns-2 : tie.Need-returns-2
 unfolding isFor
-returns-2 c = c .listen .ensures ∙ rw (← c .before .before .before .before .before .before .has-receiver .ensures, c .before .before .before .before .before .if1 .taken, ← c .before .before .before .receiver .ensures, ← c .before .before .eq .ensures, c .before .if2 .left)
+returns-2 c =
+    c .listen .ensures
+    ∙ rw (← c .before .before .before .before .before .before .has-receiver .ensures, c .before .before .before .before .before .if1 .taken, ← c .before .before .before .receiver .ensures, ← c .before .before .eq .ensures, c .before .if2 .left)
 
 returns-3 : tie.Need-returns-3
 unfolding isFor

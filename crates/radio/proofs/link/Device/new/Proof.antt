@@ -1,3 +1,4 @@
+-- `Device::new` meets its contract. Assumes nothing.
 use borrow.Author.Needs.{needs}
 use Rattle.radio.proofs.link.Device.new.Statement.{statement}
 use Rattle.radio.proofs.link.Device.new.Tie as tie

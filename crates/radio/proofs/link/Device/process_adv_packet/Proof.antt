@@ -1,3 +1,4 @@
+-- `Device::process_adv_packet` meets its contract. Assumes nothing.
 use mathlib.Core.Path.{_∙_}
 use Rattle.radio.specs.Calls.{packetOf}
 use borrow.Author.Needs.{needs}
@@ -6,7 +7,9 @@ use Rattle.radio.proofs.link.Device.process_adv_packet.Tie as tie
 
 returns : tie.Need-returns
 unfolding packetOf
-returns c = c .hear .ensures ∙ rw (← c .before .before .before .before .before .is-advertising .ensures, c .before .before .before .before .if1 .taken, c .before .before .before .if2 .taken, c .before .before .from-header-and-payload .ensures)
+returns c =
+    c .hear .ensures
+    ∙ rw (← c .before .before .before .before .before .is-advertising .ensures, c .before .before .before .before .if1 .taken, c .before .before .before .if2 .taken, c .before .before .from-header-and-payload .ensures)
 
 returns-2 : tie.Need-returns-2
 unfolding packetOf

@@ -1,3 +1,4 @@
+-- `Device::respond` meets its contract. Assumes nothing.
 use mathlib.Core.Path.{_≡_}
 use lib.ListN.{length}
 use Rattle.radio.proofs.Answers.{response-header}

@@ -1,3 +1,4 @@
+-- `Device::start_advertise` meets its contract. Assumes nothing.
 use mathlib.Core.Path.{_∙_}
 use Rattle.radio.specs.Calls.{startOf, startAfter}
 use borrow.Author.Needs.{needs}

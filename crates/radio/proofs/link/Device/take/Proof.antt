@@ -1,3 +1,4 @@
+-- `Device::take` meets its contract. Assumes nothing.
 use mathlib.Core.List.{[], _∷_}
 use mathlib.Core.Path.{_≡_, refl, _∙_}
 use types.Run.{OneOf, miss}

@@ -1,3 +1,4 @@
+-- `Device::transmit` meets its contract. Assumes nothing.
 use mathlib.Core.Path.{_∙_}
 use borrow.Author.Needs.{needs}
 use Rattle.radio.proofs.link.Device.transmit.Statement.{statement}

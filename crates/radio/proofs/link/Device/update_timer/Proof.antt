@@ -1,3 +1,4 @@
+-- `Device::update_timer` meets its contract. Assumes nothing.
 use mathlib.Core.Path.{_∙_}
 use Rattle.radio.specs.Calls.{tickOf, tickAfter}
 use borrow.Author.Needs.{needs}
