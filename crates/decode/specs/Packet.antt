@@ -1,5 +1,5 @@
 -- A PDU that was read, as numbers: the refusal's (document 01), or 0, and all fields; those that the type lacks are 0, `window_end` 1250.
---   packetSaid d                == what was decoded
+--   packetSaid d              == what was decoded
 --   decodedFrom made p        == of a header that was made, or not, and a payload
 use mathlib.Core.List.{List}
 use Prim.Native.Nat.{ℕ}

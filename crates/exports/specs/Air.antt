@@ -1,6 +1,6 @@
 -- Beacons and scanners as numbers.
 --   beaconSent made tx, beaconAfter made tx == what is transmitted of a beacon that was made, or not, and the transmit buffer afterwards
---   scannerWith f t i n      == a scanner with a filter or without, configured at time t with interval i, after up to 3 timer updates at time t
+--   scannerWith f t i n       == a scanner with a filter or without, configured at time t with interval i, after up to 3 timer updates at time t
 --   heardFrom s made p crc l  == what a scanner says of a packet whose header was made, or not
 use mathlib.Core.Bool.{Bool, false, cond}
 use mathlib.Core.List.{List, [], _∷_}

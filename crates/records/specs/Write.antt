@@ -76,6 +76,10 @@ lenOf a = shapeOf a .len
 abbrev pub checkOf : AdStructure → List ℕ → Checked
 checkOf a d = shapeOf a .check d
 
+-- the outline of a record that has no octets of its own
+abbrev pub lentBy : ℕ → ℕ → ℕ → Bool → ℕ → Outline
+lentBy ty start len name unit = record { ty = ty; own = 0; held = 0; start = start; len = len; name = name; unit = unit }
+
 -- the octets of its own that an outline writes, and its check of the lent part d
 abbrev pub ownIn : Outline → List ℕ
 ownIn o = take (o .held) (leBytes 2 (o .own))

@@ -8,7 +8,7 @@ ghost use lib.ListN.{length, getD, drop};
 ghost use Rattle.octets.specs.Bytes.{written};
 ghost use Rattle.records.specs.Record.{recordOf, named, bit, uuidList, flagsRead, uuidsRead, localName, nameRead, pairKind, pairRead, dataRead, kindRead, first, recordRead, knownRead, recordAt};
 ghost use Rattle.records.specs.Uuids.{uuid16At};
-ghost use Rattle.records.specs.Write.{IsOutline, lentCheck, spaceIn, andThen, lentTo, lentAfter, writtenTo, writtenAfter};
+ghost use Rattle.records.specs.Write.{IsOutline, lentBy, lentCheck, spaceIn, andThen, lentTo, lentAfter, writtenTo, writtenAfter};
 use octets::bytes::ByteReader;
 use octets::bytes::ByteWriter;
 use octets::bytes::Written;
@@ -123,53 +123,38 @@ impl AdStructure {
                 complete,
                 start,
                 len,
-            } => Outline {
-                ty: either(
+            } => {
+                let ty = either(
                     complete,
                     Type::COMPLETE_LIST_OF_16BIT_SERVICE_UUIDS,
                     Type::INCOMPLETE_LIST_OF_16BIT_SERVICE_UUIDS,
-                ),
-                own: 0,
-                held: 0,
-                start,
-                len,
-                name: false,
-                unit: 2,
-            },
+                );
+                lent(ty, start, len, false, 2)
+            }
             AdStructure::ServiceUuids32 {
                 complete,
                 start,
                 len,
-            } => Outline {
-                ty: either(
+            } => {
+                let ty = either(
                     complete,
                     Type::COMPLETE_LIST_OF_32BIT_SERVICE_UUIDS,
                     Type::INCOMPLETE_LIST_OF_32BIT_SERVICE_UUIDS,
-                ),
-                own: 0,
-                held: 0,
-                start,
-                len,
-                name: false,
-                unit: 4,
-            },
+                );
+                lent(ty, start, len, false, 4)
+            }
             AdStructure::ServiceUuids128 {
                 complete,
                 start,
                 len,
-            } => Outline {
-                ty: either(
+            } => {
+                let ty = either(
                     complete,
                     Type::COMPLETE_LIST_OF_128BIT_SERVICE_UUIDS,
                     Type::INCOMPLETE_LIST_OF_128BIT_SERVICE_UUIDS,
-                ),
-                own: 0,
-                held: 0,
-                start,
-                len,
-                name: false,
-                unit: 16,
-            },
+                );
+                lent(ty, start, len, false, 16)
+            }
             AdStructure::ServiceData16 { uuid, start, len } => Outline {
                 ty: Type::SERVICE_DATA_16BIT_UUID,
                 own: uuid,
@@ -179,24 +164,12 @@ impl AdStructure {
                 name: false,
                 unit: 1,
             },
-            AdStructure::CompleteLocalName { start, len } => Outline {
-                ty: Type::COMPLETE_LOCAL_NAME,
-                own: 0,
-                held: 0,
-                start,
-                len,
-                name: true,
-                unit: 1,
-            },
-            AdStructure::ShortenedLocalName { start, len } => Outline {
-                ty: Type::SHORTENED_LOCAL_NAME,
-                own: 0,
-                held: 0,
-                start,
-                len,
-                name: true,
-                unit: 1,
-            },
+            AdStructure::CompleteLocalName { start, len } => {
+                lent(Type::COMPLETE_LOCAL_NAME, start, len, true, 1)
+            }
+            AdStructure::ShortenedLocalName { start, len } => {
+                lent(Type::SHORTENED_LOCAL_NAME, start, len, true, 1)
+            }
             AdStructure::ManufacturerSpecificData {
                 company_identifier,
                 start,
@@ -210,16 +183,23 @@ impl AdStructure {
                 name: false,
                 unit: 1,
             },
-            AdStructure::Unknown { ty, start, len } => Outline {
-                ty,
-                own: 0,
-                held: 0,
-                start,
-                len,
-                name: false,
-                unit: 1,
-            },
+            AdStructure::Unknown { ty, start, len } => lent(ty, start, len, false, 1),
         }
+    }
+}
+
+// The outline of a record that holds nothing itself.
+fn lent(ty: u8, start: usize, len: usize, name: bool, unit: usize) -> Outline
+    ensures { λ r. ⌜ r ≡ lentBy ty start len name unit ⌝ }
+{
+    Outline {
+        ty,
+        own: 0,
+        held: 0,
+        start,
+        len,
+        name,
+        unit,
     }
 }
 
