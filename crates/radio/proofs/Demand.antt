@@ -1,7 +1,7 @@
 -- Demand 3 holds of every own address and every list of calls: `demand-3`. Assumes nothing.
 use mathlib.Core.Bool.{Bool, true, false, cond, _&&_, and-false, false≢true}
 use mathlib.Core.List.{List, [], _∷_}
-use mathlib.Core.Path.{_≡_, refl, sym, ap, _∙_}
+use mathlib.Core.Path.{_≡_, refl, sym, ap, subst, _∙_}
 use Prim.Native.Nat.{ℕ}
 use native.Mathlib.Omega.{arith}
 use lib.ListN.{length}
@@ -11,12 +11,12 @@ use Rattle.addresses.specs.declared.device_address.DeviceAddress.{DeviceAddress
 use Rattle.addresses.specs.declared.header.Header.{Header}
 use Rattle.advertising.specs.Pdu.{hasReceiver, decodeOf, wellFormed}
 use Rattle.radio.specs.Calls.{fresh, isAdvertising, isFor, listens, refusal, addressed, packetOf}
-use Rattle.radio.specs.Demand.{RefusedAt, TicksFrom, BeginsAt, EventsFrom, Demand3}
-use Rattle.radio.specs.Trace.{Call, packet, callOf, forBoard, Reading, unread, readOn, Entry, traceFrom, trace, deviceFrom, deviceAfter, readFrom, modeAfter, AtEach, none, here, Strikable, crcBad, malformed, foreign, Choice, keep, strike, left}
+use Rattle.radio.specs.Demand.{RefusedAt, TicksFrom, ListeningFrom, BeginsAt, EventsFrom, StopsAt, Events, Demand3}
+use Rattle.radio.specs.Trace.{Call, packet, callOf, forBoard, Reading, unread, readOn, Entry, traceFrom, trace, deviceFrom, deviceAfter, readFrom, modeAfter, gather, tickRole, eventRole, AtEach, none, here, Strikable, crcBad, malformed, foreign, Choice, keep, strike, remaining}
 use Rattle.radio.specs.declared.link.Called.{Called}
 use Rattle.radio.specs.declared.link.Device.{Device}
 use Rattle.radio.proofs.Packets.{known}
-use Rattle.radio.proofs.Runs.{entryOf, traced, ticks-from, events-from, begins-at, refused-at}
+use Rattle.radio.proofs.Runs.{entryOf, traced, TicksOf, payloadIn, ticks-from, listening-from, events-from, begins-at, stops-at, refused-at}
 use Rattle.radio.proofs.Steps.{reading, Sound, happens, address-kept, sound-kept, reads-on}
 
 -- a device of this address, in a list
@@ -88,12 +88,12 @@ struck-same : (d : Device) (c : Call) → Strikable (d .«dev_addr») c → call
 struck-same d (packet end h p crcGood) s = unheard-same d end h p crcGood (not-ours s)
 
 module _ (own : DeviceAddress) where
-  others-same : (d : Device) {cs : List Call} (ch : Choice own cs) → Ours own d → traced d (left ch cs) ≡ left ch (traced d cs)
+  others-same : (d : Device) {cs : List Call} (ch : Choice own cs) → Ours own d → traced d (remaining ch cs) ≡ remaining ch (traced d cs)
   others-same d Choice.none ours = refl
   others-same d (keep {c = c} ch) ours = ap (entryOf d c (callOf d c) ∷_) (others-same (callOf d c .device) ch (next-ours c ours))
   others-same d (strike {c = c} s ch) ours = rw (struck-same d c (rw (ours .address) s)) (others-same d ch ours)
 
-  end-same : (d : Device) {cs : List Call} (ch : Choice own cs) → Ours own d → deviceFrom d (left ch cs) ≡ deviceFrom d cs
+  end-same : (d : Device) {cs : List Call} (ch : Choice own cs) → Ours own d → deviceFrom d (remaining ch cs) ≡ deviceFrom d cs
   end-same d Choice.none ours = refl
   end-same d (keep {c = c} ch) ours = end-same (callOf d c .device) ch (next-ours c ours)
   end-same d (strike {c = c} s ch) ours = rw (struck-same d c (rw (ours .address) s)) (end-same d ch ours)
@@ -112,13 +112,19 @@ demand-3 own six calls =
     record {
       refusals = rw (by-device calls) (at-each own RefusedAt (λ d c cs o. refused-at (happens d (o .sound) c)) (fresh own) calls ours);
       ticks = rw (by-device calls) (at-each own (TicksFrom own)
-          (λ d c cs o e. rw (← o .address) (ticks-from (happens d (o .sound) c) (next-ours c o .sound) e cs))
+          (λ d c cs o time interval records tx is e.
+          subst (λ (x : Call). TicksOf own x (entryOf d c (callOf d c) ∷ gather tickRole (traced (callOf d c .device) cs))) is
+          (rw (← o .address) (ticks-from (happens d (o .sound) c) (next-ours c o .sound) e cs)))
           (fresh own) calls ours);
+      listening = rw (by-device calls) (at-each own ListeningFrom (λ d c cs o. listening-from (happens d (o .sound) c) (next-ours c o .sound) cs) (fresh own) calls ours);
       begins = rw (by-device calls) (at-each own (BeginsAt own) (λ d c cs o. rw (← o .address) (begins-at (happens d (o .sound) c))) (fresh own) calls ours);
       events = rw (by-device calls) (at-each own EventsFrom
-          (λ d c cs o e. events-from (happens d (o .sound) c) (next-ours c o .sound) e cs)
+          (λ d c cs o end header payload crcGood is e.
+          subst (λ (p : List ℕ). Events p (entryOf d c (callOf d c) ∷ gather eventRole (traced (callOf d c .device) cs))) (ap payloadIn is)
+          (events-from (happens d (o .sound) c) (next-ours c o .sound) e cs))
           (fresh own) calls ours);
+      stops = rw (by-device calls) (at-each own StopsAt (λ d c cs o. stops-at (happens d (o .sound) c)) (fresh own) calls ours);
       mode = same-mode own unread (fresh own) calls ours refl;
-      others-same = λ ch. by-device (left ch calls) ∙ (others-same own (fresh own) ch ours ∙ ap (left ch) (sym (by-device calls)));
+      others-same = λ ch. by-device (remaining ch calls) ∙ (others-same own (fresh own) ch ours ∙ ap (remaining ch) (sym (by-device calls)));
       end-same = λ ch. end-same own (fresh own) ch ours;
     }

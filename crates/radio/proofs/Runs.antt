@@ -11,7 +11,7 @@ use Rattle.channels.proofs.Counting.{count-ext}
 use Rattle.channels.proofs.Cycles.{once-each, cycles-add}
 use Rattle.channels.proofs.Events.{fair, run}
 use Rattle.channels.specs.Count.{count}
-use Rattle.channels.specs.Hop.{eventChannel, uses as usesIn, before, hopped}
+use Rattle.channels.specs.Hop.{eventChannel, uses as usesIn, remapped, before, hopped}
 use Rattle.channels.specs.Laws.{cycles}
 use Rattle.channels.specs.Map.{marks, channelAt, fromRaw}
 use Rattle.channels.specs.Phy.{indexOf, cycled, firstChannel}
@@ -23,22 +23,23 @@ use Rattle.octets.specs.declared.time.Instant.{Instant}
 use Rattle.records.specs.Area.{rewritten}
 use Rattle.addresses.specs.Address.{isRandom}
 use Rattle.addresses.specs.declared.device_address.DeviceAddress.{DeviceAddress}
+use Rattle.addresses.specs.declared.header.Header.{Header}
 use Rattle.addresses.specs.declared.header.PduType.the-variants.{AdvInd}
 use Rattle.advertising.specs.Pdu.{requestOf}
 use Rattle.advertising.specs.PduBuf.{headerFor, flagsRecord, payloadOf}
 use Rattle.advertising.specs.declared.pdu_buf.PduBuf.{PduBuf}
 use Rattle.radio.specs.Calls.{instant, isAdvertising, advanced, advertised, beginning}
-use Rattle.radio.specs.Demand.{payloadIn, numberIn, isFirstEvent, Each, Tick, Ticks, TicksOf, Events}
-use Rattle.radio.specs.Trace.{Call, start, tick, packet, event, stop, callOf, octetsOf, mapIn, hopIn, connects, refusedBy, Entry, sentOn, eventOn, channelsBy, Role, ends, uses, passes, gathered, gather, tickRole, eventRole, times}
+use Rattle.radio.specs.Demand.{numberIn, isFirstEvent, Each, Tick, Ticks, ListeningFrom, Events}
+use Rattle.radio.specs.Trace.{Call, start, tick, packet, event, stop, callOf, octetsOf, mapIn, hopIn, connects, refusedBy, Entry, sentOn, eventOn, channelsBy, Role, ends, uses, passes, gathered, gather, tickRole, eventRole, hearRole, ListensOn, keeps, replies, times}
 use Rattle.radio.specs.declared.link.Advertisement.{Advertisement}
 use Rattle.radio.specs.declared.link.Answer.{Answer}
-use Rattle.radio.specs.declared.link.Answer.the-variants.{Sent}
+use Rattle.radio.specs.declared.link.Answer.the-variants.{Sent, Stopped}
 use Rattle.radio.specs.declared.link.Called.{Called}
 use Rattle.radio.specs.declared.link.Connection.{Connection}
 use Rattle.radio.specs.declared.link.Device.{Device}
 use Rattle.radio.specs.declared.link.Mode.{Mode}
 use Rattle.radio.specs.declared.link.Mode.the-variants.{Advertising, Connected}
-use Rattle.radio.proofs.Steps.{number, Made, Sound, Happens, starts, ticks, begins, hopping, stops, stays, happens, sound-kept}
+use Rattle.radio.proofs.Steps.{number, Made, Sound, Happens, starts, ticks, begins, hopping, stops, stays, happens, sound-kept, isStop, isSent, heardOn}
 
 -- an entry of the trace by the device alone, for a call that came to r
 abbrev pub entryOf : Device → Call → Called → Entry
@@ -155,6 +156,14 @@ module _ (own : DeviceAddress) (time : Instant) (interval : ℕ) (records : List
             ∙ once-each (cycles (suc k) firstChannel) c);
       }
 
+-- the accepted ticks of a start
+abbrev pub TicksOf : DeviceAddress → Call → List Entry → Type 0
+TicksOf own (start time interval records tx) entries = Ticks own time interval records entries
+TicksOf own (tick tx) entries = Unit {0}
+TicksOf own (packet end header payload crcGood) entries = Unit {0}
+TicksOf own event entries = Unit {0}
+TicksOf own stop entries = Unit {0}
+
 pub ticks-from : {d : Device} {c : Call} {r : Called} → Happens d c r → Sound (r .device) → eqb (number d c) 0 ≡ true
     → (cs : List Call) → TicksOf (d .«dev_addr») c (entryOf d c r ∷ gather tickRole (traced (r .device) cs))
 ticks-from {d} (starts time interval records tx pdu ok made wrote) sound a cs =
@@ -172,6 +181,58 @@ ticks-from (stays (tick tx) s) sound a cs = tt
 ticks-from (stays (packet end header payload crcGood) s) sound a cs = tt
 ticks-from (stays event s) sound a cs = tt
 ticks-from (stays stop s) sound a cs = tt
+
+-- Packets between two ticks are heard on the channel of the first
+
+listened : (c : AdvertisingChannel) {x : AdvertisingChannel} {a : Answer} → ListensOn x a → heardOn c a ≡ x
+listened c keeps = refl
+listened c replies = refl
+
+module _ (x : AdvertisingChannel) where
+  abbrev HearsOn : ℕ → Entry → Type 0
+  HearsOn k e = (y : AdvertisingChannel) → ListensOn y (e .result .answer) → y ≡ x
+
+  abbrev HearAt : ℕ → Device → Type 0
+  HearAt k d = d .adv .channel ≡ x
+
+  -- an answer that listens on no other channel than the device's
+  hears-on : (k : ℕ) (d : Device) (c : Call) (r : Called) → HearAt k d → heardOn (d .adv .channel) (r .answer) ≡ d .adv .channel → HearsOn k (entryOf d c r)
+  hears-on k d c r at is y l = sym (listened (d .adv .channel) l) ∙ (is ∙ at)
+
+  stays-moves : (k : ℕ) (d : Device) (c : Call) (r : Called) → HearsOn k (entryOf d c r) → HearAt k (r .device) → Moves HearsOn HearAt hearRole (hearRole false c) k (entryOf d c r)
+  unfolding hearRole
+  stays-moves k d (start time interval records tx) r on at = at
+  stays-moves k d (tick tx) r on at = at
+  stays-moves k d (packet end header payload crcGood) r on at = (on, at)
+  stays-moves k d event r on at = at
+  stays-moves k d stop r on at = at
+
+  hear-moves : (k : ℕ) {d : Device} {c : Call} {r : Called} → HearAt k d → Happens d c r
+      → Moves HearsOn HearAt hearRole (hearRole (eqb (number d c) 0) c) k (entryOf d c r)
+  unfolding hearRole refusedBy
+  hear-moves k at (starts time interval records tx pdu ok made wrote) = rw ok tt
+  hear-moves k at (ticks tx m ok wrote) = rw ok tt
+  hear-moves k {d} {c} {r} at (begins end header payload crcGood u channel m e ok some there low) = (hears-on k d c r at refl, at)
+  hear-moves k at (hopping u channel m there low ok) = at
+  hear-moves k at stops = at
+  hear-moves k {d} {r = r} at (stays c s) = rw (s .no-send) (stays-moves k d c r (hears-on k d c r at (s .hears)) at)
+
+  hear-run : (d : Device) (cs : List Call) → Sound d → HearAt 0 d → Each HearsOn 0 (gather hearRole (traced d cs))
+  hear-run d cs sound at = gather-each HearsOn HearAt hearRole (λ k d c sound at. hear-moves k at (happens d sound c)) d cs sound 0 at
+
+-- an answer that sent on a channel left the device there
+sent-there : {d : Device} {c : Call} {r : Called} → Happens d c r → (header : Header) (x : AdvertisingChannel) (next : Instant) → r .answer ≡ Sent header x next
+    → r .device .adv .channel ≡ x
+sent-there (starts time interval records tx pdu ok made wrote) header x next is = cc
+sent-there (ticks tx m ok wrote) header x next is = cc
+sent-there (begins end header payload crcGood u channel m e ok some there low) h x next is = absurd (false≢true (ap isSent is))
+sent-there (hopping u channel m there low ok) header x next is = absurd (false≢true (ap isSent is))
+sent-there stops header x next is = absurd (false≢true (ap isSent is))
+sent-there (stays c s) header x next is = absurd (false≢true (sym (s .unsent) ∙ ap isSent is))
+
+pub listening-from : {d : Device} {c : Call} {r : Called} → Happens d c r → Sound (r .device) → (cs : List Call)
+    → ListeningFrom (entryOf d c r) (traced (r .device) cs)
+listening-from {r = r} h sound cs header x next is = hear-run x (r .device) cs sound (sent-there h header x next is)
 
 -- Events move the connection by the hop, while connected
 
@@ -220,13 +281,21 @@ module _ (p : List ℕ) (some : 0 < marks (mapIn p)) where
   event-run = gather-each IsEvent EventAt eventRole (λ k d c sound at. event-moves k at (happens d sound c))
 
   events-of : (es : List Entry) → Each IsEvent 0 es → Events p es
-  unfolding usesIn
+  unfolding usesIn remapped
   events-of es each =
       record {
         by-hop = each;
         each-share = λ low high k fits i below.
             follows-times eventOn channelOf es each (channelAt (mapIn p) i) k 37 fits ∙ fair (mapIn p) (hopIn p) k i low high below;
       }
+
+-- the payload that a packet call is handed
+abbrev pub payloadIn : Call → List ℕ
+payloadIn (start time interval records tx) = []
+payloadIn (tick tx) = []
+payloadIn (packet end header payload crcGood) = payload
+payloadIn event = []
+payloadIn stop = []
 
 pub events-from : {d : Device} {c : Call} {r : Called} → Happens d c r → Sound (r .device) → isFirstEvent (r .answer) ≡ true
     → (cs : List Call) → Events (payloadIn c) (entryOf d c r ∷ gather eventRole (traced (r .device) cs))
@@ -250,6 +319,14 @@ begins-at (begins end header payload crcGood u channel m e ok some there low) = 
 begins-at (hopping u channel m there low ok) = simp and-false
 begins-at stops = simp and-false
 begins-at (stays c s) = s .no-first ∙ sym (s .no-connect)
+
+pub stops-at : {d : Device} {c : Call} {r : Called} → Happens d c r → c ≡ stop → r .answer ≡ Stopped
+stops-at (starts time interval records tx pdu ok made wrote) is = absurd (false≢true (ap isStop is))
+stops-at (ticks tx m ok wrote) is = absurd (false≢true (ap isStop is))
+stops-at (begins end header payload crcGood u channel m e ok some there low) is = absurd (false≢true (ap isStop is))
+stops-at (hopping u channel m there low ok) is = absurd (false≢true (ap isStop is))
+stops-at stops is = refl
+stops-at (stays c s) is = absurd (false≢true (sym (s .no-stop) ∙ ap isStop is))
 
 pub refused-at : {d : Device} {c : Call} {r : Called} → Happens d c r → numberIn (r .answer) ≡ number d c
 unfolding refusedBy

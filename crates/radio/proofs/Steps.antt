@@ -17,6 +17,7 @@ use Rattle.channels.specs.Hop.{mapped, next, hopped}
 use Rattle.channels.specs.Map.{fromRaw, marks}
 use Rattle.channels.specs.declared.channel_map.ChannelMap.{ChannelMap}
 use Rattle.channels.specs.declared.connection.Hop.the-variants as hop
+use Rattle.channels.specs.declared.phy.AdvertisingChannel.{AdvertisingChannel}
 use Rattle.channels.specs.declared.phy.DataChannel.{DataChannel}
 use Rattle.records.proofs.RoundTrip.{round-trip}
 use Rattle.records.specs.Area.{readArea, rewritten}
@@ -35,8 +36,9 @@ use Rattle.advertising.specs.declared.pdu.Pdu.{Pdu}
 use Rattle.advertising.specs.declared.pdu_buf.PduBuf.{PduBuf}
 use Rattle.radio.specs.Calls.{isAdvertising, isConnected, refusal, advertised, sent, beginning, isFor, listens, connectedAt, hoppedTo, connectsTo, addressed, hops, startOf, startAfter, tickOf, tickAfter, packetOf, eventOf, stopOf}
 use Rattle.radio.specs.Demand.{numberIn, isFirstEvent}
-use Rattle.radio.specs.Trace.{Call, start, tick, packet, event, stop, callOf, isConnectRequest, asks, mapIn, hopIn, connects, Reading, firstOf, startNumber, refusedBy, readOn, passes, tickRole, eventRole}
+use Rattle.radio.specs.Trace.{Call, start, tick, packet, event, stop, callOf, isConnectRequest, asks, mapIn, hopIn, connects, Reading, firstOf, startNumber, refusedBy, readOn, passes, tickRole, eventRole, hearRole}
 use Rattle.radio.specs.declared.link.Answer.{Answer}
+use Rattle.radio.specs.declared.link.Answer.the-variants.{Refused, Sent, Listen, Respond, FirstEvent, NextEvent, Stopped}
 use Rattle.radio.specs.declared.link.Called.{Called}
 use Rattle.radio.specs.declared.link.Connection.{Connection}
 use Rattle.radio.specs.declared.link.Device.{Device}
@@ -75,7 +77,33 @@ isStart (packet end header payload crcGood) = false
 isStart event = false
 isStart stop = false
 
--- a call that leaves the device as it is, no tick or event accepted and no connection begun
+abbrev pub isStop : Call → Bool
+isStop (start time interval records tx) = false
+isStop (tick tx) = false
+isStop (packet end header payload crcGood) = false
+isStop event = false
+isStop stop = true
+
+abbrev pub isSent : Answer → Bool
+isSent (Sent header channel next) = true
+isSent (Refused e) = false
+isSent (Listen channel) = false
+isSent (Respond header channel) = false
+isSent (FirstEvent channel at access crc) = false
+isSent (NextEvent channel) = false
+isSent Stopped = false
+
+-- the channel that an answer listens on; c where it listens on none
+abbrev pub heardOn : AdvertisingChannel → Answer → AdvertisingChannel
+heardOn c (Listen channel) = channel
+heardOn c (Respond header channel) = channel
+heardOn c (Sent header channel next) = c
+heardOn c (Refused e) = c
+heardOn c (FirstEvent channel at access crc) = c
+heardOn c (NextEvent channel) = c
+heardOn c Stopped = c
+
+-- a call that leaves the device as it is: no tick or event accepted, no connection begun, and nothing listened for on another channel
 pub record Stays (d : Device) (c : Call) (answer : Answer) : Type 0 where
   pub no-tick : tickRole (eqb (number d c) 0) c ≡ passes
   pub no-event : eventRole (eqb (number d c) 0) c ≡ passes
@@ -84,6 +112,10 @@ pub record Stays (d : Device) (c : Call) (answer : Answer) : Type 0 where
   pub no-first : isFirstEvent answer ≡ false
   pub no-connect : (isAdvertising (d .mode) && connects (d .«dev_addr») c) ≡ false
   pub refuses : numberIn answer ≡ number d c
+  pub no-send : hearRole (eqb (number d c) 0) c ≡ hearRole false c
+  pub hears : heardOn (d .adv .channel) answer ≡ d .adv .channel
+  pub no-stop : isStop c ≡ false
+  pub unsent : isSent answer ≡ false
 
 pub data Happens (d : Device) : Call → Called → Type 0 where
   starts : (time : Instant) (interval : ℕ) (records tx : List ℕ) (pdu : PduBuf) → startNumber records tx ≡ 0 → Made (d .«dev_addr») records pdu
@@ -132,33 +164,26 @@ hop-there map u h low some = rw (le-ltb 36 u low, ne-eqb (map .«num_used_channe
 next-low : (u h : ℕ) → next u h ≤ 36
 next-low u h = let below : next u h < 37 = mod-lt (u + h % 32) (omega arith) in omega arith
 
-abbrev isStop : Call → Bool
-isStop (start time interval records tx) = false
-isStop (tick tx) = false
-isStop (packet end header payload crcGood) = false
-isStop event = false
-isStop stop = true
-
 module _ (d : Device) (sound : Sound d) where
   -- a call that is refused
   refused : (c : Call) (e : Error) → number d c ≡ numberOf e → (isAdvertising (d .mode) && connects (d .«dev_addr») c) ≡ false → isStop c ≡ false
       → Happens d c (refusal d e)
-  unfolding tickRole eventRole readOn refusedBy
+  unfolding tickRole eventRole hearRole readOn refusedBy
   refused (start time interval records tx) e n k s =
       let not-0 : eqb (startNumber records tx) 0 ≡ false = rw n (no-zero e) in
       stays (start time interval records tx)
-      (record { no-tick = rw not-0; no-event = rw not-0; no-start = not-0; reads-same = rw not-0; no-first = refl; no-connect = k; refuses = sym n })
+      (record { no-tick = rw not-0; no-event = rw not-0; no-start = not-0; reads-same = rw not-0; no-first = refl; no-connect = k; refuses = sym n; no-send = rw not-0; hears = refl; no-stop = refl; unsent = refl })
   refused (tick tx) e n k s =
       let not-0 : eqb (number d (tick tx)) 0 ≡ false = rw n (no-zero e) in
       stays (tick tx)
-      (record { no-tick = rw not-0; no-event = refl; no-start = refl; reads-same = refl; no-first = refl; no-connect = k; refuses = sym n })
+      (record { no-tick = rw not-0; no-event = refl; no-start = refl; reads-same = refl; no-first = refl; no-connect = k; refuses = sym n; no-send = rw not-0; hears = refl; no-stop = refl; unsent = refl })
   refused (packet end header payload crcGood) e n k s =
       stays (packet end header payload crcGood)
-      (record { no-tick = refl; no-event = refl; no-start = refl; reads-same = rw k; no-first = refl; no-connect = k; refuses = sym n })
+      (record { no-tick = refl; no-event = refl; no-start = refl; reads-same = rw k; no-first = refl; no-connect = k; refuses = sym n; no-send = refl; hears = refl; no-stop = refl; unsent = refl })
   refused event e n k s =
       let not-0 : eqb (number d event) 0 ≡ false = rw n (no-zero e) in
       stays event
-      (record { no-tick = refl; no-event = rw not-0; no-start = refl; reads-same = refl; no-first = refl; no-connect = k; refuses = sym n })
+      (record { no-tick = refl; no-event = rw not-0; no-start = refl; reads-same = refl; no-first = refl; no-connect = k; refuses = sym n; no-send = refl; hears = refl; no-stop = refl; unsent = refl })
   refused stop e n k s = absurd (false≢true (sym s))
 
   module _ (time : Instant) (interval : ℕ) (records tx : List ℕ) where
@@ -243,11 +268,24 @@ module _ (d : Device) (sound : Sound d) where
     pdu = decodeOf header payload .pdu
 
     -- a packet that begins no connection and is not refused
-    unheard : (answer : Answer) → isFirstEvent answer ≡ false → numberIn answer ≡ 0 → asks own crcGood header payload ≡ false → d .mode ≡ Advertising
+    unheard : (answer : Answer) → isFirstEvent answer ≡ false → numberIn answer ≡ 0 → heardOn (d .adv .channel) answer ≡ d .adv .channel → isSent answer ≡ false → asks own crcGood header payload ≡ false → d .mode ≡ Advertising
         → Happens d this (record { answer = answer; device = d })
-    unfolding tickRole eventRole readOn refusedBy connects
-    unheard answer f n a m =
-        stays this (record { no-tick = refl; no-event = refl; no-start = refl; reads-same = simp (a, and-false); no-first = f; no-connect = simp (a, and-false); refuses = n ∙ rw (m, a) })
+    unfolding tickRole eventRole hearRole readOn refusedBy connects
+    unheard answer f n h u a m =
+        stays this
+        (record {
+          no-tick = refl;
+          no-event = refl;
+          no-start = refl;
+          reads-same = simp (a, and-false);
+          no-first = f;
+          no-connect = simp (a, and-false);
+          refuses = n ∙ rw (m, a);
+          no-send = refl;
+          hears = h;
+          no-stop = refl;
+          unsent = u;
+        })
 
     -- the packet asks to connect, where it is for this board and so well-formed
     asking : crcGood ≡ true → isFor own pdu ≡ true → isConnectRequest (pdu .ty) ≡ true → asks own crcGood header payload ≡ true
@@ -283,18 +321,18 @@ module _ (d : Device) (sound : Sound d) where
     unfolding addressed refusedBy
     packet-happens Standby m crc c ours o ty t = refused this WrongMode (rw m) (rw m) refl
     packet-happens Connected m crc c ours o ty t = refused this WrongMode (rw m) (rw m) refl
-    packet-happens Advertising m false c ours o ty t = unheard _ refl refl (bad-asks c) m
-    packet-happens Advertising m true c false o ty t = unheard _ refl refl (foreign-asks o) m
+    packet-happens Advertising m false c ours o ty t = unheard _ refl refl refl refl (bad-asks c) m
+    packet-happens Advertising m true c false o ty t = unheard _ refl refl refl refl (foreign-asks o) m
     packet-happens Advertising m true c true o ConnectReq t =
         let is : isConnectRequest (pdu .ty) ≡ true = rw t in
         rw (known header payload .request is) (begun m (asking c o is) (ltb 0 (marks (mapIn payload))) refl)
-    packet-happens Advertising m true c true o ScanReq t = unheard _ refl refl (other-asks ScanReq t refl) m
-    packet-happens Advertising m true c true o AdvDirectInd t = unheard _ refl refl (other-asks AdvDirectInd t refl) m
-    packet-happens Advertising m true c true o AdvInd t = unheard _ refl refl (other-asks AdvInd t refl) m
-    packet-happens Advertising m true c true o AdvNonconnInd t = unheard _ refl refl (other-asks AdvNonconnInd t refl) m
-    packet-happens Advertising m true c true o AdvScanInd t = unheard _ refl refl (other-asks AdvScanInd t refl) m
-    packet-happens Advertising m true c true o ScanRsp t = unheard _ refl refl (other-asks ScanRsp t refl) m
-    packet-happens Advertising m true c true o (Unknown n) t = unheard _ refl refl (other-asks (Unknown n) t refl) m
+    packet-happens Advertising m true c true o ScanReq t = unheard _ refl refl refl refl (other-asks ScanReq t refl) m
+    packet-happens Advertising m true c true o AdvDirectInd t = unheard _ refl refl refl refl (other-asks AdvDirectInd t refl) m
+    packet-happens Advertising m true c true o AdvInd t = unheard _ refl refl refl refl (other-asks AdvInd t refl) m
+    packet-happens Advertising m true c true o AdvNonconnInd t = unheard _ refl refl refl refl (other-asks AdvNonconnInd t refl) m
+    packet-happens Advertising m true c true o AdvScanInd t = unheard _ refl refl refl refl (other-asks AdvScanInd t refl) m
+    packet-happens Advertising m true c true o ScanRsp t = unheard _ refl refl refl refl (other-asks ScanRsp t refl) m
+    packet-happens Advertising m true c true o (Unknown n) t = unheard _ refl refl refl refl (other-asks (Unknown n) t refl) m
 
   pub happens : (c : Call) → Happens d c (callOf d c)
   unfolding tickOf packetOf eventOf

@@ -1,44 +1,38 @@
 -- Demand 3: what holds of every list of calls from a fresh device in standby. `demand-3` of proofs/Demand.antt proves it of every own address of six
 -- octets and every list; `Words` of specs/Laws.antt says what its words mean, and specs/Trace.antt has `Call`, `Entry` and `trace`.
---   payloadIn c               == the payload of a packet call
 --   numberIn a                == the number that an answer refuses with; 0 where it refuses nothing
 --   isFirstEvent a            == the answer is a connection's first event
 --   Each P k es               == P holds of each entry and its place, counted from k
 --   transmitted xs c          == the lent buffers of the call c with the payload xs transmitted
---   Tick, Ticks, TicksOf      == one tick of what a start set up, all of them, and the same by the call
+--   Tick, Ticks               == one tick of what a start set up, and all of them
 --   Events p es               == the events of the connection whose request has the payload p
---   RefusedAt, TicksFrom, BeginsAt, EventsFrom   == what holds at an entry, with the entries after it
+--   RefusedAt, TicksFrom, ListeningFrom, BeginsAt, EventsFrom, StopsAt   == what holds at an entry, with the entries after it
 --   Demand3 own calls         == the whole of demand 3
-use mathlib.Core.Bool.{Bool, true, false, _&&_}
+use mathlib.Core.Bool.{Bool, true, false, not, _&&_}
 use mathlib.Core.List.{List, [], _∷_, _++_}
 use mathlib.Core.Path.{_≡_}
-use Prim.Native.Nat.{ℕ, suc, _+_, _*_, _≤_, _<_}
+use Prim.Native.Nat.{ℕ, suc, _+_, _*_, _%_, _≤_, _<_}
+use lib.Dec.{eqb}
 use lib.ListN.{length, drop}
 use Rattle.octets.specs.Error.{numberOf}
 use Rattle.octets.specs.Time.{later}
 use Rattle.octets.specs.declared.time.Instant.{Instant}
-use Rattle.channels.specs.Hop.{eventChannel, remapped}
+use Rattle.channels.specs.Count.{count}
+use Rattle.channels.specs.Hop.{eventChannel}
 use Rattle.channels.specs.Laws.{cycles}
-use Rattle.channels.specs.Map.{marks, channelAt}
+use Rattle.channels.specs.Map.{marked, marks, channelAt}
 use Rattle.channels.specs.Phy.{indexOf, firstChannel}
 use Rattle.channels.specs.declared.phy.AdvertisingChannel.{AdvertisingChannel}
 use Rattle.records.specs.Area.{rewritten}
 use Rattle.addresses.specs.Address.{isRandom}
 use Rattle.addresses.specs.declared.device_address.DeviceAddress.{DeviceAddress}
+use Rattle.addresses.specs.declared.header.Header.{Header}
 use Rattle.addresses.specs.declared.header.PduType.the-variants.{AdvInd}
 use Rattle.advertising.specs.PduBuf.{headerFor, flagsRecord}
 use Rattle.radio.specs.Calls.{instant, isAdvertising}
-use Rattle.radio.specs.Trace.{Call, start, tick, packet, event, stop, mapIn, hopIn, connects, Entry, accepted, trace, deviceAfter, modeAfter, AtEach, sentOn, eventOn, channelsBy, gather, tickRole, eventRole, times, Choice, left}
+use Rattle.radio.specs.Trace.{Call, start, tick, packet, event, stop, mapIn, hopIn, connects, Entry, accepted, trace, deviceAfter, modeAfter, AtEach, sentOn, eventOn, channelsBy, gather, tickRole, eventRole, hearRole, ListensOn, times, Choice, remaining}
 use Rattle.radio.specs.declared.link.Answer.{Answer}
 use Rattle.radio.specs.declared.link.Answer.the-variants.{Refused, Sent, Listen, Respond, FirstEvent, NextEvent, Stopped}
-
--- the payload that a packet call is handed
-abbrev pub payloadIn : Call → List ℕ
-payloadIn (start time interval records tx) = []
-payloadIn (tick tx) = []
-payloadIn (packet end header payload crcGood) = payload
-payloadIn event = []
-payloadIn stop = []
 
 -- the number that an answer refuses with; 0 where it refuses nothing
 abbrev pub numberIn : Answer → ℕ
@@ -84,19 +78,15 @@ pub record Ticks (own : DeviceAddress) (time : Instant) (interval : ℕ) (record
   pub each : Each (Tick own time interval records) 0 entries
   pub each-once : (k : ℕ) → k + 3 ≤ length entries → (c : AdvertisingChannel) → times (indexOf c) k 3 (channelsBy sentOn entries) ≡ 1
 
-abbrev pub TicksOf : DeviceAddress → Call → List Entry → Type 0
-TicksOf own (start time interval records tx) entries = Ticks own time interval records entries
-TicksOf own (tick tx) entries = Unit {0}
-TicksOf own (packet end header payload crcGood) entries = Unit {0}
-TicksOf own event entries = Unit {0}
-TicksOf own stop entries = Unit {0}
-
--- the events of a connection, for the payload of its request: each channel is the one that the hop gives for the request's hop and map, and with hop 1
--- to 31 any 37 consecutive ones use the marked channel at place i 1 + u times, u counting the unmarked channels with index mod n = i
+-- the events of a connection, for the payload p of its request
 pub record Events (p : List ℕ) (entries : List Entry) : Type 0 where
+  -- each channel is the one that the hop gives for the request's hop and map
   pub by-hop : Each (λ k e. eventOn (e .result .answer) ≡ eventChannel (mapIn p) (hopIn p) k) 0 entries
-  pub each-share : 1 ≤ hopIn p → hopIn p ≤ 31 → (k : ℕ) → k + 37 ≤ length entries → (i : ℕ) → i < marks (mapIn p)
-      → times (channelAt (mapIn p) i) k 37 (channelsBy eventOn entries) ≡ 1 + remapped (mapIn p) i
+  -- with hop 1 to 31, any 37 consecutive ones, from event k on, use the marked channel at place i 1 + u times
+  pub each-share : 1 ≤ hopIn p → hopIn p ≤ 31 → (k : ℕ) → k + 37 ≤ length entries → (i : ℕ)
+      → let n : ℕ = marks (mapIn p) in
+      let u : ℕ = count (λ c. not (marked (mapIn p) c) && eqb (c % n) i) 37 in
+      i < n → times (channelAt (mapIn p) i) k 37 (channelsBy eventOn entries) ≡ 1 + u
 
 -- a call is refused with the number of the table, and exactly where the table refuses it
 abbrev pub RefusedAt : Entry → List Entry → Type 0
@@ -104,7 +94,15 @@ RefusedAt e after = numberIn (e .result .answer) ≡ e .number
 
 -- from an accepted start to the next, the start's own tick included
 abbrev pub TicksFrom : DeviceAddress → Entry → List Entry → Type 0
-TicksFrom own e after = accepted e ≡ true → TicksOf own (e .call) (e ∷ gather tickRole after)
+TicksFrom own e after =
+    (time : Instant) (interval : ℕ) (records tx : List ℕ) → e .call ≡ start time interval records tx → accepted e ≡ true
+    → Ticks own time interval records (e ∷ gather tickRole after)
+
+-- from a start or tick that sent on channel c to the next: a packet call that listens on a channel does so on c
+abbrev pub ListeningFrom : Entry → List Entry → Type 0
+ListeningFrom e after =
+    (header : Header) (c : AdvertisingChannel) (next : Instant) → e .result .answer ≡ Sent header c next
+    → Each (λ k heard. (d : AdvertisingChannel) → ListensOn d (heard .result .answer) → d ≡ c) 0 (gather hearRole after)
 
 -- a first event is given exactly where an advertising board is handed a connect request as `connects` says, and by that call
 abbrev pub BeginsAt : DeviceAddress → Entry → List Entry → Type 0
@@ -112,15 +110,31 @@ BeginsAt own e after = isFirstEvent (e .result .answer) ≡ (isAdvertising (e .m
 
 -- from a first event to a stop or an accepted start
 abbrev pub EventsFrom : Entry → List Entry → Type 0
-EventsFrom e after = isFirstEvent (e .result .answer) ≡ true → Events (payloadIn (e .call)) (e ∷ gather eventRole after)
+EventsFrom e after =
+    (end : Instant) (header : Header) (payload : List ℕ) (crcGood : Bool) → e .call ≡ packet end header payload crcGood → isFirstEvent (e .result .answer) ≡ true
+    → Events payload (e ∷ gather eventRole after)
+
+abbrev pub StopsAt : Entry → List Entry → Type 0
+StopsAt e after = e .call ≡ stop → e .result .answer ≡ Stopped
 
 pub record Demand3 (own : DeviceAddress) (calls : List Call) : Type 0 where
+  -- "Every call .. refuses only as document 01 says"; "A start, tick or event call is accepted if no row of the table refuses it."
   pub refusals : AtEach RefusedAt (trace own calls)
+  -- "From one accepted start to the next, any three successive accepted ticks, the start's own included, use 37, 38 and 39 once each."
   pub ticks : AtEach (TicksFrom own) (trace own calls)
+  -- "bad, malformed or foreign packets, and other types sent to us, keep listening", as a scan request's reply does: on the channel of the last accepted tick
+  pub listening : AtEach ListeningFrom (trace own calls)
+  -- "A connection begins exactly when an advertising board is handed a CRC-good, well-formed connect request to its own address, kind included, marking
+  -- n ≥ 1 channels; that request's call gives its first event."
   pub begins : AtEach (BeginsAt own) (trace own calls)
+  -- "With hop 1 to 31, any 37 consecutive events of it use the marked channel at place i (from 0) exactly 1 + u times, u counting unmarked channels with
+  -- index mod n = i."
   pub events : AtEach EventsFrom (trace own calls)
-  -- the device's mode is the list's
+  -- "Stop is accepted in every mode and leads to standby."
+  pub stops : AtEach StopsAt (trace own calls)
+  -- "The mode is read from the list": the device's is the same
   pub mode : deviceAfter own calls .mode ≡ modeAfter own calls
-  -- striking out any choice of CRC-bad, malformed or foreign packets leaves every other call's result and octets, and the device at the end
-  pub others-same : (ch : Choice own calls) → trace own (left ch calls) ≡ left ch (trace own calls)
-  pub end-same : (ch : Choice own calls) → deviceAfter own (left ch calls) ≡ deviceAfter own calls
+  -- "Striking out any of the list's CRC-bad or malformed packets, or of those not for this board, leaves every other call's result and octets,
+  pub others-same : (ch : Choice own calls) → trace own (remaining ch calls) ≡ remaining ch (trace own calls)
+  -- and the device at the end, the same."
+  pub end-same : (ch : Choice own calls) → deviceAfter own (remaining ch calls) ≡ deviceAfter own calls

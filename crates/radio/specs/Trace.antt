@@ -9,10 +9,12 @@
 --   readOn own l c            == the reading after the call
 --   trace own calls           == the calls from a fresh device, each with what the list says of it and what it gave
 --   deviceAfter, modeAfter    == the device at the end, and the mode that the list gives then
---   gather role entries       == the entries of a run of ticks or of events
+--   gather role entries       == the entries of a run of ticks, of events or of packets
 --   sentOn a, eventOn a       == the channel of a tick's answer, and of an event's; channelsBy: those of entries
 --   times c k n channels      == how many of the n channels from place k on are c
---   Strikable, Choice, left   == packets that may be struck out, any choice of them, and what is left
+--   ListensOn c a             == the answer a keeps listening on channel c, or replies there
+--   Strikable, Choice         == packets that may be struck out, and any choice of them
+--   remaining ch xs           == what remains of a list where the chosen are struck out
 use mathlib.Core.Bool.{Bool, true, false, cond, not, _&&_, _||_}
 use mathlib.Core.List.{List, [], _∷_, map}
 use mathlib.Core.Path.{_≡_}
@@ -25,6 +27,7 @@ use Rattle.octets.specs.declared.time.Instant.{Instant}
 use Rattle.channels.specs.Count.{count}
 use Rattle.channels.specs.Map.{marks}
 use Rattle.channels.specs.Phy.{indexOf}
+use Rattle.channels.specs.declared.phy.AdvertisingChannel.{AdvertisingChannel}
 use Rattle.records.specs.Area.{readArea}
 use Rattle.records.specs.declared.area.Area.{Area}
 use Rattle.records.specs.declared.area.Area.the-variants as area
@@ -205,7 +208,7 @@ eventOn Stopped = 40
 abbrev pub channelsBy : (Answer → ℕ) → List Entry → List ℕ
 channelsBy channel entries = map (λ (e : Entry). channel (e .result .answer)) entries
 
--- what an entry is to a run of ticks or of events: its end, one of the run, or neither
+-- what an entry is to a run of ticks, of events or of packets: its end, one of the run, or neither
 pub data Role : Type 0 where
   ends : Role
   uses : Role
@@ -236,6 +239,18 @@ eventRole ok (packet end header payload crcGood) = passes
 eventRole ok event = cond ok uses passes
 eventRole ok stop = ends
 
+-- the packets up to the next accepted start or tick
+unfoldable pub hearRole : Bool → Call → Role
+hearRole ok (start time interval records tx) = cond ok ends passes
+hearRole ok (tick tx) = cond ok ends passes
+hearRole ok (packet end header payload crcGood) = uses
+hearRole ok event = passes
+hearRole ok stop = passes
+
+pub data ListensOn (c : AdvertisingChannel) : Answer → Type 0 where
+  keeps : ListensOn c (Listen c)
+  replies : {header : Header} → ListensOn c (Respond header c)
+
 abbrev pub times : ℕ → ℕ → ℕ → List ℕ → ℕ
 times c k n channels = count (λ j. eqb (getD channels (k + j) 0) c) n
 
@@ -252,10 +267,10 @@ pub data Choice (own : DeviceAddress) : List Call → Type 0 where
   keep : {c : Call} {cs : List Call} → Choice own cs → Choice own (c ∷ cs)
   strike : {c : Call} {cs : List Call} → Strikable own c → Choice own cs → Choice own (c ∷ cs)
 
--- what is left of a list, one element for each call, where the chosen are struck out
-abbrev pub left : {A : Type 0} {own : DeviceAddress} {cs : List Call} → Choice own cs → List A → List A
-left none xs = xs
-left (keep ch) [] = []
-left (keep ch) (x ∷ xs) = x ∷ left ch xs
-left (strike s ch) [] = []
-left (strike s ch) (x ∷ xs) = left ch xs
+-- what remains of a list, one element for each call, where the chosen are struck out
+abbrev pub remaining : {A : Type 0} {own : DeviceAddress} {cs : List Call} → Choice own cs → List A → List A
+remaining none xs = xs
+remaining (keep ch) [] = []
+remaining (keep ch) (x ∷ xs) = x ∷ remaining ch xs
+remaining (strike s ch) [] = []
+remaining (strike s ch) (x ∷ xs) = remaining ch xs
