@@ -1,7 +1,7 @@
 // The link layer: a device in standby, advertising or connected. It goes into each call by value and comes back beside the answer.
 ghost use mathlib.Core.Path.{_≡_};
 ghost use Rattle.advertising.specs.PduBuf.{payloadTo, payloadAfter};
-ghost use Rattle.radio.specs.Calls.{fresh, isAdvertising, isConnected, refusal, listens, responds, connectsTo, addressed, advertised, sent, heard, hops, startOf, startAfter, tickOf, tickAfter, packetOf, eventOf, stopOf};
+ghost use Rattle.radio.specs.Calls.{fresh, isAdvertising, isConnected, refusal, listens, responds, connectsTo, addressed, advertised, sent, isFor, heard, hops, startOf, startAfter, tickOf, tickAfter, packetOf, eventOf, stopOf};
 use addresses::device_address::DeviceAddress;
 use addresses::header::Header;
 use addresses::header::PduType;
@@ -143,11 +143,12 @@ impl Device {
         let own = self.dev_addr;
         let built = PduBuf::discoverable(own, data);
         let pdu = built.pdu;
+        let channel = AdvertisingChannel::first();
         let adv = Advertisement {
             next_adv: time,
             interval,
             pdu,
-            channel: AdvertisingChannel::first(),
+            channel,
         };
         let outcome = built.outcome;
         match outcome {
@@ -278,16 +279,13 @@ impl Device {
         }
     }
 
-    // A CRC-good packet. One that does not decode has no second address.
+    // A CRC-good packet.
     fn hear(self, rx_end: Instant, pdu: Pdu) -> Called
         ensures { λ r. ⌜ r ≡ heard self «rx_end» pdu ⌝ }
     {
-        if pdu.has_receiver() {
-            let own = self.dev_addr;
-            if pdu.receiver().eq(own) {
-                return self.take(rx_end, pdu);
-            }
-            return self.listen();
+        let own = self.dev_addr;
+        if is_for(own, pdu) {
+            return self.take(rx_end, pdu);
         }
         self.listen()
     }
@@ -355,7 +353,7 @@ impl Device {
                     },
                 }
             }
-            Hop::Refused(e) => self.refused(e),
+            Hop::Refused(error) => self.refused(error),
         }
     }
 
@@ -387,4 +385,14 @@ impl Device {
             Hop::Refused(e) => self.refused(e),
         }
     }
+}
+
+// Whether the PDU has a second address, and that is `own`. One that did not decode has none.
+fn is_for(own: DeviceAddress, pdu: Pdu) -> bool
+    ensures { λ r. ⌜ r ≡ isFor own pdu ⌝ }
+{
+    if pdu.has_receiver() {
+        return pdu.receiver().eq(own);
+    }
+    false
 }

@@ -29,7 +29,7 @@ returns c =
     rw (is there, c .before .before .before .before .before .before .before .before .unmapped .given .1, there .before .before .channel-map .ensures, there .before .hop .ensures, c .crc-init .ensures, c .before .access-address .ensures, time)
 
 returns-2 : tie.Need-returns-2
-returns-2 c = c .refused .ensures ∙ sym (is (c .before .before .before .before) ∙ ap (connectedAt _ _ _) (c .before .before .e .given .1))
+returns-2 c = c .refused .ensures ∙ sym (is (c .before .before .before .before) ∙ ap (connectedAt _ _ _) (c .before .before .error .given .1))
 
 pub connect-spec : {M : Type 1} → statement M
 connect-spec =
