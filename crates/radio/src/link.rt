@@ -143,12 +143,12 @@ impl Device {
         let own = self.dev_addr;
         let built = PduBuf::discoverable(own, data);
         let pdu = built.pdu;
-        let channel = AdvertisingChannel::first();
+        let first = AdvertisingChannel::first();
         let adv = Advertisement {
             next_adv: time,
             interval,
             pdu,
-            channel,
+            channel: first,
         };
         let outcome = built.outcome;
         match outcome {
@@ -329,7 +329,10 @@ impl Device {
         let channel_map = lldata.channel_map();
         let hop = lldata.hop();
         match hop_channel(channel_map, 0, hop) {
-            Hop::To { unmapped, channel } => {
+            Hop::To {
+                unmapped: unmapped_channel,
+                channel,
+            } => {
                 // rubble's margin of 500 µs: with the 1,250 that the window's end includes, document 01's 1,750.
                 let at = rx_end.add(lldata.end_of_tx_window()).add(500);
                 let dev_addr = self.dev_addr;
@@ -348,7 +351,7 @@ impl Device {
                         conn: Connection {
                             channel_map,
                             hop,
-                            unmapped_channel: unmapped,
+                            unmapped_channel,
                         },
                     },
                 }

@@ -16,6 +16,9 @@ is c =
     let hop : c .hop-channel .result ≡ hopped (d .conn .«channel_map») (d .conn .«unmapped_channel») (d .conn .hop) = c .hop-channel .ensures in
     ap (hoppedTo d) (sym hop)
 
+refused-requires : tie.Need-refused-requires
+refused-requires c κs = search needs
+
 returns : tie.Need-returns
 returns c = sym (is (c .before .before .before .before .before) ∙ ap (hoppedTo _) (c .before .before .before .unmapped .given .1))
 
@@ -29,6 +32,6 @@ hop-spec =
     (λ c κs. search needs)
     (λ c. search needs)
     (λ c. search needs)
-    (λ c κs. search needs)
+    refused-requires
     returns
     returns-2)

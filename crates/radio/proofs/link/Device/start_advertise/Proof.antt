@@ -5,6 +5,9 @@ use borrow.Author.Needs.{needs}
 use Rattle.radio.proofs.link.Device.start_advertise.Statement.{statement}
 use Rattle.radio.proofs.link.Device.start_advertise.Tie as tie
 
+refused-requires : tie.Need-refused-requires
+refused-requires c κs = search needs
+
 returns : tie.Need-returns
 unfolding startOf startAfter
 returns c = (
@@ -28,7 +31,7 @@ start-advertise-spec =
     (λ c. search needs)
     (λ c κs. search needs)
     (λ c. search needs)
-    (λ c κs. search needs)
+    refused-requires
     (λ c. search needs)
     returns
     returns-2)
