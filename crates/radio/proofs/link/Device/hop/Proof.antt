@@ -16,8 +16,8 @@ is c =
     let hop : c .hop-channel .result ≡ hopped (d .conn .«channel_map») (d .conn .«unmapped_channel») (d .conn .hop) = c .hop-channel .ensures in
     ap (hoppedTo d) (sym hop)
 
-refused-requires : tie.Need-refused-requires
-refused-requires c κs = search needs
+enum-known-e : tie.Need-enum-known-e
+enum-known-e c = search needs
 
 returns : tie.Need-returns
 returns c = sym (is (c .before .before .before .before .before) ∙ ap (hoppedTo _) (c .before .before .before .unmapped .given .1))
@@ -31,7 +31,7 @@ hop-spec =
     (tie.spec
     (λ c κs. search needs)
     (λ c. search needs)
-    (λ c. search needs)
-    refused-requires
+    enum-known-e
+    (λ c κs. search needs)
     returns
     returns-2)
