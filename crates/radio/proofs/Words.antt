@@ -1,4 +1,4 @@
--- What the words of demand 3 mean, and what calls leave in buffers: `words`, `refusing`, `transmits`, `hearing`. Assumes nothing.
+-- What the words of demand 3 mean, and what calls leave in buffers: `words`, `modes`, `refusing`, `transmits`, `hearing`. Assumes nothing.
 use mathlib.Core.Bool.{Bool, true, false, cond, _&&_, false≢true}
 use mathlib.Core.List.{List, [], _∷_, _++_}
 use mathlib.Core.Logic.{_⊎_, inl, inr, ⊎-elim}
@@ -45,7 +45,7 @@ use Rattle.advertising.specs.declared.pdu.Outcome.the-variants as outcome
 use Rattle.advertising.specs.declared.pdu_buf.Built.{Built}
 use Rattle.radio.specs.Calls.{instant, isAdvertising, isConnected, refusal, sent, beginning, discoverable, started, startedAfter, isFor, listens, heard, connectedAt, connectsTo, addressed, hoppedTo, hops, startOf, startAfter, tickOf, tickAfter, packetOf, eventOf, stopOf}
 use Rattle.radio.specs.Demand.{numberIn}
-use Rattle.radio.specs.Laws.{ForBoard, Requests, Words, Refusing, Transmits, Hearing}
+use Rattle.radio.specs.Laws.{ForBoard, Requests, Words, Modes, Refusing, Transmits, Hearing}
 use Rattle.radio.specs.Trace.{Call, start, tick, packet, event, stop, callOf, isConnectRequest, forBoard, asks, mapIn, hopIn, connects, Strikable}
 use Rattle.radio.specs.declared.link.Advertisement.{Advertisement}
 use Rattle.radio.specs.declared.link.Answer.{Answer}
@@ -53,7 +53,7 @@ use Rattle.radio.specs.declared.link.Answer.the-variants.{Refused, Sent,
 use Rattle.radio.specs.declared.link.Called.{Called}
 use Rattle.radio.specs.declared.link.Device.{Device}
 use Rattle.radio.specs.declared.link.Mode.{Mode}
-use Rattle.radio.specs.declared.link.Mode.the-variants.{Advertising}
+use Rattle.radio.specs.declared.link.Mode.the-variants.{Standby, Advertising, Connected}
 use Rattle.radio.proofs.Packets.{Known, known}
 use Rattle.radio.proofs.Steps.{no-zero}
 use Rattle.radio.proofs.Demand.{not-ours}
@@ -240,6 +240,19 @@ refusing d event e =
       buffers = λ is. refl;
     }
 refusing d stop e = record { state = λ is. no-refusal (stopOf d .answer) refl is; buffers = λ is. refl }
+
+pub modes : (m : Mode) → Modes m
+modes Standby =
+    record {
+      advertising = λ e. absurd (false≢true e);
+      advertising-if = λ e. ap isAdvertising e;
+      connected = λ e. absurd (false≢true e);
+      connected-if = λ e. ap isConnected e;
+    }
+modes Advertising =
+    record { advertising = λ e. refl; advertising-if = λ e. refl; connected = λ e. absurd (false≢true e); connected-if = λ e. ap isConnected e }
+modes Connected =
+    record { advertising = λ e. absurd (false≢true e); advertising-if = λ e. ap isAdvertising e; connected = λ e. refl; connected-if = λ e. refl }
 
 module _ (d : Device) (tx : List ℕ) where
   ticked : (adv : Bool) → numberIn (cond adv (sent d (d .adv) (payloadTo (d .adv .pdu) tx)) (refusal d WrongMode) .answer) ≡ 0

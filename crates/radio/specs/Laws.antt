@@ -1,6 +1,7 @@
 -- The laws of the device, each with the theorem of proofs/ that proves it.
 --   Demand3       Demand.demand-3          every list of calls (specs/Demand.antt)
 --   Words         Words.words              what the words of demand 3 mean
+--   Modes         Words.modes              which mode advertises, and which is connected
 --   Refusing      Words.refusing           a refused call changes nothing
 --   Transmits     Words.transmits          what an accepted start and tick write
 --   Hearing       Words.hearing            what a packet to an advertising device comes to
@@ -27,13 +28,14 @@ use Rattle.addresses.specs.declared.header.Header.{Header}
 use Rattle.advertising.specs.Pdu.{decodeOf, wellFormed}
 use Rattle.advertising.specs.PduBuf.{flagsRecord, payloadOf}
 use Rattle.advertising.specs.declared.pdu.Outcome.the-variants as outcome
-use Rattle.radio.specs.Calls.{instant, fresh, packetOf}
+use Rattle.radio.specs.Calls.{isAdvertising, isConnected, instant, fresh, packetOf}
 use Rattle.radio.specs.Demand.{numberIn}
 use Rattle.radio.specs.Trace.{Call, start, tick, packet, event, stop, callOf, octetsOf, forBoard, mapIn, hopIn, connects, Entry, trace, eventOn, channelsBy, times, Strikable}
 use Rattle.radio.specs.declared.link.Answer.{Answer}
 use Rattle.radio.specs.declared.link.Answer.the-variants.{Refused, Sent, Listen, Respond, FirstEvent, NextEvent}
 use Rattle.radio.specs.declared.link.Device.{Device}
-use Rattle.radio.specs.declared.link.Mode.the-variants.{Standby, Advertising}
+use Rattle.radio.specs.declared.link.Mode.{Mode}
+use Rattle.radio.specs.declared.link.Mode.the-variants.{Standby, Advertising, Connected}
 
 -- a well-formed packet of type 1, 3 or 5 whose second address, the octets 6 to 11 with RxAdd's kind, is `own`, octets and kind
 pub record ForBoard (own : DeviceAddress) (h : Header) (p : List ℕ) : Type 0 where
@@ -62,6 +64,13 @@ pub record Words (own : DeviceAddress) (h : Header) (p : List ℕ) : Type 0 wher
   pub request-if : (end : Instant) (crcGood : Bool) → Requests own h p crcGood → connects own (packet end h p crcGood) ≡ true
   pub map : mapIn p ≡ part 5 p 28
   pub hop : hopIn p ≡ le (part 1 p 33) % 32
+
+-- A device advertises in the mode of that name, and is connected in the mode of that name, and in no other.
+pub record Modes (m : Mode) : Type 0 where
+  pub advertising : isAdvertising m ≡ true → m ≡ Advertising
+  pub advertising-if : m ≡ Advertising → isAdvertising m ≡ true
+  pub connected : isConnected m ≡ true → m ≡ Connected
+  pub connected-if : m ≡ Connected → isConnected m ≡ true
 
 -- the octets of a call's lent buffers, as they were lent
 abbrev pub lentBy : Call → List (List ℕ)

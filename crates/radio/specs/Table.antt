@@ -6,7 +6,7 @@ use Prim.Native.Nat.{ℕ}
 use Rattle.octets.specs.Bytes.{le}
 use Rattle.octets.specs.Error.{numberOf}
 use Rattle.channels.specs.Hop.{eventChannel, uses}
-use Rattle.records.specs.Area.{readArea, rewritten}
+use Rattle.records.specs.Area.{readArea, rewrittenAfter}
 use Rattle.records.specs.Record.{recordAt}
 use Rattle.records.specs.declared.ad_structure.AdStructure.the-variants.{Flags, ServiceUuids16}
 use Rattle.records.specs.declared.ad_structure.Read.the-variants.{Record}
@@ -57,7 +57,7 @@ pub record Table : Type 0 where
   pub row-6 : (a b c d e f : ℕ) → packet 0x00 0x06 (a ∷ b ∷ c ∷ d ∷ e ∷ f ∷ []) ≡ pdu 0 false 0
   -- records 02 01 86: Flags 06; rewritten 02 01 06
   pub row-7 : recordAt (0x02 ∷ 0x01 ∷ 0x86 ∷ []) 0 ≡ Record (Flags (record { bits = 0x06 })) 3
-  pub row-7-rewritten : rewritten (0x02 ∷ 0x01 ∷ 0x86 ∷ []) ≡ 0x02 ∷ 0x01 ∷ 0x06 ∷ []
+  pub row-7-rewritten : rewrittenAfter (0x02 ∷ 0x01 ∷ 0x86 ∷ []) (0 ∷ 0 ∷ 0 ∷ []) ≡ 0x02 ∷ 0x01 ∷ 0x06 ∷ []
   -- 01 03: empty complete list
   pub row-8 : recordAt (0x01 ∷ 0x03 ∷ []) 0 ≡ Record (ServiceUuids16 true 2 0) 2
   -- 02 03 0A: 1
