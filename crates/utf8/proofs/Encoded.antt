@@ -164,15 +164,15 @@ in-one v high = rw (le-leb v 0x7F high) (in-range 0x00 0x7F v (omega arith) high
 in-two : (v : ℕ) → 0x7F < v → v ≤ 0x7FF → Sequence (0xC2 to 0xDF ∷ tail ∷ []) (encoded v)
 in-two v low high = rw (lt-leb v 0x7F low, le-leb v 0x7FF high) (in-range 0xC2 0xDF (0xC0 + v / 64) (omega arith) (omega arith), (trails v, tt))
 
-in-three : (l h m n v : ℕ) → 0x7FF < v → v ≤ 0xFFFF → (l ≤ 0xE0 + v / 4096) × (0xE0 + v / 4096 ≤ h) → (m ≤ trailing (v / 64)) × (trailing (v / 64) ≤ n)
+in-three : {l h m n : ℕ} (v : ℕ) → 0x7FF < v → v ≤ 0xFFFF → (l ≤ 0xE0 + v / 4096) × (0xE0 + v / 4096 ≤ h) → (m ≤ trailing (v / 64)) × (trailing (v / 64) ≤ n)
     → Sequence (l to h ∷ m to n ∷ tail ∷ []) (encoded v)
-in-three l h m n v low high first second =
+in-three {l} {h} {m} {n} v low high first second =
     rw (lt-leb v 0x7F (omega arith), lt-leb v 0x7FF low, le-leb v 0xFFFF high)
     (in-range l h (0xE0 + v / 4096) (first .0) (first .1), (in-range m n (trailing (v / 64)) (second .0) (second .1), (trails v, tt)))
 
-in-four : (l h m n v : ℕ) → 0xFFFF < v → (l ≤ 0xF0 + v / 262144) × (0xF0 + v / 262144 ≤ h) → (m ≤ trailing (v / 4096)) × (trailing (v / 4096) ≤ n)
+in-four : {l h m n : ℕ} (v : ℕ) → 0xFFFF < v → (l ≤ 0xF0 + v / 262144) × (0xF0 + v / 262144 ≤ h) → (m ≤ trailing (v / 4096)) × (trailing (v / 4096) ≤ n)
     → Sequence (l to h ∷ m to n ∷ tail ∷ tail ∷ []) (encoded v)
-in-four l h m n v low first second =
+in-four {l} {h} {m} {n} v low first second =
     rw (lt-leb v 0x7F (omega arith), lt-leb v 0x7FF (omega arith), lt-leb v 0xFFFF low)
     (in-range l h (0xF0 + v / 262144) (first .0) (first .1), (in-range m n (trailing (v / 4096)) (second .0) (second .1), (trails (v / 64), (trails v, tt))))
 
@@ -181,16 +181,16 @@ lower : (v : ℕ) → v ≤ 0xD7FF → Row v
 lower v high =
     up-to v 0x7F (λ h. row 0 v (omega arith) (in-one v h)) λ l.
     up-to v 0x7FF (λ h. row 1 v (omega arith) (in-two v l h)) λ l.
-    up-to v 0xFFF (λ h. row 2 v (omega arith) (in-three 0xE0 0xE0 0xA0 0xBF v l (omega arith) (omega arith) (omega arith))) λ l.
-    up-to v 0xCFFF (λ h. row 3 v (omega arith) (in-three 0xE1 0xEC 0x80 0xBF v (omega arith) (omega arith) (omega arith) (omega arith))) λ l.
-    row 4 v (omega arith) (in-three 0xED 0xED 0x80 0x9F v (omega arith) (omega arith) (omega arith) (omega arith))
+    up-to v 0xFFF (λ h. row 2 v (omega arith) (in-three v l (omega arith) (omega arith) (omega arith))) λ l.
+    up-to v 0xCFFF (λ h. row 3 v (omega arith) (in-three v (omega arith) (omega arith) (omega arith) (omega arith))) λ l.
+    row 4 v (omega arith) (in-three v (omega arith) (omega arith) (omega arith) (omega arith))
 
 upper : (v : ℕ) → 0xE000 ≤ v → v ≤ 0x10FFFF → Row v
 upper v low high =
-    up-to v 0xFFFF (λ h. row 5 v (omega arith) (in-three 0xEE 0xEF 0x80 0xBF v (omega arith) h (omega arith) (omega arith))) λ l.
-    up-to v 0x3FFFF (λ h. row 6 v (omega arith) (in-four 0xF0 0xF0 0x90 0xBF v l (omega arith) (omega arith))) λ l.
-    up-to v 0xFFFFF (λ h. row 7 v (omega arith) (in-four 0xF1 0xF3 0x80 0xBF v (omega arith) (omega arith) (omega arith))) λ l.
-    row 8 v (omega arith) (in-four 0xF4 0xF4 0x80 0x8F v (omega arith) (omega arith) (omega arith))
+    up-to v 0xFFFF (λ h. row 5 v (omega arith) (in-three v (omega arith) h (omega arith) (omega arith))) λ l.
+    up-to v 0x3FFFF (λ h. row 6 v (omega arith) (in-four v l (omega arith) (omega arith))) λ l.
+    up-to v 0xFFFFF (λ h. row 7 v (omega arith) (in-four v (omega arith) (omega arith) (omega arith))) λ l.
+    row 8 v (omega arith) (in-four v (omega arith) (omega arith) (omega arith))
 
 in-table : (v : ℕ) → IsScalar v → Row v
 in-table v scalar = ⊎-elim (lower v) (λ h. upper v (h .0) (h .1)) scalar
