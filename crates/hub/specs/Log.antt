@@ -1,4 +1,5 @@
 -- What the hub prints (document 01, hublog).
+--   mostItems                   == how many items count
 --   start                       == the time of every call: the input has ticks and no times
 --   heardIn s item              == what the scanner s answers to an item
 --   scannerAfter s item         == the scanner after it
@@ -31,6 +32,10 @@ use Rattle.hub.specs.declared.Logged.{Logged}
 use Rattle.hub.specs.declared.TakenIn.{TakenIn}
 use Rattle.hub.specs.declared.TakenIn.the-variants as taken
 use Rattle.hub.specs.declared.Turn.{Turn}
+
+-- "beyond 999,999"
+abbrev pub mostItems : ℕ
+mostItems = 999999
 
 abbrev pub start : Instant
 start = record { 0 = 0 }
@@ -82,11 +87,11 @@ fresh = record { items = 0; reports = 0; scanner = configured (scannerOf AllowAl
 -- these items: a broken item, or any octet behind the last that counts
 unfoldable pub logOf : List ℕ → List ℕ
 logOf s =
-    printedAll fresh (items 999999 s) ++ lastLine (afterAll fresh (items 999999 s)) (length (behind (items 999999 s) s))
+    printedAll fresh (items mostItems s) ++ lastLine (afterAll fresh (items mostItems s)) (length (behind (items mostItems s) s))
 
 -- A part of the input
 abbrev pub itemsFor : Hub → List ℕ → List (List ℕ)
-itemsFor h s = items (999999 - h .items) s
+itemsFor h s = items (mostItems - h .items) s
 
 abbrev pub linesOf : Hub → List ℕ → List ℕ
 linesOf h s = printedAll h (itemsFor h s)
@@ -99,7 +104,7 @@ restOf h s = behind (itemsFor h s) s
 
 unfoldable pub isStuck : ℕ → List ℕ → Bool
 isStuck count [] = false
-isStuck count (first ∷ rest) = cond (leb 999999 count) true (ltb 2 first)
+isStuck count (first ∷ rest) = cond (leb mostItems count) true (ltb 2 first)
 
 abbrev pub loggedOf : Hub → List ℕ → Logged
 loggedOf h s = record { hub = hubOf h s; taken = length (flatten (itemsFor h s)); written = length (linesOf h s) }
@@ -114,12 +119,12 @@ turnOf h s =
     }
 
 -- what a hub counts: at most 999,999 items, and no more reports than items
-abbrev pub Counted : Hub → Type 0
-Counted h = (h .items ≤ 999999) × (h .reports ≤ h .items)
+abbrev pub RunCounts : Hub → Type 0
+RunCounts h = (h .items ≤ mostItems) × (h .reports ≤ h .items)
 
 -- the same as a test, with that of the room: `filled` octets of a buffer of `size`, and room for their lines in `space` octets
 abbrev pub isReady : Hub → ℕ → ℕ → ℕ → Bool
-isReady h filled size space = leb (h .items) 999999 && (leb (h .reports) (h .items) && (leb filled size && leb (roomFor filled) space))
+isReady h filled size space = leb (h .items) mostItems && (leb (h .reports) (h .items) && (leb filled size && leb (roomFor filled) space))
 
 -- the first `filled` octets of `buf` taken in: what is left over at the front of `buf`, and the lines at the front of `out`
 abbrev pub restIn : Hub → List ℕ → ℕ → List ℕ

@@ -5,7 +5,7 @@ use mathlib.Core.List.{List, [], _∷_, _++_, flatten}
 use Prim.Native.Nat.{ℕ, _<_, _≤_}
 use lib.ListN.{length, take}
 use Rattle.hub.specs.Line.{roomFor}
-use Rattle.hub.specs.Log.{fresh, linesOf, restOf, turnOf, lastLine, logOf, Counted, takenIn, restAfter}
+use Rattle.hub.specs.Log.{fresh, linesOf, restOf, turnOf, lastLine, logOf, RunCounts, takenIn, restAfter}
 use Rattle.hub.specs.declared.Hub.{Hub}
 use Rattle.hub.specs.declared.TakenIn.the-variants as taken
 
@@ -25,12 +25,12 @@ AnyReads = (reads : List (List ℕ)) → writtenFor fresh [] reads ≡ logOf (fl
 
 -- A hub that counts as a run does, with room for the lines, is never refused; and what a turn leaves for the next.
 pub record Turning (h : Hub) (s : List ℕ) : Type 0 where
-  pub accepted : (buf : List ℕ) (filled : ℕ) (out : List ℕ) → Counted h → filled ≤ length buf → roomFor filled ≤ length out
+  pub accepted : (buf : List ℕ) (filled : ℕ) (out : List ℕ) → RunCounts h → filled ≤ length buf → roomFor filled ≤ length out
       → takenIn h buf filled out ≡ taken.Turn (turnOf h (take filled buf))
   -- what is left over stands at the front of the buffer then
-  pub left : (buf : List ℕ) (filled : ℕ) (out : List ℕ) → Counted h → filled ≤ length buf → roomFor filled ≤ length out
+  pub left : (buf : List ℕ) (filled : ℕ) (out : List ℕ) → RunCounts h → filled ≤ length buf → roomFor filled ≤ length out
       → take (turnOf h (take filled buf) .kept) (restAfter h buf filled out) ≡ restOf h (take filled buf)
-  pub counted : Counted h → Counted (turnOf h s .hub)
+  pub counted : RunCounts h → RunCounts (turnOf h s .hub)
   pub room : turnOf h s .written ≤ roomFor (length s)
   pub kept : turnOf h s .kept ≤ length s
   -- fewer octets than the longest item has, so that a longer buffer always has room for a read

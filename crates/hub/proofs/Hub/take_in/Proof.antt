@@ -9,7 +9,7 @@ use borrow.Author.Needs.{needs}
 use borrow.Author.Tests.{leb-true}
 use Rattle.octets.proofs.Places.{both-true}
 use Rattle.hub.specs.Line.{roomFor}
-use Rattle.hub.specs.Log.{turnOf, Counted, isReady, restIn, linesIn, takenIn, restAfter, linesAfter}
+use Rattle.hub.specs.Log.{mostItems, turnOf, RunCounts, isReady, restIn, linesIn, takenIn, restAfter, linesAfter}
 use Rattle.hub.specs.declared.Hub.{Hub}
 use Rattle.hub.specs.declared.TakenIn.{TakenIn}
 use Rattle.hub.specs.declared.TakenIn.the-variants as taken
@@ -21,12 +21,12 @@ module _ (h : Hub) (buf : List ℕ) (filled : ℕ) (out : List ℕ) where
   abbrev ready : Bool
   ready = isReady h filled (length buf) (length out)
 
-  all-ready : ready ≡ true → Counted h × ((filled ≤ length buf) × (roomFor filled ≤ length out))
+  all-ready : ready ≡ true → RunCounts h × ((filled ≤ length buf) × (roomFor filled ≤ length out))
   all-ready e =
-      let items = both-true (leb (h .items) 999999) (leb (h .reports) (h .items) && (leb filled (length buf) && leb (roomFor filled) (length out))) e in
+      let items = both-true (leb (h .items) mostItems) (leb (h .reports) (h .items) && (leb filled (length buf) && leb (roomFor filled) (length out))) e in
       let reports = both-true (leb (h .reports) (h .items)) (leb filled (length buf) && leb (roomFor filled) (length out)) (items .1) in
       let size = both-true (leb filled (length buf)) (leb (roomFor filled) (length out)) (reports .1) in
-      ((leb-true (h .items) 999999 (items .0), leb-true (h .reports) (h .items) (reports .0)), (leb-true filled (length buf) (size .0), leb-true (roomFor filled) (length out) (size .1)))
+      ((leb-true (h .items) mostItems (items .0), leb-true (h .reports) (h .items) (reports .0)), (leb-true filled (length buf) (size .0), leb-true (roomFor filled) (length out) (size .1)))
 
   -- what the contract says
   Takes : TakenIn → List ℕ → List ℕ → Type 0
