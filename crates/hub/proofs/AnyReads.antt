@@ -1,19 +1,20 @@
 -- However an input is cut into reads, the log of the input is written: `any-reads`; and what a turn leaves for the next: `turning`. Assumes nothing.
 use mathlib.Core.Path.{_≡_, refl, sym, ap, _∙_}
 use mathlib.Core.Logic.{⊎-elim}
-use mathlib.Core.Bool.{Bool, true, false, cond, true≢false}
+use mathlib.Core.Bool.{Bool, true, false, cond, true≢false, _&&_}
 use mathlib.Core.List.{List, [], _∷_, _++_, append-assoc, append-nil, append-cancel-left, flatten}
 use Prim.Native.Nat.{ℕ, zero, suc, _+_, _-_, _*_, _<_, _≤_}
 use native.Mathlib.Omega.{arith}
 use lib.ListN.{length, take, drop, length-append, length-drop}
-use lib.Seq.{take-append-seam}
+use lib.Seq.{take-append-seam, drop-at}
 use lib.Dec.{leb, ltb, eqb·suc-zero}
 use borrow.Author.Tests.{le-leb, leb-true, leb-false, ltb-true, ltb-false}
 use Rattle.hub.specs.declared.Hub.{Hub}
 use Rattle.hub.specs.Line.{lineSize, reportsIn, roomFor}
+use Rattle.octets.proofs.Places.{both-true}
 use Rattle.items.specs.Item.{sizeOf, wholeSize, items, behind}
-use Rattle.hub.specs.Log.{mostItems, heardIn, after, afterAll, printed, printedAll, itemsFor, linesOf, hubOf, restOf, isStuck, fresh, lastLine, logOf, RunCounts, isReady}
-use Rattle.hub.specs.Reads.{writtenFor, AnyReads, Turning}
+use Rattle.hub.specs.Log.{mostItems, heardIn, after, afterAll, printed, printedAll, itemsFor, linesOf, hubOf, restOf, isStuck, fresh, lastLine, logOf, isReady}
+use Rattle.hub.specs.Reads.{writtenFor, AnyReads, Ready, Turning}
 use Rattle.items.proofs.Items.{none-whole, one-whole, none-left, none-more, no-size, begun, at-front, items-fit, items-more, behind-more}
 use Rattle.hub.proofs.Reports.{line-size, line-room, one-report}
 
@@ -154,16 +155,41 @@ rest-fits : (h : Hub) (s : List ℕ) → length (restOf h s) ≤ length s
 unfolding behind
 rest-fits h s = rw length-drop (omega arith)
 
-ready : (h : Hub) (buf : List ℕ) (filled : ℕ) (out : List ℕ) → RunCounts h → filled ≤ length buf → roomFor filled ≤ length out → isReady h filled (length buf) (length out) ≡ true
-ready h buf filled out counts fits enough =
-    simp (le-leb (h .items) mostItems (counts .0), le-leb (h .reports) (h .items) (counts .1), le-leb filled (length buf) fits, le-leb (roomFor filled) (length out) enough)
+module _ (h : Hub) (buf : List ℕ) (filled : ℕ) (out : List ℕ) where
+  ready : Ready h buf filled out → isReady h filled (length buf) (length out) ≡ true
+  ready all =
+      simp (le-leb (h .items) mostItems (all .0 .0), le-leb (h .reports) (h .items) (all .0 .1), le-leb filled (length buf) (all .1 .0), le-leb (roomFor filled) (length out) (all .1 .1))
+
+  pub all-ready : isReady h filled (length buf) (length out) ≡ true → Ready h buf filled out
+  all-ready e =
+      let items = both-true (leb (h .items) mostItems) (leb (h .reports) (h .items) && (leb filled (length buf) && leb (roomFor filled) (length out))) e in
+      let reports = both-true (leb (h .reports) (h .items)) (leb filled (length buf) && leb (roomFor filled) (length out)) (items .1) in
+      let size = both-true (leb filled (length buf)) (leb (roomFor filled) (length out)) (reports .1) in
+      ((leb-true (h .items) mostItems (items .0), leb-true (h .reports) (h .items) (reports .0)), (leb-true filled (length buf) (size .0), leb-true (roomFor filled) (length out) (size .1)))
+
+  unready : (Ready h buf filled out → ⊥) → isReady h filled (length buf) (length out) ≡ false
+  unready not-all = go (isReady h filled (length buf) (length out)) refl
+    where
+      go : (b : Bool) → isReady h filled (length buf) (length out) ≡ b → b ≡ false
+      go true e = absurd (not-all (all-ready e))
+      go false e = refl
+
+rest-all : (h : Hub) (s : List ℕ) → length (flatten (itemsFor h s)) + length (restOf h s) ≡ length s
+unfolding behind
+rest-all h s = rw length-drop (omega (arith, items-fit (mostItems - h .items) s))
 
 pub turning : (h : Hub) (s : List ℕ) → Turning h s
 turning h s =
     record {
-      accepted = λ buf filled out counts fits enough. simp (ready h buf filled out counts fits enough);
-      left = λ buf filled out counts fits enough.
-          rw (ready h buf filled out counts fits enough) (take-append-seam (restOf h (take filled buf)) (drop (length (restOf h (take filled buf))) buf));
+      accepted = λ buf filled out all. simp (ready h buf filled out all);
+      refused = λ buf filled out not-all. let is = unready h buf filled out not-all in (simp is, (simp is, simp is));
+      left = λ buf filled out all.
+          let rest : List ℕ = restOf h (take filled buf) in
+          rw (ready h buf filled out all) (take-append-seam rest (drop (length rest) buf), drop-at rest (drop (length rest) buf) (length rest) refl);
+      lines = λ buf filled out all.
+          let these : List ℕ = linesOf h (take filled buf) in
+          rw (ready h buf filled out all) (take-append-seam these (drop (length these) out), drop-at these (drop (length these) out) (length these) refl);
+      logged = (refl, (refl, rest-all h s));
       counted = λ before. (omega (arith, before .0, counted h (itemsFor h s), items-most (mostItems - h .items) s), fewer-reports h (itemsFor h s) (before .1));
       room = omega (arith, lines-room h (itemsFor h s), items-fit (mostItems - h .items) s);
       kept = rest-fits h s;

@@ -11,6 +11,8 @@
 --   itemsFor, linesOf, hubOf, restOf h s    == of octets s that a hub h takes in: the whole items, their lines, the hub after them, what is left over
 --   isStuck n s                 == after n items, no octets that follow s make an item of it
 --   turnOf h s                  == what taking in s answers
+--   Sizes                       == how long lines are (Pieces.sizes)
+use mathlib.Core.Path.{_≡_}
 use Prim.Native.Nat.{ℕ, _+_, _-_, _≤_}
 use mathlib.Core.Bool.{Bool, true, false, cond, _&&_}
 use mathlib.Core.List.{List, [], _∷_, _++_, flatten}
@@ -19,6 +21,7 @@ use lib.Dec.{leb, ltb, eqb}
 use Rattle.octets.specs.Bytes.{le}
 use Rattle.octets.specs.declared.time.Instant.{Instant}
 use Rattle.addresses.specs.Header.{headerOf}
+use Rattle.addresses.specs.declared.device_address.DeviceAddress.{DeviceAddress}
 use Rattle.addresses.specs.declared.filter.AddressFilter.the-variants.{AllowAll}
 use Rattle.beacon.specs.Scanner.{scannerOf, configured, timerUpdated, unreported, scanned}
 use Rattle.beacon.specs.declared.beacon.BeaconScanner.{BeaconScanner}
@@ -26,7 +29,7 @@ use Rattle.beacon.specs.declared.beacon.Report.the-variants as report
 use Rattle.beacon.specs.declared.beacon.Scanned.{Scanned}
 use Rattle.columns.specs.Column.{column}
 use Rattle.items.specs.Item.{items, behind}
-use Rattle.hub.specs.Line.{line, reportsIn, roomFor}
+use Rattle.hub.specs.Line.{reportLine, line, reportsIn, lineSize, lastSize, roomFor}
 use Rattle.hub.specs.declared.Hub.{Hub}
 use Rattle.hub.specs.declared.Logged.{Logged}
 use Rattle.hub.specs.declared.TakenIn.{TakenIn}
@@ -142,3 +145,8 @@ restAfter h buf filled out = cond (isReady h filled (length buf) (length out)) (
 
 abbrev pub linesAfter : Hub → List ℕ → ℕ → List ℕ → List ℕ
 linesAfter h buf filled out = cond (isReady h filled (length buf) (length out)) (linesIn h (take filled buf) out) out
+
+-- Lines are as long as their columns and the octet 0A.
+pub record Sizes : Type 0 where
+  pub report : (number : ℕ) (sender : DeviceAddress) (records : ℕ) → length (sender .bytes) ≡ 6 → length (reportLine number sender records) ≡ lineSize
+  pub last : (h : Hub) (n : ℕ) → length (lastLine h n) ≡ lastSize
