@@ -1,6 +1,7 @@
 -- What the hub prints (document 01, hublog).
 --   mostItems                   == how many items count
 --   start                       == the time of every call: the input has ticks and no times
+--   isCrcGood first             == a packet that begins so is CRC-good
 --   heardIn s item              == what the scanner s answers to an item
 --   scannerAfter s item         == the scanner after it
 --   after h item, printed h item            == the hub after an item, and what it prints for it
@@ -44,11 +45,14 @@ abbrev pub start : Instant
 start = record { 0 = 0 }
 
 -- "01 (CRC good) or 02 (bad) is followed by header and as many octets as it counts"; a tick is no packet
+abbrev pub isCrcGood : ℕ → Bool
+isCrcGood first = eqb first 1
+
 unfoldable pub heardIn : BeaconScanner → List ℕ → Scanned
 heardIn s [] = unreported report.Nothing (s .channel)
 heardIn s (first ∷ []) = unreported report.Nothing (s .channel)
 heardIn s (first ∷ h0 ∷ []) = unreported report.Nothing (s .channel)
-heardIn s (first ∷ h0 ∷ h1 ∷ payload) = scanned s (headerOf (le (h0 ∷ h1 ∷ []))) payload (eqb first 1) []
+heardIn s (first ∷ h0 ∷ h1 ∷ payload) = scanned s (headerOf (le (h0 ∷ h1 ∷ []))) payload (isCrcGood first) []
 
 -- "00 is a tick"
 unfoldable pub scannerAfter : BeaconScanner → List ℕ → BeaconScanner
