@@ -1,19 +1,20 @@
 -- However an input is cut into reads, the log of the input is written: `any-reads`; and what a turn leaves for the next: `turning`. Assumes nothing.
 use mathlib.Core.Path.{_≡_, refl, sym, ap, _∙_}
 use mathlib.Core.Logic.{⊎-elim}
-use mathlib.Core.Bool.{Bool, true, false, cond, true≢false}
+use mathlib.Core.Bool.{Bool, true, false, cond, true≢false, _&&_}
 use mathlib.Core.List.{List, [], _∷_, _++_, append-assoc, append-nil, append-cancel-left, flatten}
 use Prim.Native.Nat.{ℕ, zero, suc, _+_, _-_, _*_, _<_, _≤_}
 use native.Mathlib.Omega.{arith}
 use lib.ListN.{length, take, drop, length-append, length-drop}
-use lib.Seq.{take-append-seam}
+use lib.Seq.{take-append-seam, drop-at}
 use lib.Dec.{leb, ltb, eqb·suc-zero}
 use borrow.Author.Tests.{le-leb, leb-true, leb-false, ltb-true, ltb-false}
 use Rattle.hub.specs.declared.Hub.{Hub}
 use Rattle.hub.specs.Line.{lineSize, reportsIn, roomFor}
+use Rattle.octets.proofs.Places.{both-true}
 use Rattle.items.specs.Item.{sizeOf, wholeSize, items, behind}
-use Rattle.hub.specs.Log.{heardIn, after, afterAll, printed, printedAll, itemsFor, linesOf, hubOf, restOf, isStuck, fresh, lastLine, logOf, Counted, isReady}
-use Rattle.hub.specs.Reads.{writtenFor, AnyReads, Turning}
+use Rattle.hub.specs.Log.{mostItems, heardIn, after, afterAll, printed, printedAll, itemsFor, linesOf, hubOf, restOf, isStuck, fresh, lastLine, logOf, isReady}
+use Rattle.hub.specs.Reads.{writtenFor, AnyReads, Ready, Turning}
 use Rattle.items.proofs.Items.{none-whole, one-whole, none-left, none-more, no-size, begun, at-front, items-fit, items-more, behind-more}
 use Rattle.hub.proofs.Reports.{line-size, line-room, one-report}
 
@@ -38,12 +39,12 @@ logFrom : Hub → List ℕ → List ℕ
 logFrom h s = linesOf h s ++ lastLine (hubOf h s) (length (restOf h s))
 
 module _ (h : Hub) (s : List ℕ) where
-  left : 999999 - h .items - length (itemsFor h s) ≡ 999999 - hubOf h s .items
+  left : mostItems - h .items - length (itemsFor h s) ≡ mostItems - hubOf h s .items
   left = omega (arith, counted h (itemsFor h s))
 
   -- the items of more octets are those of the first part, and those of what it leaves over with the others
   itemsFor-more : (more : List ℕ) → itemsFor h (s ++ more) ≡ itemsFor h s ++ itemsFor (hubOf h s) (restOf h s ++ more)
-  itemsFor-more more = items-more (999999 - h .items) s more ∙ ap (λ (n : ℕ). itemsFor h s ++ items n (restOf h s ++ more)) left
+  itemsFor-more more = items-more (mostItems - h .items) s more ∙ ap (λ (n : ℕ). itemsFor h s ++ items n (restOf h s ++ more)) left
 
   -- so nothing that is left over is a whole item
   nothing-more : itemsFor (hubOf h s) (restOf h s) ≡ []
@@ -59,7 +60,7 @@ module _ (h : Hub) (s : List ℕ) where
       let hubs : hubOf h (s ++ more) ≡ hubOf (hubOf h s) (restOf h s ++ more) =
       ap (afterAll h) (itemsFor-more more) ∙ afterAll-append h (itemsFor h s) (itemsFor (hubOf h s) (restOf h s ++ more)) in
       let rests : restOf h (s ++ more) ≡ restOf (hubOf h s) (restOf h s ++ more) =
-      behind-more (999999 - h .items) s more ∙ ap (λ (n : ℕ). behind (items n (restOf h s ++ more)) (restOf h s ++ more)) left in
+      behind-more (mostItems - h .items) s more ∙ ap (λ (n : ℕ). behind (items n (restOf h s ++ more)) (restOf h s ++ more)) left in
       simp (lines, hubs, rests, append-assoc)
 
 -- where nothing is a whole item, only the last line is left
@@ -71,11 +72,11 @@ log-none h s no-items = simp no-items
 stuck-none : (h : Hub) (s more : List ℕ) → isStuck (h .items) s ≡ true → itemsFor h (s ++ more) ≡ []
 unfolding isStuck
 stuck-none h [] more e = absurd (true≢false (sym e))
-stuck-none h (first ∷ rest) more stuck = go (leb 999999 (h .items)) refl stuck
+stuck-none h (first ∷ rest) more stuck = go (leb mostItems (h .items)) refl stuck
   where
-    go : (most : Bool) → leb 999999 (h .items) ≡ most → cond most true (ltb 2 first) ≡ true → itemsFor h ((first ∷ rest) ++ more) ≡ []
-    go true e is = none-more (999999 - h .items) ((first ∷ rest) ++ more) (omega (arith, leb-true 999999 (h .items) e))
-    go false e is = none-whole (999999 - h .items) ((first ∷ rest) ++ more) (no-size first (rest ++ more) (ltb-true 2 first is))
+    go : (most : Bool) → leb mostItems (h .items) ≡ most → cond most true (ltb 2 first) ≡ true → itemsFor h ((first ∷ rest) ++ more) ≡ []
+    go true e is = none-more (mostItems - h .items) ((first ∷ rest) ++ more) (omega (arith, leb-true mostItems (h .items) e))
+    go false e is = none-whole (mostItems - h .items) ((first ∷ rest) ++ more) (no-size first (rest ++ more) (ltb-true 2 first is))
 
 -- and the last line says so already
 stuck-last : (h : Hub) (s more : List ℕ) → isStuck (h .items) s ≡ true → lastLine h (length s) ≡ lastLine h (length (s ++ more))
@@ -104,20 +105,20 @@ reads-log (read ∷ reads) h kept none-yet =
 
 pub any-reads : AnyReads
 unfolding logFrom logOf wholeSize sizeOf
-any-reads reads = reads-log reads fresh [] (none-whole 999999 [] refl)
+any-reads reads = reads-log reads fresh [] (none-whole mostItems [] refl)
 
 -- octets of which an item may still come, and none has
-short : (count first : ℕ) (rest : List ℕ) → isStuck count (first ∷ rest) ≡ false → items (999999 - count) (first ∷ rest) ≡ [] → length (first ∷ rest) < 66
+short : (count first : ℕ) (rest : List ℕ) → isStuck count (first ∷ rest) ≡ false → items (mostItems - count) (first ∷ rest) ≡ [] → length (first ∷ rest) < 66
 unfolding isStuck
-short count first rest = go (leb 999999 count) (ltb 2 first) refl refl
+short count first rest = go (leb mostItems count) (ltb 2 first) refl refl
   where
-    go : (most high : Bool) → leb 999999 count ≡ most → ltb 2 first ≡ high → cond most true high ≡ false → items (999999 - count) (first ∷ rest) ≡ []
+    go : (most high : Bool) → leb mostItems count ≡ most → ltb 2 first ≡ high → cond most true high ≡ false → items (mostItems - count) (first ∷ rest) ≡ []
         → length (first ∷ rest) < 66
     go true high m e is no-items = absurd (true≢false is)
     go false true m e is no-items = absurd (true≢false is)
     go false false m e is no-items =
-        let left : 999999 - count ≡ suc (999999 - count - 1) = omega (arith, leb-false 999999 count m) in
-        begun first rest (ltb-false 2 first e) (none-left (999999 - count - 1) (first ∷ rest) (rw left at no-items))
+        let left : mostItems - count ≡ suc (mostItems - count - 1) = omega (arith, leb-false mostItems count m) in
+        begun first rest (ltb-false 2 first e) (none-left (mostItems - count - 1) (first ∷ rest) (rw left at no-items))
 
 kept-short : (h : Hub) (s : List ℕ) → isStuck (hubOf h s .items) (restOf h s) ≡ false → length (restOf h s) < 66
 kept-short h s = go (restOf h s) (nothing-more h s)
@@ -154,18 +155,43 @@ rest-fits : (h : Hub) (s : List ℕ) → length (restOf h s) ≤ length s
 unfolding behind
 rest-fits h s = rw length-drop (omega arith)
 
-ready : (h : Hub) (buf : List ℕ) (filled : ℕ) (out : List ℕ) → Counted h → filled ≤ length buf → roomFor filled ≤ length out → isReady h filled (length buf) (length out) ≡ true
-ready h buf filled out counts fits enough =
-    simp (le-leb (h .items) 999999 (counts .0), le-leb (h .reports) (h .items) (counts .1), le-leb filled (length buf) fits, le-leb (roomFor filled) (length out) enough)
+module _ (h : Hub) (buf : List ℕ) (filled : ℕ) (out : List ℕ) where
+  ready : Ready h buf filled out → isReady h filled (length buf) (length out) ≡ true
+  ready all =
+      simp (le-leb (h .items) mostItems (all .0 .0), le-leb (h .reports) (h .items) (all .0 .1), le-leb filled (length buf) (all .1 .0), le-leb (roomFor filled) (length out) (all .1 .1))
+
+  pub all-ready : isReady h filled (length buf) (length out) ≡ true → Ready h buf filled out
+  all-ready e =
+      let items = both-true (leb (h .items) mostItems) (leb (h .reports) (h .items) && (leb filled (length buf) && leb (roomFor filled) (length out))) e in
+      let reports = both-true (leb (h .reports) (h .items)) (leb filled (length buf) && leb (roomFor filled) (length out)) (items .1) in
+      let size = both-true (leb filled (length buf)) (leb (roomFor filled) (length out)) (reports .1) in
+      ((leb-true (h .items) mostItems (items .0), leb-true (h .reports) (h .items) (reports .0)), (leb-true filled (length buf) (size .0), leb-true (roomFor filled) (length out) (size .1)))
+
+  unready : (Ready h buf filled out → ⊥) → isReady h filled (length buf) (length out) ≡ false
+  unready not-all = go (isReady h filled (length buf) (length out)) refl
+    where
+      go : (b : Bool) → isReady h filled (length buf) (length out) ≡ b → b ≡ false
+      go true e = absurd (not-all (all-ready e))
+      go false e = refl
+
+rest-all : (h : Hub) (s : List ℕ) → length (flatten (itemsFor h s)) + length (restOf h s) ≡ length s
+unfolding behind
+rest-all h s = rw length-drop (omega (arith, items-fit (mostItems - h .items) s))
 
 pub turning : (h : Hub) (s : List ℕ) → Turning h s
 turning h s =
     record {
-      accepted = λ buf filled out counts fits enough. simp (ready h buf filled out counts fits enough);
-      left = λ buf filled out counts fits enough.
-          rw (ready h buf filled out counts fits enough) (take-append-seam (restOf h (take filled buf)) (drop (length (restOf h (take filled buf))) buf));
-      counted = λ before. (omega (arith, before .0, counted h (itemsFor h s), items-most (999999 - h .items) s), fewer-reports h (itemsFor h s) (before .1));
-      room = omega (arith, lines-room h (itemsFor h s), items-fit (999999 - h .items) s);
+      accepted = λ buf filled out all. simp (ready h buf filled out all);
+      refused = λ buf filled out not-all. let is = unready h buf filled out not-all in (simp is, (simp is, simp is));
+      left = λ buf filled out all.
+          let rest : List ℕ = restOf h (take filled buf) in
+          rw (ready h buf filled out all) (take-append-seam rest (drop (length rest) buf), drop-at rest (drop (length rest) buf) (length rest) refl);
+      lines = λ buf filled out all.
+          let these : List ℕ = linesOf h (take filled buf) in
+          rw (ready h buf filled out all) (take-append-seam these (drop (length these) out), drop-at these (drop (length these) out) (length these) refl);
+      logged = (refl, (refl, rest-all h s));
+      counted = λ before. (omega (arith, before .0, counted h (itemsFor h s), items-most (mostItems - h .items) s), fewer-reports h (itemsFor h s) (before .1));
+      room = omega (arith, lines-room h (itemsFor h s), items-fit (mostItems - h .items) s);
       kept = rest-fits h s;
       short = kept-short h s;
     }

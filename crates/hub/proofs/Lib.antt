@@ -2,3 +2,5 @@ pub mod Pieces
 pub mod Reports
 pub mod AnyReads
 pub mod Samples
+pub mod Ticks
+pub mod Examples

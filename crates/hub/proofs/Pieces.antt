@@ -12,7 +12,7 @@ use Rattle.addresses.specs.declared.device_address.DeviceAddress.{DeviceAddress
 use Rattle.columns.specs.Column.{column}
 use Rattle.columns.proofs.Widths.{column-length}
 use Rattle.hub.specs.Line.{reportLine, lineSize, lastSize}
-use Rattle.hub.specs.Log.{lastLine}
+use Rattle.hub.specs.Log.{lastLine, Sizes}
 use Rattle.hub.specs.declared.Hub.{Hub}
 
 pub octets-length : (octets : List ℕ) → length (flatten (map (column 4) octets)) ≡ 4 * length octets
@@ -27,6 +27,9 @@ line-length number sender records six = simp (length-append, column-length, octe
 pub last-length : (h : Hub) (n : ℕ) → length (lastLine h n) ≡ lastSize
 unfolding lastLine
 last-length h n = simp (length-append, column-length)
+
+pub sizes : Sizes
+sizes = record { report = line-length; last = last-length }
 
 -- a column is written to a part of `out`
 pub put-column : (out : List ℕ) (at width n : ℕ) {part : List ℕ} → at + width ≤ length out

@@ -6,7 +6,6 @@ use Prim.Native.Nat.{ℕ, _*_, _≤_}
 use native.Mathlib.Omega.{arith}
 use lib.ListN.{length}
 use lib.Seq.{length-take-le}
-use lib.Dec.{eqb}
 use Rattle.octets.specs.Bytes.{le}
 use Rattle.addresses.specs.Header.{bits, headerOf}
 use Rattle.addresses.specs.declared.device_address.DeviceAddress.{DeviceAddress}
@@ -18,7 +17,7 @@ use Rattle.beacon.specs.declared.beacon.Report.{Report}
 use Rattle.beacon.specs.declared.beacon.Report.the-variants as report
 use Rattle.beacon.specs.declared.beacon.Scanned.{Scanned}
 use Rattle.hub.specs.Line.{lineSize, roomFor, line, reportsIn}
-use Rattle.hub.specs.Log.{heardIn}
+use Rattle.hub.specs.Log.{isCrcGood, heardIn}
 use Rattle.hub.proofs.Pieces.{line-length}
 
 is-beacon : (r : Report) → isReport r ≡ true → r ≡ report.Beacon
@@ -42,7 +41,7 @@ heard-long s [] e = let z : _≡_ {A = ℕ} 0 1 = cc in absurd (omega arith)
 heard-long s (a ∷ []) e = let z : _≡_ {A = ℕ} 0 1 = cc in absurd (omega arith)
 heard-long s (a ∷ b ∷ []) e = let z : _≡_ {A = ℕ} 0 1 = cc in absurd (omega arith)
 heard-long s (a ∷ h0 ∷ h1 ∷ payload) e =
-    let long = packet-long s (headerOf (le (h0 ∷ h1 ∷ []))) payload (eqb a 1) [] (is-beacon (scanned s (headerOf (le (h0 ∷ h1 ∷ []))) payload (eqb a 1) [] .report) e) in
+    let long = packet-long s (headerOf (le (h0 ∷ h1 ∷ []))) payload (isCrcGood a) [] (is-beacon (scanned s (headerOf (le (h0 ∷ h1 ∷ []))) payload (isCrcGood a) [] .report) e) in
     (omega (arith, long .0), long .1)
 
 pub line-size : (number : ℕ) (s : BeaconScanner) (item : List ℕ) → length (line number (heardIn s item)) ≡ lineSize * reportsIn (heardIn s item)

@@ -2,3 +2,4 @@ pub mod Line
 pub mod Log
 pub mod Reads
 pub mod Sample
+pub mod Examples

@@ -1,5 +1,7 @@
 -- What the hub prints (document 01, hublog).
+--   mostItems                   == how many items count
 --   start                       == the time of every call: the input has ticks and no times
+--   isCrcGood first             == a packet that begins so is CRC-good
 --   heardIn s item              == what the scanner s answers to an item
 --   scannerAfter s item         == the scanner after it
 --   after h item, printed h item            == the hub after an item, and what it prints for it
@@ -10,6 +12,8 @@
 --   itemsFor, linesOf, hubOf, restOf h s    == of octets s that a hub h takes in: the whole items, their lines, the hub after them, what is left over
 --   isStuck n s                 == after n items, no octets that follow s make an item of it
 --   turnOf h s                  == what taking in s answers
+--   Sizes                       == how long lines are (Pieces.sizes)
+use mathlib.Core.Path.{_≡_}
 use Prim.Native.Nat.{ℕ, _+_, _-_, _≤_}
 use mathlib.Core.Bool.{Bool, true, false, cond, _&&_}
 use mathlib.Core.List.{List, [], _∷_, _++_, flatten}
@@ -18,6 +22,7 @@ use lib.Dec.{leb, ltb, eqb}
 use Rattle.octets.specs.Bytes.{le}
 use Rattle.octets.specs.declared.time.Instant.{Instant}
 use Rattle.addresses.specs.Header.{headerOf}
+use Rattle.addresses.specs.declared.device_address.DeviceAddress.{DeviceAddress}
 use Rattle.addresses.specs.declared.filter.AddressFilter.the-variants.{AllowAll}
 use Rattle.beacon.specs.Scanner.{scannerOf, configured, timerUpdated, unreported, scanned}
 use Rattle.beacon.specs.declared.beacon.BeaconScanner.{BeaconScanner}
@@ -25,22 +30,29 @@ use Rattle.beacon.specs.declared.beacon.Report.the-variants as report
 use Rattle.beacon.specs.declared.beacon.Scanned.{Scanned}
 use Rattle.columns.specs.Column.{column}
 use Rattle.items.specs.Item.{items, behind}
-use Rattle.hub.specs.Line.{line, reportsIn, roomFor}
+use Rattle.hub.specs.Line.{reportLine, line, reportsIn, lineSize, lastSize, roomFor}
 use Rattle.hub.specs.declared.Hub.{Hub}
 use Rattle.hub.specs.declared.Logged.{Logged}
 use Rattle.hub.specs.declared.TakenIn.{TakenIn}
 use Rattle.hub.specs.declared.TakenIn.the-variants as taken
 use Rattle.hub.specs.declared.Turn.{Turn}
 
+-- "beyond 999,999"
+abbrev pub mostItems : ℕ
+mostItems = 999999
+
 abbrev pub start : Instant
 start = record { 0 = 0 }
 
 -- "01 (CRC good) or 02 (bad) is followed by header and as many octets as it counts"; a tick is no packet
+abbrev pub isCrcGood : ℕ → Bool
+isCrcGood first = eqb first 1
+
 unfoldable pub heardIn : BeaconScanner → List ℕ → Scanned
 heardIn s [] = unreported report.Nothing (s .channel)
 heardIn s (first ∷ []) = unreported report.Nothing (s .channel)
 heardIn s (first ∷ h0 ∷ []) = unreported report.Nothing (s .channel)
-heardIn s (first ∷ h0 ∷ h1 ∷ payload) = scanned s (headerOf (le (h0 ∷ h1 ∷ []))) payload (eqb first 1) []
+heardIn s (first ∷ h0 ∷ h1 ∷ payload) = scanned s (headerOf (le (h0 ∷ h1 ∷ []))) payload (isCrcGood first) []
 
 -- "00 is a tick"
 unfoldable pub scannerAfter : BeaconScanner → List ℕ → BeaconScanner
@@ -82,11 +94,11 @@ fresh = record { items = 0; reports = 0; scanner = configured (scannerOf AllowAl
 -- these items: a broken item, or any octet behind the last that counts
 unfoldable pub logOf : List ℕ → List ℕ
 logOf s =
-    printedAll fresh (items 999999 s) ++ lastLine (afterAll fresh (items 999999 s)) (length (behind (items 999999 s) s))
+    printedAll fresh (items mostItems s) ++ lastLine (afterAll fresh (items mostItems s)) (length (behind (items mostItems s) s))
 
 -- A part of the input
 abbrev pub itemsFor : Hub → List ℕ → List (List ℕ)
-itemsFor h s = items (999999 - h .items) s
+itemsFor h s = items (mostItems - h .items) s
 
 abbrev pub linesOf : Hub → List ℕ → List ℕ
 linesOf h s = printedAll h (itemsFor h s)
@@ -99,7 +111,7 @@ restOf h s = behind (itemsFor h s) s
 
 unfoldable pub isStuck : ℕ → List ℕ → Bool
 isStuck count [] = false
-isStuck count (first ∷ rest) = cond (leb 999999 count) true (ltb 2 first)
+isStuck count (first ∷ rest) = cond (leb mostItems count) true (ltb 2 first)
 
 abbrev pub loggedOf : Hub → List ℕ → Logged
 loggedOf h s = record { hub = hubOf h s; taken = length (flatten (itemsFor h s)); written = length (linesOf h s) }
@@ -114,12 +126,12 @@ turnOf h s =
     }
 
 -- what a hub counts: at most 999,999 items, and no more reports than items
-abbrev pub Counted : Hub → Type 0
-Counted h = (h .items ≤ 999999) × (h .reports ≤ h .items)
+abbrev pub RunCounts : Hub → Type 0
+RunCounts h = (h .items ≤ mostItems) × (h .reports ≤ h .items)
 
 -- the same as a test, with that of the room: `filled` octets of a buffer of `size`, and room for their lines in `space` octets
 abbrev pub isReady : Hub → ℕ → ℕ → ℕ → Bool
-isReady h filled size space = leb (h .items) 999999 && (leb (h .reports) (h .items) && (leb filled size && leb (roomFor filled) space))
+isReady h filled size space = leb (h .items) mostItems && (leb (h .reports) (h .items) && (leb filled size && leb (roomFor filled) space))
 
 -- the first `filled` octets of `buf` taken in: what is left over at the front of `buf`, and the lines at the front of `out`
 abbrev pub restIn : Hub → List ℕ → ℕ → List ℕ
@@ -137,3 +149,8 @@ restAfter h buf filled out = cond (isReady h filled (length buf) (length out)) (
 
 abbrev pub linesAfter : Hub → List ℕ → ℕ → List ℕ → List ℕ
 linesAfter h buf filled out = cond (isReady h filled (length buf) (length out)) (linesIn h (take filled buf) out) out
+
+-- Lines are as long as their columns and the octet 0A.
+pub record Sizes : Type 0 where
+  pub report : (number : ℕ) (sender : DeviceAddress) (records : ℕ) → length (sender .bytes) ≡ 6 → length (reportLine number sender records) ≡ lineSize
+  pub last : (h : Hub) (n : ℕ) → length (lastLine h n) ≡ lastSize

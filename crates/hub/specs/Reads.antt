@@ -2,10 +2,10 @@
 use mathlib.Core.Path.{_≡_}
 use mathlib.Core.Bool.{false, cond}
 use mathlib.Core.List.{List, [], _∷_, _++_, flatten}
-use Prim.Native.Nat.{ℕ, _<_, _≤_}
-use lib.ListN.{length, take}
+use Prim.Native.Nat.{ℕ, _+_, _<_, _≤_}
+use lib.ListN.{length, take, drop}
 use Rattle.hub.specs.Line.{roomFor}
-use Rattle.hub.specs.Log.{fresh, linesOf, restOf, turnOf, lastLine, logOf, Counted, takenIn, restAfter}
+use Rattle.hub.specs.Log.{fresh, linesOf, restOf, loggedOf, turnOf, lastLine, logOf, RunCounts, takenIn, restAfter, linesAfter}
 use Rattle.hub.specs.declared.Hub.{Hub}
 use Rattle.hub.specs.declared.TakenIn.the-variants as taken
 
@@ -23,14 +23,26 @@ writtenFor h kept (read ∷ reads) =
 abbrev pub AnyReads : Type 0
 AnyReads = (reads : List (List ℕ)) → writtenFor fresh [] reads ≡ logOf (flatten reads)
 
--- A hub that counts as a run does, with room for the lines, is never refused; and what a turn leaves for the next.
+-- the hub counts as a run does, and there are so many octets and room for their lines
+abbrev pub Ready : Hub → List ℕ → ℕ → List ℕ → Type 0
+Ready h buf filled out = RunCounts h × ((filled ≤ length buf) × (roomFor filled ≤ length out))
+
+-- A hub that is ready is never refused; and what a turn leaves for the next.
 pub record Turning (h : Hub) (s : List ℕ) : Type 0 where
-  pub accepted : (buf : List ℕ) (filled : ℕ) (out : List ℕ) → Counted h → filled ≤ length buf → roomFor filled ≤ length out
-      → takenIn h buf filled out ≡ taken.Turn (turnOf h (take filled buf))
-  -- what is left over stands at the front of the buffer then
-  pub left : (buf : List ℕ) (filled : ℕ) (out : List ℕ) → Counted h → filled ≤ length buf → roomFor filled ≤ length out
-      → take (turnOf h (take filled buf) .kept) (restAfter h buf filled out) ≡ restOf h (take filled buf)
-  pub counted : Counted h → Counted (turnOf h s .hub)
+  pub accepted : (buf : List ℕ) (filled : ℕ) (out : List ℕ) → Ready h buf filled out → takenIn h buf filled out ≡ taken.Turn (turnOf h (take filled buf))
+  -- else it is refused, and both buffers keep their octets
+  pub refused : (buf : List ℕ) (filled : ℕ) (out : List ℕ) → (Ready h buf filled out → ⊥)
+      → (takenIn h buf filled out ≡ taken.Refused) × ((restAfter h buf filled out ≡ buf) × (linesAfter h buf filled out ≡ out))
+  -- what is left over stands at the front of the one buffer then, the lines at the front of the other, and the octets behind are kept
+  pub left : (buf : List ℕ) (filled : ℕ) (out : List ℕ) → Ready h buf filled out
+      → (take (turnOf h (take filled buf) .kept) (restAfter h buf filled out) ≡ restOf h (take filled buf))
+      × (drop (turnOf h (take filled buf) .kept) (restAfter h buf filled out) ≡ drop (turnOf h (take filled buf) .kept) buf)
+  pub lines : (buf : List ℕ) (filled : ℕ) (out : List ℕ) → Ready h buf filled out
+      → (take (turnOf h (take filled buf) .written) (linesAfter h buf filled out) ≡ linesOf h (take filled buf))
+      × (drop (turnOf h (take filled buf) .written) (linesAfter h buf filled out) ≡ drop (turnOf h (take filled buf) .written) out)
+  -- the items that were logged, and what is left over, are all the octets
+  pub logged : (loggedOf h s .hub ≡ turnOf h s .hub) × ((loggedOf h s .written ≡ turnOf h s .written) × (loggedOf h s .taken + turnOf h s .kept ≡ length s))
+  pub counted : RunCounts h → RunCounts (turnOf h s .hub)
   pub room : turnOf h s .written ≤ roomFor (length s)
   pub kept : turnOf h s .kept ≤ length s
   -- fewer octets than the longest item has, so that a longer buffer always has room for a read

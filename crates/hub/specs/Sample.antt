@@ -1,4 +1,5 @@
--- Document 01's sample of hublog, an empty input, and inputs that the sample leaves open.
+-- Document 01's sample of hublog, an empty input, and inputs that the sample leaves open (`Samples.sample`); as many items as count, and one more
+-- (`Ticks.limit`).
 use mathlib.Core.Path.{_≡_}
 use mathlib.Core.List.{List, [], _∷_}
 use Prim.Native.Nat.{ℕ}
@@ -44,3 +45,10 @@ pub record Sample : Type 0 where
   -- another first octet, and an item that is cut short
   pub broken : logOf (0x03 ∷ []) ≡ brokenAtOnce
   pub cut-short : logOf (0x01 ∷ 0x42 ∷ []) ≡ brokenAtOnce
+
+-- "beyond 999,999": so many ticks are all counted; of one more, the last is left over
+pub record Limit (ticks : ℕ) : Type 0 where
+  -- "999999     0 0"
+  pub most : ticks ≡ 999999 → logOf (replicate ticks 0x00) ≡ 57 ∷ 57 ∷ 57 ∷ 57 ∷ 57 ∷ 57 ∷ 32 ∷ 32 ∷ 32 ∷ 32 ∷ 32 ∷ 48 ∷ 32 ∷ 48 ∷ 10 ∷ []
+  -- "999999     0 1"
+  pub beyond : ticks ≡ 1000000 → logOf (replicate ticks 0x00) ≡ 57 ∷ 57 ∷ 57 ∷ 57 ∷ 57 ∷ 57 ∷ 32 ∷ 32 ∷ 32 ∷ 32 ∷ 32 ∷ 48 ∷ 32 ∷ 49 ∷ 10 ∷ []

@@ -7,7 +7,7 @@ ghost use Rattle.octets.specs.Bytes.{written};
 ghost use Rattle.addresses.specs.Address.{kindNumber};
 ghost use Rattle.columns.specs.Column.{column};
 ghost use Rattle.hub.specs.Line.{reportLine, line, reportsIn, lineSize, lastSize, roomFor};
-ghost use Rattle.hub.specs.Log.{start, heardIn, scannerAfter, leftOver, lastLine, fresh, isStuck, loggedOf, turnOf, Counted, isReady, takenIn, restIn, linesIn, restAfter, linesAfter};
+ghost use Rattle.hub.specs.Log.{start, heardIn, scannerAfter, leftOver, lastLine, fresh, isStuck, loggedOf, turnOf, RunCounts, isReady, takenIn, restIn, linesIn, restAfter, linesAfter};
 use addresses::device_address::DeviceAddress;
 use addresses::header::Header;
 use addresses::header::HeaderMade;
@@ -172,7 +172,7 @@ fn listen(scanner: BeaconScanner, item: &[u8]) -> BeaconScanner
 
 // Logs the whole items at the front of s.
 fn log_items(hub: Hub, s: &[u8], out: &mut [u8]) -> Logged
-    requires { ⌜ Counted hub × (roomFor (length (now s)) ≤ length (now out)) ⌝ }
+    requires { ⌜ RunCounts hub × (roomFor (length (now s)) ≤ length (now out)) ⌝ }
     ensures { λ r. ⌜ (r ≡ loggedOf hub (now (s .entry))) × (now (out .exit) ≡ linesIn hub (now (s .entry)) (now (out .entry))) ⌝ }
 {
     let mut items = hub.items;
@@ -232,7 +232,7 @@ fn keep(buf: &mut [u8], from: usize, end: usize)
 
 // `take_in` where all is ready.
 fn take_turn(hub: Hub, buf: &mut [u8], filled: usize, out: &mut [u8]) -> Turn
-    requires { ⌜ Counted hub × ((filled ≤ length (now buf)) × (roomFor filled ≤ length (now out))) ⌝ }
+    requires { ⌜ RunCounts hub × ((filled ≤ length (now buf)) × (roomFor filled ≤ length (now out))) ⌝ }
     ensures { λ r. ⌜ (r ≡ turnOf hub (take filled (now (buf .entry)))) × ((now (buf .exit) ≡ restIn hub (now (buf .entry)) filled) × (now (out .exit) ≡ linesIn hub (take filled (now (buf .entry))) (now (out .entry)))) ⌝ }
 {
     let logged = log_items(hub, &buf[..filled], out);

@@ -8,7 +8,7 @@ ghost use mathlib.Core.Path.{_≡_};
 ghost use Prim.Native.Nat.{_≤_};
 ghost use lib.ListN.{length, take};
 ghost use Rattle.hub.specs.Line.{roomFor};
-ghost use Rattle.hub.specs.Log.{restOf, turnOf, Counted};
+ghost use Rattle.hub.specs.Log.{restOf, turnOf, RunCounts};
 
 // Reads once, to `buf` from `kept` on, and answers how many octets `buf` then holds: `kept` at the end of the input, or where a read fails. The first
 // `kept` octets stay.
@@ -22,7 +22,7 @@ fn read_more(buf: &mut [u8], kept: usize) -> usize
 
 // Takes in the first `filled` octets, and writes their lines. What is left over of them stands at the front of `buf` then.
 fn log_read(hub: Hub, buf: &mut [u8], filled: usize, out: &mut [u8]) -> Turn
-    requires { ⌜ Counted hub × ((filled ≤ length (now buf)) × (roomFor filled ≤ length (now out))) ⌝ }
+    requires { ⌜ RunCounts hub × ((filled ≤ length (now buf)) × (roomFor filled ≤ length (now out))) ⌝ }
     ensures { λ r. ⌜ (r ≡ turnOf hub (take filled (now (buf .entry)))) × (take (r .kept) (now (buf .exit)) ≡ restOf hub (take filled (now (buf .entry)))) ⌝ }
 {
     match hub.take_in(buf, filled, out) {
@@ -50,8 +50,8 @@ fn stopped(hub: Hub, kept: usize) -> Turn
 
 // Reads once, and writes the lines. The end of the input stops reading too.
 fn next_turn(hub: Hub, kept: usize, buf: &mut [u8], out: &mut [u8]) -> Turn
-    requires { ⌜ Counted hub × ((kept ≤ length (now buf)) × (roomFor (length (now buf)) ≤ length (now out))) ⌝ }
-    ensures { λ r. ⌜ Counted (r .hub) × (r .kept ≤ length (now (buf .entry))) ⌝ }
+    requires { ⌜ RunCounts hub × ((kept ≤ length (now buf)) × (roomFor (length (now buf)) ≤ length (now out))) ⌝ }
+    ensures { λ r. ⌜ RunCounts (r .hub) × (r .kept ≤ length (now (buf .entry))) ⌝ }
 {
     let filled = read_more(buf, kept);
     if filled == kept {

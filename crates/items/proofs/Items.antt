@@ -3,14 +3,14 @@ use mathlib.Core.Path.{_≡_, refl, sym, ap, _∙_}
 use mathlib.Core.Logic.{_⊎_, inl, inr, ⊎-elim}
 use mathlib.Core.Bool.{Bool, true, false, cond}
 use mathlib.Core.List.{List, [], _∷_, _++_, append-assoc, cons≢nil, flatten}
-use Prim.Native.Nat.{ℕ, zero, suc, _+_, _-_, _%_, _<_, _≤_}
+use Prim.Native.Nat.{ℕ, zero, suc, _+_, _-_, _<_, _≤_}
 use native.Mathlib.Omega.{arith}
 use lib.ListN.{length, getD, take, drop, length-append, take-append-drop, length-take, length-drop, List·getD-append}
 use lib.Seq.{getD-drop, getD-take, length-take-le, take-append-le, drop-append-le, drop-drop}
 use lib.Dec.{leb, ltb, eqb}
 use borrow.Author.Tests.{le-leb, lt-leb, eq-eqb, ne-eqb, leb-true, leb-false, lt-ltb, le-ltb}
 use Rattle.octets.proofs.Places.{front}
-use Rattle.items.specs.Item.{sizeOf, wholeSize, items, behind, AllWhole, Cut}
+use Rattle.items.specs.Item.{payloadSize, sizeOf, wholeSize, items, behind, AllWhole, Cut}
 
 pub whole-is : (s : List ℕ) {n : ℕ} → sizeOf s ≡ n → n ≤ length s → wholeSize s ≡ n
 unfolding wholeSize
@@ -22,7 +22,7 @@ whole-not s {n} is short = simp (is, lt-leb n (length s) short)
 
 -- the size of the item at a position
 pub size-at : (s : List ℕ) (at : ℕ) → at < length s
-    → sizeOf (drop at s) ≡ cond (eqb (getD s at 0) 0) 1 (cond (ltb 2 (getD s at 0)) 0 (3 + getD s (at + 2) 0 % 64))
+    → sizeOf (drop at s) ≡ cond (eqb (getD s at 0) 0) 1 (cond (ltb 2 (getD s at 0)) 0 (3 + payloadSize (getD s (at + 2) 0)))
 unfolding sizeOf
 size-at s at inside =
     let two : at + 1 + 1 ≡ at + 2 = omega arith in
@@ -71,13 +71,13 @@ unfolding wholeSize sizeOf
 begun first rest low = go (eqb first 0)
   where
     size : Bool → ℕ
-    size tick = cond tick 1 (3 + getD rest 1 0 % 64)
+    size tick = cond tick 1 (3 + payloadSize (getD rest 1 0))
 
     small : (tick : Bool) → (0 < size tick) × (size tick ≤ 66)
     small true = (omega arith, omega arith)
     small false = (omega arith, omega arith)
 
-    go : (tick : Bool) → cond (leb (cond tick 1 (cond (ltb 2 first) 0 (3 + getD rest 1 0 % 64))) (length (first ∷ rest))) (cond tick 1 (cond (ltb 2 first) 0 (3 + getD rest 1 0 % 64))) 0 ≡ 0
+    go : (tick : Bool) → cond (leb (cond tick 1 (cond (ltb 2 first) 0 (3 + payloadSize (getD rest 1 0)))) (length (first ∷ rest))) (cond tick 1 (cond (ltb 2 first) 0 (3 + payloadSize (getD rest 1 0)))) 0 ≡ 0
         → length (first ∷ rest) < 66
     go tick is =
         let e : cond (leb (size tick) (length (first ∷ rest))) (size tick) 0 ≡ 0 = rw (le-ltb 2 first low) at is in
@@ -109,8 +109,8 @@ size-more : (first : ℕ) (rest more : List ℕ) → sizeOf (first ∷ rest) ≤
 unfolding sizeOf
 size-more first rest more = go (eqb first 0) (ltb 2 first)
   where
-    go : (tick high : Bool) → cond tick 1 (cond high 0 (3 + getD rest 1 0 % 64)) ≤ suc (length rest)
-        → cond tick 1 (cond high 0 (3 + getD (rest ++ more) 1 0 % 64)) ≡ cond tick 1 (cond high 0 (3 + getD rest 1 0 % 64))
+    go : (tick high : Bool) → cond tick 1 (cond high 0 (3 + payloadSize (getD rest 1 0))) ≤ suc (length rest)
+        → cond tick 1 (cond high 0 (3 + payloadSize (getD (rest ++ more) 1 0))) ≡ cond tick 1 (cond high 0 (3 + payloadSize (getD rest 1 0)))
     go true high fits = refl
     go false true fits = refl
     go false false fits = rw (List·getD-append rest more 0 1 (omega arith))
@@ -185,12 +185,12 @@ size-alone : (first : ℕ) (rest : List ℕ) {n : ℕ} → sizeOf (first ∷ res
 unfolding sizeOf
 size-alone first rest {n} = go (eqb first 0) (ltb 2 first)
   where
-    go : (tick high : Bool) → cond tick 1 (cond high 0 (3 + getD rest 1 0 % 64)) ≡ suc n → cond tick 1 (cond high 0 (3 + getD (take n rest) 1 0 % 64)) ≡ suc n
+    go : (tick high : Bool) → cond tick 1 (cond high 0 (3 + payloadSize (getD rest 1 0))) ≡ suc n → cond tick 1 (cond high 0 (3 + payloadSize (getD (take n rest) 1 0))) ≡ suc n
     go true high is = is
     go false true is = is
     go false false is = rw (getD-take n rest 1 0 (omega arith)) is
 
-item-whole : (s : List ℕ) → (wholeSize s ≡ 0 → ⊥) → sizeOf (take (wholeSize s) s) ≡ length (take (wholeSize s) s)
+pub item-whole : (s : List ℕ) → (wholeSize s ≡ 0 → ⊥) → sizeOf (take (wholeSize s) s) ≡ length (take (wholeSize s) s)
 item-whole s item = go s (wholeSize s) item (sym (whole-inv s item .0)) (whole-fits s)
   where
     go : (l : List ℕ) (n : ℕ) → (n ≡ 0 → ⊥) → sizeOf l ≡ n → n ≤ length l → sizeOf (take n l) ≡ length (take n l)
@@ -225,7 +225,7 @@ all-whole (suc n) s =
     (at-front s)
 
 -- no whole item stands behind the items, unless there are n
-ends : (n : ℕ) (s : List ℕ) → (length (items n s) ≡ n) ⊎ (wholeSize (behind (items n s) s) ≡ 0)
+pub ends : (n : ℕ) (s : List ℕ) → (length (items n s) ≡ n) ⊎ (wholeSize (behind (items n s) s) ≡ 0)
 unfolding items behind flatten
 ends zero s = inl refl
 ends (suc n) s =

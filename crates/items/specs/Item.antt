@@ -3,10 +3,12 @@
 --     tick      | 00       |
 --     packet    | 01 or 02 | header 2 | as many octets as the header counts |
 --
+--   payloadSize h1      == how many octets a packet's header counts, h1 being its second octet
 --   sizeOf s            == how many octets the item has that begins so, 0 where none does
 --   wholeSize s         == the same where s has so many octets, else 0
 --   items n s           == the whole items at the front of s, at most n of them
 --   behind its s        == what is left of s behind these items
+--   IsItem item         == an item, in the paper's words; `Falls n s` and `Cut n s` say of what `items` finds that it is just that
 use mathlib.Core.Path.{_≡_}
 use mathlib.Core.Logic.{_⊎_}
 use Prim.Native.Nat.{ℕ, zero, suc, _+_, _%_, _<_}
@@ -15,10 +17,13 @@ use mathlib.Core.List.{List, [], _∷_, _++_, flatten}
 use lib.ListN.{length, getD, take, drop}
 use lib.Dec.{leb, ltb, eqb}
 
--- the length is the low six bits of the header's second octet
+-- the header's bits 8 to 13
+abbrev pub payloadSize : ℕ → ℕ
+payloadSize h1 = h1 % 64
+
 unfoldable pub sizeOf : List ℕ → ℕ
 sizeOf [] = 0
-sizeOf (first ∷ rest) = cond (eqb first 0) 1 (cond (ltb 2 first) 0 (3 + getD rest 1 0 % 64))
+sizeOf (first ∷ rest) = cond (eqb first 0) 1 (cond (ltb 2 first) 0 (3 + payloadSize (getD rest 1 0)))
 
 unfoldable pub wholeSize : List ℕ → ℕ
 wholeSize s = cond (leb (sizeOf s) (length s)) (sizeOf s) 0
@@ -30,7 +35,22 @@ items (suc n) s = cond (eqb (wholeSize s) 0) [] (take (wholeSize s) s ∷ items 
 unfoldable pub behind : List (List ℕ) → List ℕ → List ℕ
 behind its s = drop (length (flatten its)) s
 
--- What that means, in the paper's words
+-- What that means, in the paper's words. "00 is a tick; 01 (CRC good) or 02 (bad) is followed by header and as many octets as it counts"
+pub data IsItem : List ℕ → Type 0 where
+  tick : IsItem (0x00 ∷ [])
+  packet : (first h0 h1 : ℕ) (payload : List ℕ) → (first ≡ 0x01) ⊎ (first ≡ 0x02) → length payload ≡ h1 % 64 → IsItem (first ∷ h0 ∷ h1 ∷ payload)
+
+abbrev pub AllItems : List (List ℕ) → Type 0
+AllItems [] = Unit {0}
+AllItems (item ∷ its) = IsItem item × AllItems its
+
+pub record Falls (n : ℕ) (s : List ℕ) : Type 0 where
+  -- what is found are items, and an item at the front is found
+  pub each : AllItems (items n s)
+  pub found : (item rest : List ℕ) → IsItem item → items (suc n) (item ++ rest) ≡ item ∷ items n rest
+  -- reading ends after n items, or where no item stands
+  pub stops : (length (items n s) ≡ n) ⊎ ((item more : List ℕ) → IsItem item → behind (items n s) s ≡ item ++ more → ⊥)
+
 abbrev pub AllWhole : List (List ℕ) → Type 0
 AllWhole [] = Unit {0}
 AllWhole (item ∷ its) = (sizeOf item ≡ length item) × AllWhole its

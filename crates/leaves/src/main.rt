@@ -13,6 +13,7 @@ use octets::error::Error;
 use octets::time::Instant;
 use octets::uuid::Uuid16;
 use octets::uuid::Uuid32;
+use octets::uuid::Uuid32Read;
 use octets::uuid::Uuid128;
 
 fn text(s: &[u8]) {
@@ -145,6 +146,34 @@ fn uuids() {
     let mut out = [0u8; 3];
     let w = Uuid16(0x180D).to_bytes(ByteWriter::new(), &mut out);
     written(w, &out);
+    text(b"write uuid 12345678 at 1:");
+    let mut out = [0xFFu8; 6];
+    let w = Uuid32(0x12345678).to_bytes(ByteWriter { at: 1 }, &mut out);
+    written(w, &out);
+    text(b"read uuid at 1:");
+    match Uuid32::from_bytes(ByteReader { at: 1 }, &out) {
+        Uuid32Read::Value(uuid, _) => {
+            text(b" ");
+            io::print_hex(STDOUT_FILENO, uuid.0 as u64, 8);
+        }
+        Uuid32Read::Refused(e) => refusal(e),
+    }
+    text(b"\n");
+}
+
+// A full UUID is written, and read, most significant octet first, as rubble holds it.
+fn full_uuids() {
+    text(b"write uuid 0000180d-0000-1000-8000-00805f9b34fb at 1:");
+    let mut out = [0xFFu8; 18];
+    let full = Uuid128::from_uuid16(Uuid16(0x180D));
+    let w = full.to_bytes(ByteWriter { at: 1 }, &mut out);
+    written(w, &out);
+    text(b"read uuid at 1:");
+    let found = Uuid128::from_bytes(ByteReader { at: 1 }, &out);
+    let uuid = found.uuid;
+    let octets = uuid.0;
+    octets_of(&octets);
+    text(b"\n");
 }
 
 fn instants() {
@@ -190,6 +219,7 @@ fn main() {
     address();
     truncated();
     uuids();
+    full_uuids();
     instants();
     names();
 }

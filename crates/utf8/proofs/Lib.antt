@@ -1,3 +1,4 @@
 pub mod Sequences
 pub mod WellFormed
+pub mod Encoded
 pub mod Examples

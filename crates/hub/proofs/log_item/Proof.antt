@@ -4,7 +4,6 @@ use mathlib.Core.List.{List, [], _∷_}
 use Prim.Native.Nat.{ℕ, _-_, _<_, _≤_}
 use native.Mathlib.Omega.{arith}
 use lib.ListN.{length, getD, take, drop}
-use lib.Dec.{eqb}
 use lib.Seq.{take-all}
 use borrow.Author.Needs.{needs}
 use Rattle.octets.specs.Bytes.{written}
@@ -17,7 +16,7 @@ use Rattle.beacon.specs.Scanner.{scanned}
 use Rattle.beacon.specs.declared.beacon.BeaconScanner.{BeaconScanner}
 use Rattle.beacon.specs.declared.beacon.Scanned.{Scanned}
 use Rattle.hub.specs.Line.{line, reportsIn}
-use Rattle.hub.specs.Log.{heardIn}
+use Rattle.hub.specs.Log.{isCrcGood, heardIn}
 use Rattle.hub.proofs.Pieces.{nothing-yet}
 use Rattle.hub.proofs.Reports.{line-room}
 use Rattle.hub.proofs.log_item.Statement.{statement}
@@ -34,14 +33,14 @@ short number s (a ∷ b ∷ d ∷ payload) out at h = absurd (omega arith)
 
 -- a packet, with its parts as the code takes them
 packet : (s : BeaconScanner) (item : List ℕ) (h : Header) {r : HeaderMade} {x : Scanned} → 3 ≤ length item → r ≡ parsed (take 2 (drop 1 item)) → r ≡ made.Header h
-    → x ≡ scanned s h (take (length item - 3) (drop 3 item)) (eqb (getD item 0 0) 1) [] → heardIn s item ≡ x
+    → x ≡ scanned s h (take (length item - 3) (drop 3 item)) (isCrcGood (getD item 0 0)) [] → heardIn s item ≡ x
 unfolding heardIn
 packet s [] h long of is answer = absurd (omega arith)
 packet s (a ∷ []) h long of is answer = absurd (omega arith)
 packet s (a ∷ b ∷ []) h long of is answer = absurd (omega arith)
 packet s (a ∷ b ∷ d ∷ payload) h long of is answer =
     let all : take (length (a ∷ b ∷ d ∷ payload) - 3) payload ≡ payload = take-all (length (a ∷ b ∷ d ∷ payload) - 3) payload (omega arith) in
-    ap (λ (y : Header). scanned s y payload (eqb a 1) []) (cc (of, is)) ∙ sym (answer ∙ ap (λ (l : List ℕ). scanned s h l (eqb a 1) []) all)
+    ap (λ (y : Header). scanned s y payload (isCrcGood a) []) (cc (of, is)) ∙ sym (answer ∙ ap (λ (l : List ℕ). scanned s h l (isCrcGood a) []) all)
 
 -- its header is whole
 no-refusal : (item : List ℕ) (e : Error) {r : HeaderMade} → 3 ≤ length item → r ≡ parsed (take 2 (drop 1 item)) → r ≡ made.Refused e → ⊥

@@ -11,7 +11,7 @@ use Rattle.octets.specs.Bytes.{written}
 use Rattle.beacon.specs.declared.beacon.BeaconScanner.{BeaconScanner}
 use Rattle.items.specs.Item.{wholeSize, items}
 use Rattle.hub.specs.Line.{lineSize, roomFor, line, reportsIn}
-use Rattle.hub.specs.Log.{heardIn, scannerAfter, after, printed, afterAll, printedAll, itemsFor, linesOf, hubOf, loggedOf, Counted, linesIn}
+use Rattle.hub.specs.Log.{mostItems, heardIn, scannerAfter, after, printed, afterAll, printedAll, itemsFor, linesOf, hubOf, loggedOf, RunCounts, linesIn}
 use Rattle.hub.specs.declared.Hub.{Hub}
 use Rattle.items.proofs.Items.{whole-fits, none-whole, one-whole, none-more}
 use Rattle.hub.proofs.Pieces.{Wrote, nothing-yet, as-long, then-piece}
@@ -25,7 +25,7 @@ hub items reports scanner = record { items = items; reports = reports; scanner =
 record Progress (h : Hub) (s out₀ out : List ℕ) (count found : ℕ) (scanner : BeaconScanner) (at to : ℕ) : Type 0 where
   lines : List ℕ
   inside : at ≤ length s
-  counted : Counted (hub count found scanner)
+  counted : RunCounts (hub count found scanner)
   room : to ≤ roomFor at
   wrote : Wrote out₀ 0 lines out to
   all-lines : lines ++ linesOf (hub count found scanner) (drop at s) ≡ linesOf h s
@@ -33,12 +33,12 @@ record Progress (h : Hub) (s out₀ out : List ℕ) (count found : ℕ) (scanner
   all-octets : at + length (flatten (itemsFor (hub count found scanner) (drop at s))) ≡ length (flatten (itemsFor h s))
 
 -- an item is taken
-next-item : (h : Hub) (s : List ℕ) → h .items < 999999 → (wholeSize s ≡ 0 → ⊥)
+next-item : (h : Hub) (s : List ℕ) → h .items < mostItems → (wholeSize s ≡ 0 → ⊥)
     → itemsFor h s ≡ take (wholeSize s) s ∷ itemsFor (after h (take (wholeSize s) s)) (drop (wholeSize s) s)
 unfolding after
 next-item h s more item =
-    let left : 999999 - h .items ≡ suc (999999 - (h .items + 1)) = omega arith in
-    rw left (one-whole (999999 - (h .items + 1)) s item)
+    let left : mostItems - h .items ≡ suc (mostItems - (h .items + 1)) = omega arith in
+    rw left (one-whole (mostItems - (h .items + 1)) s item)
 
 module _ {h : Hub} {s out₀ out : List ℕ} {count found : ℕ} {scanner : BeaconScanner} {at to : ℕ} (p : Progress h s out₀ out count found scanner at to)
     (enough : roomFor (length s) ≤ length out₀) where
@@ -49,7 +49,7 @@ module _ {h : Hub} {s out₀ out : List ℕ} {count found : ℕ} {scanner : Beac
   long-out : length out ≡ length out₀
   long-out = as-long (p .wrote) within
 
-  module _ (size : ℕ) (is : size ≡ wholeSize (drop at s)) (more : count < 999999) (some : size ≡ 0 → ⊥) where
+  module _ (size : ℕ) (is : size ≡ wholeSize (drop at s)) (more : count < mostItems) (some : size ≡ 0 → ⊥) where
     -- as the code lends it
     item : List ℕ
     item = take (at + size - at) (drop at s)
@@ -118,7 +118,7 @@ Inv-loop s out₀ items₀ reports₀ scanner₀ at₀ written₀ out items repo
     Progress (hub items₀ reports₀ scanner₀) s out₀ out items reports scanner at to
 
 abbrev μ-loop : tie.MeasureT-loop
-μ-loop s out₀ items₀ reports₀ scanner₀ at₀ written₀ out items reports scanner at to = 999999 - items
+μ-loop s out₀ items₀ reports₀ scanner₀ at₀ written₀ out items reports scanner at to = mostItems - items
 
 loop-holds : tie.Need-loop-holds Inv-loop μ-loop
 loop-holds c =

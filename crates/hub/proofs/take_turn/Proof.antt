@@ -7,7 +7,7 @@ use native.Mathlib.Omega.{arith}
 use lib.ListN.{length, take, drop, length-take, length-drop}
 use borrow.Author.Needs.{needs}
 use Rattle.items.specs.Item.{behind}
-use Rattle.hub.specs.Log.{hubOf, restOf, isStuck, loggedOf, turnOf, restIn}
+use Rattle.hub.specs.Log.{mostItems, hubOf, restOf, isStuck, loggedOf, turnOf, restIn}
 use Rattle.hub.specs.declared.Hub.{Hub}
 use Rattle.hub.specs.declared.Logged.{Logged}
 use Rattle.items.proofs.Items.{items-fit}
@@ -20,7 +20,7 @@ module _ (h : Hub) (buf : List ℕ) (filled : ℕ) (g : Logged) (inside : filled
   filled-long = simp length-take (omega arith)
 
   taken-short : g .taken ≤ filled
-  taken-short = omega (arith, ap (λ (x : Logged). x .taken) is, items-fit (999999 - h .items) (take filled buf), filled-long)
+  taken-short = omega (arith, ap (λ (x : Logged). x .taken) is, items-fit (mostItems - h .items) (take filled buf), filled-long)
 
   -- as the code lends it
   left : List ℕ

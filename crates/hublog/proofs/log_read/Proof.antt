@@ -22,7 +22,7 @@ taken-in : (c : tie.After-take-in) → let a = c .before .before .before .before
 taken-in c =
     let start = c .before .before .before .before .before in
     let a = start .args in
-    c .take-in .ensures .0 ∙ turning (a .hub) (a .buf .now) .accepted (a .buf .now) (a .filled) (a .out .now) (start .pre .0) (start .pre .1 .0) (start .pre .1 .1)
+    c .take-in .ensures .0 ∙ turning (a .hub) (a .buf .now) .accepted (a .buf .now) (a .filled) (a .out .now) (start .pre)
 
 is-turn : (c : tie.After-turn) → let a = c .before .before .before .before .before .before .before .before .before .before .before .args in c .turn .given .0 .0 ≡ turnOf (a .hub) (take (a .filled) (a .buf .now))
 is-turn c = same-turn (sym (c .turn .given .1) ∙ taken-in (c .before .before .before .before .before .before))
@@ -34,7 +34,7 @@ left-over c =
     let start = c .before .before .before .before .before .before .before .before .before .before .before in
     let a = start .args in
     rw (ap (λ (t : Turn). t .kept) (is-turn c), c .before .before .before .before .before .before .take-in .ensures .1 .0)
-    (turning (a .hub) (a .buf .now) .left (a .buf .now) (a .filled) (a .out .now) (start .pre .0) (start .pre .1 .0) (start .pre .1 .1))
+    (turning (a .hub) (a .buf .now) .left (a .buf .now) (a .filled) (a .out .now) (start .pre) .0)
 
 written-fits : (c : tie.After-turn) → c .turn .given .0 .0 .written ≤ length (c .before .before .before .before .before .before .before .before .before .before .before .args .out .now)
 written-fits c =

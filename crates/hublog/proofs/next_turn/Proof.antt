@@ -6,16 +6,16 @@ use mathlib.Core.List.{List}
 use lib.ListN.{take, length-take}
 use borrow.Author.Needs.{needs}
 use Rattle.hub.proofs.AnyReads.{turning}
-use Rattle.hub.specs.Log.{turnOf, Counted}
+use Rattle.hub.specs.Log.{turnOf, RunCounts}
 use Rattle.hub.specs.declared.Hub.{Hub}
 use Rattle.hub.specs.declared.Turn.{Turn}
 use Rattle.hublog.proofs.next_turn.Statement.{statement}
 use Rattle.hublog.proofs.next_turn.Tie as tie
 
-at-end : (t : Turn) {h : Hub} {kept size : ℕ} → (t .hub ≡ h) × (t .kept ≡ kept) → Counted h → kept ≤ size → Counted (t .hub) × (t .kept ≤ size)
+at-end : (t : Turn) {h : Hub} {kept size : ℕ} → (t .hub ≡ h) × (t .kept ≡ kept) → RunCounts h → kept ≤ size → RunCounts (t .hub) × (t .kept ≤ size)
 at-end t is counted fits = rw (is .0, is .1) (counted, fits)
 
-turned : {t : Turn} (h : Hub) (buf : List ℕ) (filled : ℕ) {size : ℕ} → t ≡ turnOf h (take filled buf) → Counted h → filled ≤ size → Counted (t .hub) × (t .kept ≤ size)
+turned : {t : Turn} (h : Hub) (buf : List ℕ) (filled : ℕ) {size : ℕ} → t ≡ turnOf h (take filled buf) → RunCounts h → filled ≤ size → RunCounts (t .hub) × (t .kept ≤ size)
 turned h buf filled is counted fits =
     let turn = turning h (take filled buf) in
     rw is (turn .counted counted, omega (arith, turn .kept, length-take filled buf))

@@ -1,32 +1,22 @@
 -- `hub::Hub::take_in` meets its contract. Assumes nothing.
 use mathlib.Core.Path.{_≡_, sym, ap, _∙_}
-use mathlib.Core.Bool.{Bool, true, false, cond, _&&_}
+use mathlib.Core.Bool.{Bool, true, false, cond}
 use mathlib.Core.List.{List}
-use Prim.Native.Nat.{ℕ, _≤_}
-use lib.Dec.{leb}
+use Prim.Native.Nat.{ℕ}
 use lib.ListN.{length, take}
 use borrow.Author.Needs.{needs}
-use borrow.Author.Tests.{leb-true}
-use Rattle.octets.proofs.Places.{both-true}
-use Rattle.hub.specs.Line.{roomFor}
-use Rattle.hub.specs.Log.{turnOf, Counted, isReady, restIn, linesIn, takenIn, restAfter, linesAfter}
+use Rattle.hub.specs.Log.{turnOf, isReady, restIn, linesIn, takenIn, restAfter, linesAfter}
 use Rattle.hub.specs.declared.Hub.{Hub}
 use Rattle.hub.specs.declared.TakenIn.{TakenIn}
 use Rattle.hub.specs.declared.TakenIn.the-variants as taken
 use Rattle.hub.specs.declared.Turn.{Turn}
+use Rattle.hub.proofs.AnyReads.{all-ready}
 use Rattle.hub.proofs.Hub.take_in.Statement.{statement}
 use Rattle.hub.proofs.Hub.take_in.Tie as tie
 
 module _ (h : Hub) (buf : List ℕ) (filled : ℕ) (out : List ℕ) where
   abbrev ready : Bool
   ready = isReady h filled (length buf) (length out)
-
-  all-ready : ready ≡ true → Counted h × ((filled ≤ length buf) × (roomFor filled ≤ length out))
-  all-ready e =
-      let items = both-true (leb (h .items) 999999) (leb (h .reports) (h .items) && (leb filled (length buf) && leb (roomFor filled) (length out))) e in
-      let reports = both-true (leb (h .reports) (h .items)) (leb filled (length buf) && leb (roomFor filled) (length out)) (items .1) in
-      let size = both-true (leb filled (length buf)) (leb (roomFor filled) (length out)) (reports .1) in
-      ((leb-true (h .items) 999999 (items .0), leb-true (h .reports) (h .items) (reports .0)), (leb-true filled (length buf) (size .0), leb-true (roomFor filled) (length out) (size .1)))
 
   -- what the contract says
   Takes : TakenIn → List ℕ → List ℕ → Type 0
