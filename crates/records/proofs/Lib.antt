@@ -5,6 +5,7 @@ pub mod Again
 pub mod Rewritten
 pub mod Accepted
 pub mod RoundTrip
+pub mod Restored
 pub mod ReadBack
 pub mod Rows
 pub mod Uuids

@@ -24,7 +24,7 @@ use Rattle.records.specs.declared.ad_structure.AdStructure.the-variants 
 use Rattle.records.specs.declared.ad_structure.Parsed.the-variants.{Structure}
 use Rattle.records.specs.declared.ad_structure.Checked.{Checked}
 use Rattle.records.specs.declared.ad_structure.Checked.the-variants.{Fine}
-use Rattle.records.specs.Record.{recordOf, flagsRead, wholeUuids, uuidList, uuidsRead, localName, nameRead, serviceData, manufacturerData, pairRead, dataRead, kindRead, upTo, recordRead, first, recordAt, lentRead, knownRead}
+use Rattle.records.specs.Record.{recordOf, flagsRead, wholeUuids, uuidList, uuidsRead, localName, nameRead, pairKind, pairRead, dataRead, kindRead, upTo, recordRead, first, recordAt, lentRead, knownRead}
 use Rattle.records.specs.Write.{typeOf, ownOf, startOf, lenOf, listCheck, nameCheck, checkOf, dataOf, andThen, mayWrite, octetsOf, writtenAfter}
 use Rattle.records.specs.ReadBack.{movedTo, AsItself, OfKnownType, leftAs, WrittenAndReadBack, NotAsItself}
 use Rattle.records.proofs.Again.{named-twice}
@@ -126,10 +126,10 @@ known-itself (ad.ServiceUuids32 true from len) s out at start m is = rw add-zero
 known-itself (ad.ServiceUuids32 false from len) s out at start m is = rw add-zero (uuids-back Uuid32 false len from s start (m .placed) (m .checked))
 known-itself (ad.ServiceUuids128 true from len) s out at start m is = rw add-zero (uuids-back Uuid128 true len from s start (m .placed) (m .checked))
 known-itself (ad.ServiceUuids128 false from len) s out at start m is = rw add-zero (uuids-back Uuid128 false len from s start (m .placed) (m .checked))
-known-itself (ad.ServiceData16 uuid from len) s out at start m is = rw (pair-back serviceData uuid (part len s from) start is, parts s .as-long len from (m .placed))
+known-itself (ad.ServiceData16 uuid from len) s out at start m is = rw (pair-back (pairKind true) uuid (part len s from) start is, parts s .as-long len from (m .placed))
 known-itself (ad.CompleteLocalName from len) s out at start m is = rw add-zero (name-back true len from s start (m .placed) (m .checked))
 known-itself (ad.ShortenedLocalName from len) s out at start m is = rw add-zero (name-back false len from s start (m .placed) (m .checked))
-known-itself (ad.ManufacturerSpecificData company from len) s out at start m is = rw (pair-back manufacturerData (company .0) (part len s from) start is, parts s .as-long len from (m .placed))
+known-itself (ad.ManufacturerSpecificData company from len) s out at start m is = rw (pair-back (pairKind false) (company .0) (part len s from) start is, parts s .as-long len from (m .placed))
 known-itself (ad.Unknown ty from len) s out at start m is = absurd is
 
 pub written-and-read-back : WrittenAndReadBack

@@ -3,11 +3,11 @@
 use mathlib.Core.Path.{refl}
 use mathlib.Core.List.{flatten}
 use Rattle.records.specs.Record.{named, flagsRead, uuidsRead, dataRead, upTo, recordRead, first, recordAt}
-use Rattle.records.specs.Area.{cut, reads, before, areaOf, readArea, clean, rewritten, mayRewrite, rewrittenAfter}
+use Rattle.records.specs.Area.{cut, reads, withFirst, areaOf, readArea, clean, rewritten, mayRewrite, rewrittenAfter}
 use Rattle.records.specs.Rows.{Rows}
 
 pub rows : Rows
-unfolding named flagsRead uuidsRead dataRead upTo recordRead first recordAt cut reads before areaOf readArea clean rewritten mayRewrite rewrittenAfter flatten
+unfolding named flagsRead uuidsRead dataRead upTo recordRead first recordAt cut reads withFirst areaOf readArea clean rewritten mayRewrite rewrittenAfter flatten
 rows =
     record {
       flags = refl;

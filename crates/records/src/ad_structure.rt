@@ -8,7 +8,7 @@ ghost use lib.ListN.{length, getD, drop};
 ghost use Rattle.octets.specs.Bytes.{written};
 ghost use Rattle.records.specs.Record.{recordOf, named, bit, uuidList, flagsRead, uuidsRead, localName, nameRead, pairKind, pairRead, dataRead, kindRead, first, recordRead, knownRead, recordAt};
 ghost use Rattle.records.specs.Uuids.{uuid16At};
-ghost use Rattle.records.specs.Write.{IsOutline, lentBy, lentCheck, spaceIn, andThen, lentTo, lentAfter, writtenTo, writtenAfter};
+ghost use Rattle.records.specs.Write.{IsOutline, lentOutline, lentCheck, spaceIn, andThen, lentTo, lentAfter, writtenTo, writtenAfter};
 use octets::bytes::ByteReader;
 use octets::bytes::ByteWriter;
 use octets::bytes::Written;
@@ -190,7 +190,7 @@ impl AdStructure {
 
 // The outline of a record that holds nothing itself.
 fn lent(ty: u8, start: usize, len: usize, name: bool, unit: usize) -> Outline
-    ensures { λ r. ⌜ r ≡ lentBy ty start len name unit ⌝ }
+    ensures { λ r. ⌜ r ≡ lentOutline ty start len name unit ⌝ }
 {
     Outline {
         ty,

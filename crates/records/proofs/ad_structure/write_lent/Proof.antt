@@ -18,7 +18,7 @@ use Rattle.records.specs.declared.ad_structure.Checked.{Checked}
 use Rattle.records.specs.declared.ad_structure.Checked.the-variants.{Fine}
 use Rattle.records.specs.declared.ad_structure.Outline.{Outline}
 use Rattle.records.specs.Record.{recordOf}
-use Rattle.records.specs.Write.{ownIn, lentCheck, spaceIn, spaceFor, andThen, answer, leaves, lentTo, lentAfter}
+use Rattle.records.specs.Write.{ownIn, lentCheck, spaceIn, spaceFor, andThen, checkedTo, checkedAfter, lentTo, lentAfter}
 use Rattle.records.proofs.ad_structure.write_lent.Statement.{statement}
 use Rattle.records.proofs.ad_structure.write_lent.Tie as tie
 
@@ -27,7 +27,7 @@ own-size o d short = simp (length-append, length-take) (omega arith)
 
 -- a record that may not be written
 not-put : (check : Checked) (xs d out : List ℕ) (at n : ℕ) {may : Checked} {e : Error} → length d ≡ n → may ≡ andThen check (spaceIn n (length out) at) → may ≡ Checked.Refused e
-    → (Written.Refused e ≡ answer (andThen check (spaceFor d out at)) xs at) × (out ≡ leaves (andThen check (spaceFor d out at)) xs out at)
+    → (Written.Refused e ≡ checkedTo (andThen check (spaceFor d out at)) xs at) × (out ≡ checkedAfter (andThen check (spaceFor d out at)) xs out at)
 not-put check xs d out at n size is why = rw (size, ← is, why) (refl, refl)
 
 refused : tie.Need-returns
@@ -85,7 +85,7 @@ own-fits c κs =
 put : (check : Checked) (ty : ℕ) (own d out : List ℕ) (at n end : ℕ) {own₁ l : List ℕ} → length (own ++ d) ≡ n → end ≡ at + 2 + n → Fine ≡ andThen check (spaceIn n (length out) at)
     → own₁ ≡ own → l ≡ written (recordOf ty (own₁ ++ d)) out at
     → let may = andThen check (spaceFor (own ++ d) out at) in
-    (To (record { at = end }) ≡ answer may (recordOf ty (own ++ d)) at) × (l ≡ leaves may (recordOf ty (own ++ d)) out at)
+    (To (record { at = end }) ≡ checkedTo may (recordOf ty (own ++ d)) at) × (l ≡ checkedAfter may (recordOf ty (own ++ d)) out at)
 unfolding recordOf
 put check ty own d out at n end size ends fine is e =
     let next : end ≡ at + suc (suc (length (own ++ d))) = omega arith in
