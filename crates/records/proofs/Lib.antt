@@ -7,5 +7,6 @@ pub mod Accepted
 pub mod RoundTrip
 pub mod Restored
 pub mod ReadBack
+pub mod Order
 pub mod Rows
 pub mod Uuids

@@ -2,6 +2,7 @@ pub mod Types
 pub mod Record
 pub mod Uuids
 pub mod Write
+pub mod Order
 pub mod Area
 pub mod Accepted
 pub mod RoundTrip
