@@ -8,5 +8,6 @@ pub mod RoundTrip
 pub mod Restored
 pub mod ReadBack
 pub mod Order
-pub mod Rows
+pub mod Flags
+pub mod Examples
 pub mod Uuids

@@ -7,4 +7,5 @@ pub mod Area
 pub mod Accepted
 pub mod RoundTrip
 pub mod ReadBack
-pub mod Rows
+pub mod Flags
+pub mod Examples
