@@ -8,6 +8,7 @@ pub mod RoundTrip
 pub mod Restored
 pub mod ReadBack
 pub mod Order
+pub mod Outlines
 pub mod Flags
 pub mod Examples
 pub mod Uuids

@@ -19,13 +19,16 @@ use Rattle.records.specs.declared.ad_structure.Parsed.the-variants.{Stru
 use Rattle.records.specs.declared.ad_structure.Read.{Read}
 use Rattle.records.specs.declared.ad_structure.Read.the-variants.{Record, End}
 use Rattle.records.specs.declared.ad_structure.NextUuid16.the-variants as next16
+use Rattle.records.specs.declared.ad_structure.Checked.{Checked}
+use Rattle.records.specs.declared.ad_structure.Checked.the-variants.{Fine}
+use Rattle.records.specs.declared.ad_structure.Outline.{Outline}
 use Rattle.records.specs.declared.area.Area.{Area}
 use Rattle.records.specs.declared.area.Area.the-variants.{Accepted}
 use Rattle.records.specs.Types.{flagsType, incomplete16Type, complete16Type, incomplete32Type, complete32Type, incomplete128Type, complete128Type, shortenedNameType, completeNameType, serviceDataType, manufacturerType}
 use Rattle.records.specs.Flags.{limitedDiscoverable, generalDiscoverable, supportsClassic, bothByController, bothByHost, discoverableFlags, broadcastFlags}
 use Rattle.records.specs.Record.{named, recordAt, knownRead}
 use Rattle.records.specs.Uuids.{uuid16At}
-use Rattle.records.specs.Write.{writtenTo, writtenAfter}
+use Rattle.records.specs.Write.{ownIn, lentCheck, writtenTo, writtenAfter}
 use Rattle.records.specs.Area.{readArea, rewrittenTo, rewrittenAfter}
 
 abbrev pub refusal : Written → ℕ
@@ -39,6 +42,10 @@ putIn n a s = writtenAfter a s (replicate n 0x00) 0
 -- what writing it there is refused with
 abbrev pub refusedIn : ℕ → AdStructure → List ℕ → ℕ
 refusedIn n a s = refusal (writtenTo a s (replicate n 0x00) 0)
+
+-- an outline of `held` octets of its own
+abbrev pub outlined : ℕ → ℕ → Outline
+outlined own held = record { ty = 0x16; own = own; held = held; start = 0; len = 0; name = false; unit = 1 }
 
 abbrev pub readOnFrom : List ℕ → Read → Parsed
 readOnFrom s (Record a next) = knownRead a s
@@ -145,6 +152,14 @@ pub record Examples : Type 0 where
   -- a company number is data too
   pub company-long : refusedIn 300 (ManufacturerSpecificData (record { 0 = 0x004C }) 0 253) (replicate 253 0x04) ≡ 9
   pub company-longest : refusedIn 300 (ManufacturerSpecificData (record { 0 = 0x004C }) 0 252) (replicate 252 0x04) ≡ 0
+  -- the code's outline: its own octets, and its check of the lent ones
+  pub own-two : ownIn (outlined 0x180F 2) ≡ 0x0F ∷ 0x18 ∷ []
+  pub own-one : ownIn (outlined 0x06 1) ≡ 0x06 ∷ []
+  pub own-none : ownIn (outlined 0x180F 0) ≡ []
+  pub name-fine : lentCheck true 1 (0x48 ∷ []) ≡ Fine
+  pub name-bad : lentCheck true 1 (0xFF ∷ []) ≡ Checked.Refused InvalidValue
+  pub units-fine : lentCheck false 2 (0xFF ∷ 0xFF ∷ []) ≡ Fine
+  pub units-bad : lentCheck false 2 (0xFF ∷ []) ≡ Checked.Refused Eof
   -- at a position
   pub at-two : writtenAfter (Unknown 0x0A 0 1) (0x04 ∷ []) (0xA0 ∷ 0xA1 ∷ 0xA2 ∷ 0xA3 ∷ 0xA4 ∷ 0xA5 ∷ []) 2 ≡ 0xA0 ∷ 0xA1 ∷ 0x02 ∷ 0x0A ∷ 0x04 ∷ 0xA5 ∷ []
   pub at-two-ends : writtenTo (Unknown 0x0A 0 1) (0x04 ∷ []) (replicate 6 0x00) 2 ≡ To (record { at = 5 })

@@ -3,6 +3,7 @@ pub mod Record
 pub mod Uuids
 pub mod Write
 pub mod Order
+pub mod Outlines
 pub mod Area
 pub mod Accepted
 pub mod RoundTrip
