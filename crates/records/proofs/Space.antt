@@ -18,6 +18,7 @@ space-fine check n size at = go check (leb (at + (n + 2)) size) (ltb 255 (n + 1)
         → andThen check (cond fits (cond long (Checked.Refused RecordLength) Fine) (Checked.Refused Eof)) ≡ Fine
         → (check ≡ Fine) × (at + (n + 2) ≤ size) × (n + 1 ≤ 255)
     go (Checked.Refused k) fits long f l e = absurd (let z : _≡_ {A = ℕ} 0 1 = cc in omega arith)
-    go Fine false long f l e = absurd (let z : _≡_ {A = ℕ} 0 1 = cc in omega arith)
+    go Fine false false f l e = absurd (let z : _≡_ {A = ℕ} 0 1 = cc in omega arith)
+    go Fine false true f l e = absurd (let z : _≡_ {A = ℕ} 0 1 = cc in omega arith)
     go Fine true true f l e = absurd (let z : _≡_ {A = ℕ} 0 1 = cc in omega arith)
     go Fine true false f l e = (refl, leb-true _ _ f, ltb-false _ _ l)
