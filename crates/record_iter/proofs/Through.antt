@@ -1,11 +1,11 @@
--- Going through the iterator from the front: `goes-through`.
+-- Going through the iterator from the front: `goes-through`; where its rest lies: `rest-placed`.
 -- Assumes nothing.
 use mathlib.Core.Path.{_≡_, refl, sym, ap, _∙_, subst}
 use Prim.Native.Nat.{ℕ, zero, suc, _+_, _<_, _≤_}
 use mathlib.Core.List.{List, [], _∷_}
 use native.Mathlib.Omega.{arith}
 use native.Mathlib.Numerals.{add-one}
-use lib.ListN.{length, drop}
+use lib.ListN.{length, drop, length-drop}
 use denote.Ref.{RefT, now}
 use Rattle.octets.specs.declared.error.Error.{Error}
 use Rattle.records.specs.declared.ad_structure.AdStructure.{AdStructure}
@@ -17,7 +17,7 @@ use Rattle.records.specs.Record.{recordRead, first, recordAt}
 use Rattle.records.specs.Area.{cut, records, reads, withFirst, areaOf, readArea}
 use Rattle.records.proofs.Cuts.{Sized, sized, here, at-here, Step, stepped, ended}
 use Rattle.record_iter.specs.Iter.{after}
-use Rattle.record_iter.specs.Laws.{nextOf, restOf, movedBy, answerAt, IsRecord, nextAfter, Through, AreaCounted, GoesThrough}
+use Rattle.record_iter.specs.Laws.{nextOf, restOf, movedBy, answerAt, IsRecord, nextAfter, Through, AreaCounted, GoesThrough, RestPlaced}
 use Rattle.record_iter.specs.declared.Records.{Records}
 
 -- ---- the answers of a list of records that read so, and what the area is
@@ -146,3 +146,6 @@ goes-through area =
       counted = counts area (readArea (now area)) (closes (now area) 0 0);
       left = λ k found. left area k 0 (omega arith) found;
     }
+
+pub rest-placed : (s : RefT (List ℕ)) (at : ℕ) → RestPlaced s at
+rest-placed s at = record { same-area = refl; same-end = rw length-drop (omega arith) }

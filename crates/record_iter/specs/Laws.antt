@@ -4,12 +4,13 @@
 --   answerAt rs k           == answer k of going through records that read as rs: a refusal or the end stays
 --   Through area n last     == the first n answers are records, and the one after them is `last`
 --   GoesThrough area        == the law
+--   RestPlaced s at         == the rest lies in the area, and ends where the area ends
 --   Rows r                  == document 01's rows `02 01 86` and `01 03`, one after the other
 use mathlib.Core.Path.{_≡_}
 use mathlib.Core.Bool.{true}
-use Prim.Native.Nat.{ℕ, zero, suc, _<_}
+use Prim.Native.Nat.{ℕ, zero, suc, _+_, _<_}
 use mathlib.Core.List.{List, [], _∷_}
-use lib.ListN.{drop}
+use lib.ListN.{length, drop}
 use denote.Ref.{RefT, now}
 use Rattle.octets.specs.declared.error.Error.{Error}
 use Rattle.records.specs.declared.ad_structure.AdStructure.the-variants.{Flags, ServiceUuids16}
@@ -19,7 +20,7 @@ use Rattle.records.specs.declared.area.Area.{Area}
 use Rattle.records.specs.declared.area.Area.the-variants.{Accepted}
 use Rattle.records.specs.Record.{recordAt}
 use Rattle.records.specs.Area.{records, reads, readArea}
-use Rattle.record_iter.specs.Iter.{front, onward}
+use Rattle.record_iter.specs.Iter.{front, onward, restPlace}
 use Rattle.record_iter.specs.declared.Records.{Records}
 
 abbrev pub nextOf : Records → Read
@@ -67,6 +68,11 @@ pub record GoesThrough (area : RefT (List ℕ)) : Type 0 where
   pub counted : AreaCounted area (readArea (now area))
   -- what is left behind k records is the records from k on
   pub left : (k : ℕ) → ((j : ℕ) → j < k → IsRecord (nextAfter area j)) → records (restOf (movedBy k (front area))) ≡ drop k (records (now area))
+
+-- so it is the very part of the area, and no equal octets elsewhere
+pub record RestPlaced (s : RefT (List ℕ)) (at : ℕ) : Type 0 where
+  pub same-area : restPlace s at .0 ≡ s .ptr .0
+  pub same-end : restPlace s at .1 + length (drop at (now s)) ≡ s .ptr .1 + length (now s)
 
 -- the two rows as an area, lent where r lies
 abbrev pub twoRows : RefT (List ℕ) → RefT (List ℕ)
