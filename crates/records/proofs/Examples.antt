@@ -90,6 +90,7 @@ examples =
       own-two = refl;
       own-one = refl;
       own-none = refl;
+      own-most = refl;
       name-fine = refl;
       name-bad = refl;
       units-fine = refl;

@@ -6,6 +6,7 @@ pub mod Rewritten
 pub mod Accepted
 pub mod RoundTrip
 pub mod Restored
+pub mod ReadOn
 pub mod Space
 pub mod ReadBack
 pub mod Order

@@ -156,6 +156,7 @@ pub record Examples : Type 0 where
   pub own-two : ownIn (outlined 0x180F 2) ≡ 0x0F ∷ 0x18 ∷ []
   pub own-one : ownIn (outlined 0x06 1) ≡ 0x06 ∷ []
   pub own-none : ownIn (outlined 0x180F 0) ≡ []
+  pub own-most : ownIn (outlined 0x180F 3) ≡ 0x0F ∷ 0x18 ∷ []
   pub name-fine : lentCheck true 1 (0x48 ∷ []) ≡ Fine
   pub name-bad : lentCheck true 1 (0xFF ∷ []) ≡ Checked.Refused InvalidValue
   pub units-fine : lentCheck false 2 (0xFF ∷ 0xFF ∷ []) ≡ Fine

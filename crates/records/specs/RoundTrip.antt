@@ -3,6 +3,7 @@
 --   NamedOnly rs              == no Flags among these records has a bit without a name
 --   RoundTrip s               == `rewritten s` is s with `clean` of each record in its place, and reads as s does
 --   WrittenAgain s out at     == writing a record of s at position `at`, as it was read there, writes `clean` of its octets
+--   ReadOnAgain .. b          == a record b that was read on from type and data is written as these, `clean`
 --   Begins s p, FlagsOctet s i   == a record of s begins at position p; octet i of s is the octet of a Flags record
 --   Restores s out            == rewriting the area s to `out` restores its octets, save the bits of Flags that have no name
 --   Rewriting s out           == that it does so for an accepted area with room, and what it refuses
@@ -14,11 +15,13 @@ use Rattle.octets.specs.declared.error.Error.{Error}
 use Rattle.octets.specs.declared.error.Error.the-variants.{Eof}
 use Rattle.octets.specs.declared.bytes.Written.{Written}
 use Rattle.octets.specs.declared.bytes.Written.the-variants.{To}
-use Rattle.octets.specs.Bytes.{written}
+use Rattle.octets.specs.Bytes.{part, written}
 use Rattle.octets.specs.Laws.{Octets}
 use Rattle.records.specs.declared.ad_structure.AdStructure.{AdStructure}
+use Rattle.records.specs.declared.ad_structure.AdStructure.the-variants.{Unknown}
+use Rattle.records.specs.declared.ad_structure.Parsed.the-variants.{Structure}
 use Rattle.records.specs.declared.ad_structure.Read.the-variants.{Record}
-use Rattle.records.specs.Record.{first, recordAt}
+use Rattle.records.specs.Record.{recordOf, first, recordAt, knownRead}
 use Rattle.records.specs.Write.{writtenTo, writtenAfter}
 use Rattle.records.specs.declared.area.Area.{Area}
 use Rattle.records.specs.declared.area.Area.the-variants.{Accepted}
@@ -56,6 +59,16 @@ pub record WrittenAgain (s out : List ℕ) (at : ℕ) (a : AdStructure) (next : 
 -- as `rewrite_area` does with each record
 abbrev pub ReadAndRewritten : Type 0
 ReadAndRewritten = (s out : List ℕ) (at : ℕ) (a : AdStructure) (next : ℕ) → Octets s → recordAt s at ≡ Record a next → next ≤ length out → WrittenAgain s out at a next
+
+pub record ReadOnAgain (ty start len : ℕ) (s out : List ℕ) (at : ℕ) (b : AdStructure) : Type 0 where
+  pub answers : writtenTo b s out at ≡ To (record { at = at + 2 + len })
+  pub writes : writtenAfter b s out at ≡ written (clean (recordOf ty (part len s start))) out at
+
+-- with `read_known`; a record that was not left as type and data stays as it is
+pub record ReadOnAndRewritten (s : List ℕ) : Type 0 where
+  pub again : Octets s → (ty start len : ℕ) (b : AdStructure) → knownRead (Unknown ty start len) s ≡ Structure b → (out : List ℕ) (at : ℕ) → at + 2 + len ≤ length out → len < 255
+      → ReadOnAgain ty start len s out at b
+  pub same : (a : AdStructure) → ((ty start len : ℕ) → a ≡ Unknown ty start len → ⊥) → knownRead a s ≡ Structure a
 
 -- records lie one behind the other: the length octet of a record counts the octets behind it
 pub data Begins (s : List ℕ) : ℕ → Type 0 where
