@@ -3,12 +3,12 @@
 use mathlib.Core.Path.{_≡_, refl, sym, ap, _∙_, subst}
 use mathlib.Core.Bool.{Bool, true, false, cond}
 use mathlib.Core.List.{List, [], _∷_, _++_}
-use Prim.Native.Nat.{ℕ, suc, _+_, _-_, _≤_, _<_}
+use Prim.Native.Nat.{ℕ, _+_, _-_, _≤_, _<_}
 use native.Mathlib.Omega.{arith}
-use lib.ListN.{length, getD, take, drop, length-drop, take-append-drop}
+use lib.ListN.{length, getD, take, drop, take-append-drop}
 use lib.Seq.{getD-take, getD-drop, drop-drop}
 use lib.Dec.{ltb, eqb}
-use borrow.Author.Tests.{leb-true, eqb-true, eqb-false, ltb-false, le-ltb}
+use borrow.Author.Tests.{leb-true, eqb-true, ltb-false, le-ltb}
 use Rattle.octets.specs.declared.error.Error.the-variants.{Eof, InvalidValue}
 use Rattle.octets.specs.declared.uuid.UuidKind.the-variants.{Uuid32, Uuid128}
 use Rattle.octets.specs.Bytes.{has, part, le, leBytes}
@@ -23,10 +23,10 @@ use Rattle.records.specs.declared.ad_structure.Parsed.{Parsed}
 use Rattle.records.specs.declared.ad_structure.Parsed.the-variants.{Structure}
 use Rattle.records.specs.declared.ad_structure.Checked.the-variants.{Fine}
 use Rattle.records.specs.Record.{recordOf, uuidsRead, localName, nameRead, pairKind, pairRead, dataRead, kindRead, lentRead, knownRead}
-use Rattle.records.specs.Write.{typeOf, startOf, lenOf, dataOf, mayWrite, octetsOf, writtenTo, writtenAfter}
+use Rattle.records.specs.Write.{startOf, lenOf, dataOf, mayWrite, octetsOf, writtenTo, writtenAfter}
 use Rattle.records.specs.Area.{clean}
 use Rattle.records.specs.RoundTrip.{ReadOnAgain, ReadOnAndRewritten}
-use Rattle.records.proofs.Again.{cleanData, clean-data, clean-data-length, Means, Meant, lent, uuids-meant, meant}
+use Rattle.records.proofs.Again.{clean-data, clean-data-length, Means, Meant, lent, uuids-meant, meant}
 
 module _ (s : List ℕ) (ty : ℕ) (d : List ℕ) (start : ℕ) (room : start + length d ≤ length s) (lies : part (length d) s start ≡ d) where
   name-meant : (complete : Bool) → cond complete 9 8 ≡ ty → (ty ≡ 1 → ⊥) → Meant s ty d start (nameRead complete d start)

@@ -1,7 +1,6 @@
 -- Rewriting an area restores its octets, save the bits of Flags that have no name, or is refused: `rewriting`.
 -- Assumes nothing.
 use mathlib.Core.Path.{_≡_, refl, sym, ap, _∙_, subst}
-use mathlib.Core.Bool.{true, false}
 use mathlib.Core.List.{List, [], _∷_, _++_, map}
 use Prim.Native.Nat.{ℕ, zero, suc, _+_, _-_, _%_, _≤_, _<_}
 use native.Mathlib.Omega.{arith}
@@ -9,7 +8,6 @@ use native.Mathlib.Decide.{decLe}
 use lib.ListN.{length, getD, take, drop, length-append, length-drop, List·getD-append}
 use lib.Seq.{getD-take, getD-drop, getD-append-add, drop-drop, drop-at, take-at}
 use borrow.Author.Tests.{lt-ltb, le-ltb}
-use Rattle.octets.specs.declared.error.Error.{Error}
 use Rattle.octets.specs.declared.bytes.Written.the-variants.{To}
 use Rattle.records.specs.declared.ad_structure.Read.{Read}
 use Rattle.records.specs.declared.ad_structure.Read.the-variants.{Record, End}

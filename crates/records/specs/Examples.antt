@@ -4,7 +4,7 @@
 --   readOn s               == the record that s begins with, read on to the kind that its type names
 --   Codes, Examples        == the values
 use mathlib.Core.Path.{_≡_}
-use mathlib.Core.Bool.{Bool, true, false}
+use mathlib.Core.Bool.{true, false}
 use mathlib.Core.List.{List, [], _∷_, _++_, map}
 use Prim.Native.Nat.{ℕ}
 use lib.ListN.{replicate}
