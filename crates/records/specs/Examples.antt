@@ -120,6 +120,12 @@ pub record Examples : Type 0 where
   pub six-of-32 : readOn (0x07 ∷ 0x05 ∷ 0x0F ∷ 0x18 ∷ 0x00 ∷ 0x00 ∷ 0x0A ∷ 0x18 ∷ []) ≡ Parsed.Refused Eof
   pub fifteen-of-128 : readOn (0x10 ∷ 0x06 ∷ fifteen) ≡ Parsed.Refused Eof
   pub seventeen-of-128 : readOn (0x12 ∷ 0x07 ∷ sixteen ++ 0x00 ∷ []) ≡ Parsed.Refused Eof
+  -- type and data of type 01, 02 or 03, which reading does not leave but a caller can make, are read as Flags or a list
+  pub flags-on : knownRead (Unknown 0x01 0 1) (0x86 ∷ []) ≡ Structure (Flags (record { bits = 0x06 }))
+  pub two-flags-on : knownRead (Unknown 0x01 0 2) (0x06 ∷ 0x06 ∷ []) ≡ Parsed.Refused InvalidLength
+  pub incomplete16-on : knownRead (Unknown 0x02 0 2) (0x0F ∷ 0x18 ∷ []) ≡ Structure (ServiceUuids16 false 0 2)
+  pub complete16-on : knownRead (Unknown 0x03 0 2) (0x0F ∷ 0x18 ∷ []) ≡ Structure (ServiceUuids16 true 0 2)
+  pub three-of-16 : knownRead (Unknown 0x03 0 3) (0x0F ∷ 0x18 ∷ 0x0A ∷ []) ≡ Parsed.Refused Eof
   pub not-lent-on : knownRead (Unknown 0x09 1 2) (0x48 ∷ 0x69 ∷ []) ≡ Parsed.Refused Eof
   pub lent-on : knownRead (Unknown 0x09 1 1) (0x48 ∷ 0x69 ∷ []) ≡ Structure (CompleteLocalName 1 1)
   -- at the end nothing is left; a position past it is refused
