@@ -81,12 +81,15 @@ pub record FlagsOctet (s : List ℕ) (i : ℕ) : Type 0 where
   pub type : getD s (start + 1) 0 ≡ 0x01
   pub place : i ≡ start + 2
 
--- "Records read and rewritten restore their octets, save undefined Flags bits": bits 0 to 4 are the defined ones
+-- "Records read and rewritten restore their octets, save undefined Flags bits."
 pub record Restores (s out : List ℕ) : Type 0 where
   pub answers : rewrittenTo s out ≡ To (record { at = length s })
   pub as-long : length (rewrittenAfter s out) ≡ length out
+  -- octet i of the buffer is octet i of the area
   pub restored : (i : ℕ) → i < length s → (FlagsOctet s i → ⊥) → getD (rewrittenAfter s out) i 0 ≡ getD s i 0
+  -- unless it is the octet of a Flags record, which keeps its bits 0 to 4
   pub flags : (i : ℕ) → FlagsOctet s i → getD (rewrittenAfter s out) i 0 ≡ getD s i 0 % 32
+  -- the octets behind are the buffer's own
   pub behind : (i : ℕ) → length s ≤ i → getD (rewrittenAfter s out) i 0 ≡ getD out i 0
   -- reading what was written gives the same records at the same places
   pub area-again : readArea (take (length s) (rewrittenAfter s out)) ≡ readArea s
