@@ -15,7 +15,7 @@ use Rattle.octets.specs.declared.bytes.Written.{Written}
 use Rattle.octets.specs.declared.bytes.Written.the-variants as written
 use Rattle.octets.proofs.Places.{enough}
 use Rattle.records.specs.Area.{readArea, rewritten, mayRewrite, rewrittenTo, rewrittenAfter}
-use Rattle.records.specs.Write.{answer, leaves}
+use Rattle.records.specs.Write.{checkedTo, checkedAfter}
 use Rattle.records.specs.declared.area.Area.{Area}
 use Rattle.records.specs.declared.area.Area.the-variants as area
 use Rattle.records.proofs.RoundTrip.{round-trip}
@@ -50,7 +50,7 @@ pub inside : (s out : List ℕ) {next : ByteWriter} → rewrittenTo s out ≡ wr
 unfolding rewrittenTo mayRewrite
 inside s out {next} = go (readArea s)
   where
-    fits : (n : ℕ) (b : Bool) → ltb (length out) (length s) ≡ b → answer (mayRewrite (area.Accepted n) s out) (rewritten s) 0 ≡ written.To next → next .at ≤ length out
+    fits : (n : ℕ) (b : Bool) → ltb (length out) (length s) ≡ b → checkedTo (mayRewrite (area.Accepted n) s out) (rewritten s) 0 ≡ written.To next → next .at ≤ length out
     fits n true e is =
         let refused = rw e at is in
         let z : _≡_ {A = ℕ} 0 1 = cc in
@@ -60,7 +60,7 @@ inside s out {next} = go (readArea s)
         let at : 0 + length (rewritten s) ≡ next .at = cc in
         omega (arith, ltb-false (length out) (length s) e, round-trip s .as-long)
 
-    go : (a : Area) → answer (mayRewrite a s out) (rewritten s) 0 ≡ written.To next → next .at ≤ length out
+    go : (a : Area) → checkedTo (mayRewrite a s out) (rewritten s) 0 ≡ written.To next → next .at ≤ length out
     go (area.Accepted n) is = fits n (ltb (length out) (length s)) refl is
     go (area.Refused e) is = let z : _≡_ {A = ℕ} 0 1 = cc in absurd (omega arith)
 
@@ -82,7 +82,7 @@ filled ty tx xs s = go (readArea s)
     contents = rw zero-add (pad-rest xs (rewritten s))
 
     fits : (n : ℕ) (b : Bool) → ltb (37 - length xs) (length s) ≡ b
-        → fromWritten ty tx (length xs) (xs ++ leaves (mayRewrite (area.Accepted n) s (room xs)) (rewritten s) (room xs) 0) (answer (mayRewrite (area.Accepted n) s (room xs)) (rewritten s) 0)
+        → fromWritten ty tx (length xs) (xs ++ checkedAfter (mayRewrite (area.Accepted n) s (room xs)) (rewritten s) (room xs) 0) (checkedTo (mayRewrite (area.Accepted n) s (room xs)) (rewritten s) 0)
         ≡ afterReading ty tx xs s (area.Accepted n)
     fits n true e = rw (length-replicate {A = ℕ} (37 - length xs) 0, e)
     fits n false e =
@@ -90,7 +90,7 @@ filled ty tx xs s = go (readArea s)
         (λ i. record { outcome = Accepted; pdu = record { header = headerFor ty tx false (end i); «payload_buf» = contents i } })
 
     go : (a : Area)
-        → fromWritten ty tx (length xs) (xs ++ leaves (mayRewrite a s (room xs)) (rewritten s) (room xs) 0) (answer (mayRewrite a s (room xs)) (rewritten s) 0)
+        → fromWritten ty tx (length xs) (xs ++ checkedAfter (mayRewrite a s (room xs)) (rewritten s) (room xs) 0) (checkedTo (mayRewrite a s (room xs)) (rewritten s) 0)
         ≡ afterReading ty tx xs s a
     go (area.Accepted n) = fits n (ltb (37 - length xs) (length s)) refl
     go (area.Refused e) = refl

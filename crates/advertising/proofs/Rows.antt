@@ -3,13 +3,13 @@ use mathlib.Core.Path.{refl}
 use Prim.Native.Nat.{zero, suc}
 use native.Mathlib.Omega.{arith}
 use Rattle.addresses.specs.Header.{pduType}
-use Rattle.records.specs.Area.{cut, reads, before, areaOf, readArea}
+use Rattle.records.specs.Area.{cut, reads, withFirst, areaOf, readArea}
 use Rattle.records.specs.Record.{named, first, flagsRead, dataRead, upTo, recordRead}
 use Rattle.advertising.specs.Laws.{Rows, Example, Accuracies}
 use Rattle.advertising.specs.Pdu.{requestOf, withArea, undirected, connectRequest, byType, decodeOf}
 
 pub rows : Rows
-unfolding decodeOf byType undirected withArea pduType readArea areaOf reads before cut first recordRead dataRead flagsRead upTo named
+unfolding decodeOf byType undirected withArea pduType readArea areaOf reads withFirst cut first recordRead dataRead flagsRead upTo named
 rows =
     record {
       row-42-09 = refl;

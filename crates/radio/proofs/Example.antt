@@ -4,7 +4,7 @@ use mathlib.Core.Path.{refl}
 use Rattle.channels.specs.Count.{count, placed}
 use Rattle.channels.specs.Hop.{mapped}
 use Rattle.channels.specs.Map.{marked, marks, channelAt, cleared}
-use Rattle.records.specs.Area.{cut, reads, before, areaOf, readArea, clean, rewritten}
+use Rattle.records.specs.Area.{cut, reads, withFirst, areaOf, readArea, clean, rewritten}
 use Rattle.records.specs.Record.{named, flagsRead, uuidsRead, dataRead, upTo, recordRead, first}
 use Rattle.addresses.specs.Address.{sameOctets, sameAddress}
 use Rattle.addresses.specs.Header.{pduType}
@@ -15,5 +15,5 @@ use Rattle.radio.specs.Laws.{Example}
 use Rattle.radio.specs.Trace.{trace}
 
 pub example : Example
-unfolding flatten count placed mapped marked marks channelAt cleared cut reads areaOf readArea rewritten sameOctets sameAddress pduType requestOf connectRequest byType decodeOf bufOf afterReading withRecords isFor connectsTo addressed hops startOf startAfter tickOf tickAfter packetOf eventOf trace named flagsRead uuidsRead dataRead upTo recordRead first before clean
+unfolding flatten count placed mapped marked marks channelAt cleared cut reads areaOf readArea rewritten sameOctets sameAddress pduType requestOf connectRequest byType decodeOf bufOf afterReading withRecords isFor connectsTo addressed hops startOf startAfter tickOf tickAfter packetOf eventOf trace named flagsRead uuidsRead dataRead upTo recordRead first withFirst clean
 example = record { answers = refl; channel-1 = refl; channel-3 = refl; octets = refl }

@@ -4,14 +4,14 @@ use mathlib.Core.Path.{refl}
 use Rattle.channels.specs.Count.{count, placed}
 use Rattle.channels.specs.Hop.{unmapped, mapped, eventChannel, uses}
 use Rattle.channels.specs.Map.{marked, marks, channelAt}
-use Rattle.records.specs.Area.{cut, reads, before, areaOf, readArea, clean, rewritten, mayRewrite, rewrittenAfter}
+use Rattle.records.specs.Area.{cut, reads, withFirst, areaOf, readArea, clean, rewritten, mayRewrite, rewrittenAfter}
 use Rattle.records.specs.Record.{named, flagsRead, uuidsRead, dataRead, upTo, recordRead, first, recordAt}
 use Rattle.addresses.specs.Header.{pduType}
 use Rattle.advertising.specs.Pdu.{withArea, undirected, byType, decodeOf}
 use Rattle.radio.specs.Table.{Table}
 
 pub table : Table
-unfolding flatten count placed unmapped mapped eventChannel uses marked marks channelAt cut reads before areaOf readArea clean rewritten mayRewrite rewrittenAfter named flagsRead uuidsRead dataRead upTo recordRead first recordAt pduType withArea undirected byType decodeOf
+unfolding flatten count placed unmapped mapped eventChannel uses marked marks channelAt cut reads withFirst areaOf readArea clean rewritten mayRewrite rewrittenAfter named flagsRead uuidsRead dataRead upTo recordRead first recordAt pduType withArea undirected byType decodeOf
 table =
     record {
       row-1 = refl;

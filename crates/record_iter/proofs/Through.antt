@@ -1,11 +1,11 @@
--- Going through the iterator from the front: `goes-through`.
+-- Going through the iterator from the front: `goes-through`; where its rest lies: `rest-placed`.
 -- Assumes nothing.
 use mathlib.Core.Path.{_≡_, refl, sym, ap, _∙_, subst}
 use Prim.Native.Nat.{ℕ, zero, suc, _+_, _<_, _≤_}
 use mathlib.Core.List.{List, [], _∷_}
 use native.Mathlib.Omega.{arith}
 use native.Mathlib.Numerals.{add-one}
-use lib.ListN.{length, drop}
+use lib.ListN.{length, drop, length-drop}
 use denote.Ref.{RefT, now}
 use Rattle.octets.specs.declared.error.Error.{Error}
 use Rattle.records.specs.declared.ad_structure.AdStructure.{AdStructure}
@@ -14,10 +14,10 @@ use Rattle.records.specs.declared.ad_structure.Read.the-variants.{Record, End}
 use Rattle.records.specs.declared.area.Area.{Area}
 use Rattle.records.specs.declared.area.Area.the-variants.{Accepted}
 use Rattle.records.specs.Record.{recordRead, first, recordAt}
-use Rattle.records.specs.Area.{cut, records, reads, before, areaOf, readArea}
+use Rattle.records.specs.Area.{cut, records, reads, withFirst, areaOf, readArea}
 use Rattle.records.proofs.Cuts.{Sized, sized, here, at-here, Step, stepped, ended}
 use Rattle.record_iter.specs.Iter.{after}
-use Rattle.record_iter.specs.Laws.{nextOf, restOf, movedBy, answerAt, IsRecord, answer, Through, Counted, GoesThrough}
+use Rattle.record_iter.specs.Laws.{nextOf, restOf, movedBy, answerAt, IsRecord, nextAfter, Through, AreaCounted, GoesThrough, RestPlaced}
 use Rattle.record_iter.specs.declared.Records.{Records}
 
 -- ---- the answers of a list of records that read so, and what the area is
@@ -42,14 +42,14 @@ ends-more rs a next n last e = record { found = found; then = e .then }
     found zero h = tt
     found (suc k) h = e .found k (omega arith)
 
-closes-more : (rs : List Read) (a : AdStructure) (next : ℕ) (area : Area) → Closes rs area → Closes (Record a next ∷ rs) (before (Record a next) area)
-unfolding before
+closes-more : (rs : List Read) (a : AdStructure) (next : ℕ) (area : Area) → Closes rs area → Closes (Record a next ∷ rs) (withFirst (Record a next) area)
+unfolding withFirst
 closes-more rs a next (Accepted n) e = subst (λ (m : ℕ). Ends (Record a next ∷ rs) m End) (sym (add-one n)) (ends-more rs a next n End e)
 closes-more rs a next (Area.Refused k) e = record { count = suc (e .count); ends = ends-more rs a next (e .count) (Read.Refused k) (e .ends) }
 
 -- a record that is not empty does not read as the end
-closes-read : (x : ℕ) (rest : List ℕ) (at : ℕ) (r : Read) → recordRead (first (x ∷ rest)) at ≡ r → (rs : List Read) → Closes rs (areaOf rs) → Closes (r ∷ rs) (before r (areaOf rs))
-unfolding first before answerAt
+closes-read : (x : ℕ) (rest : List ℕ) (at : ℕ) (r : Read) → recordRead (first (x ∷ rest)) at ≡ r → (rs : List Read) → Closes rs (areaOf rs) → Closes (r ∷ rs) (withFirst r (areaOf rs))
+unfolding first withFirst answerAt
 closes-read x rest at (Record a next) e rs c = closes-more rs a next (areaOf rs) c
 closes-read x rest at End e rs c =
     let empty : Sized (first (x ∷ rest)) at End = subst (Sized (first (x ∷ rest)) at) e (sized (first (x ∷ rest)) at) in
@@ -128,13 +128,13 @@ module _ (area : RefT (List ℕ)) where
       go End e w ih = absurd (subst IsRecord e (found 0 (omega arith)))
       go (Read.Refused x) e w ih = absurd (subst IsRecord e (found 0 (omega arith)))
 
-  from-front : (k : ℕ) → answer area k ≡ answerAt (from 0) k
+  from-front : (k : ℕ) → nextAfter area k ≡ answerAt (from 0) k
   from-front k = in-order k 0 (omega arith)
 
   through : (n : ℕ) (last : Read) → Ends (from 0) n last → Through area n last
   through n last e = record { found = λ k h. subst IsRecord (sym (from-front k)) (e .found k h); then = from-front n ∙ e .then }
 
-  counts : (verdict : Area) → Closes (from 0) verdict → Counted area verdict
+  counts : (verdict : Area) → Closes (from 0) verdict → AreaCounted area verdict
   counts (Accepted n) c = through n End c
   counts (Area.Refused e) c = record { count = c .count; through = through (c .count) (Read.Refused e) (c .ends) }
 
@@ -146,3 +146,6 @@ goes-through area =
       counted = counts area (readArea (now area)) (closes (now area) 0 0);
       left = λ k found. left area k 0 (omega arith) found;
     }
+
+pub rest-placed : (s : RefT (List ℕ)) (at : ℕ) → RestPlaced s at
+rest-placed s at = record { same-area = refl; same-end = rw length-drop (omega arith) }

@@ -4,12 +4,13 @@
 --   answerAt rs k           == answer k of going through records that read as rs: a refusal or the end stays
 --   Through area n last     == the first n answers are records, and the one after them is `last`
 --   GoesThrough area        == the law
+--   RestPlaced s at         == the rest lies in the area, and ends where the area ends
 --   Rows r                  == document 01's rows `02 01 86` and `01 03`, one after the other
 use mathlib.Core.Path.{_≡_}
 use mathlib.Core.Bool.{true}
-use Prim.Native.Nat.{ℕ, zero, suc, _<_}
+use Prim.Native.Nat.{ℕ, zero, suc, _+_, _<_}
 use mathlib.Core.List.{List, [], _∷_}
-use lib.ListN.{drop}
+use lib.ListN.{length, drop}
 use denote.Ref.{RefT, now}
 use Rattle.octets.specs.declared.error.Error.{Error}
 use Rattle.records.specs.declared.ad_structure.AdStructure.the-variants.{Flags, ServiceUuids16}
@@ -19,7 +20,7 @@ use Rattle.records.specs.declared.area.Area.{Area}
 use Rattle.records.specs.declared.area.Area.the-variants.{Accepted}
 use Rattle.records.specs.Record.{recordAt}
 use Rattle.records.specs.Area.{records, reads, readArea}
-use Rattle.record_iter.specs.Iter.{front, onward}
+use Rattle.record_iter.specs.Iter.{front, onward, restPlace}
 use Rattle.record_iter.specs.declared.Records.{Records}
 
 abbrev pub nextOf : Records → Read
@@ -45,36 +46,41 @@ IsRecord End = ⊥
 IsRecord (Read.Refused e) = ⊥
 
 -- what `next` answers after k moves from the front
-abbrev pub answer : RefT (List ℕ) → ℕ → Read
-answer area k = nextOf (movedBy k (front area))
+abbrev pub nextAfter : RefT (List ℕ) → ℕ → Read
+nextAfter area k = nextOf (movedBy k (front area))
 
 pub record Through (area : RefT (List ℕ)) (n : ℕ) (last : Read) : Type 0 where
-  pub found : (k : ℕ) → k < n → IsRecord (answer area k)
-  pub then : answer area n ≡ last
+  pub found : (k : ℕ) → k < n → IsRecord (nextAfter area k)
+  pub then : nextAfter area n ≡ last
 
 pub record Stopped (area : RefT (List ℕ)) (e : Error) : Type 0 where
   pub count : ℕ
   pub through : Through area count (Read.Refused e)
 
 -- by what `read_area` answers
-abbrev pub Counted : RefT (List ℕ) → Area → Type 0
-Counted area (Accepted n) = Through area n End
-Counted area (Area.Refused e) = Stopped area e
+abbrev pub AreaCounted : RefT (List ℕ) → Area → Type 0
+AreaCounted area (Accepted n) = Through area n End
+AreaCounted area (Area.Refused e) = Stopped area e
 
 pub record GoesThrough (area : RefT (List ℕ)) : Type 0 where
   -- after k moves `next` answers what reading record k of the area finds
-  pub in-order : (k : ℕ) → answer area k ≡ answerAt (reads (records (now area)) 0) k
-  pub counted : Counted area (readArea (now area))
+  pub in-order : (k : ℕ) → nextAfter area k ≡ answerAt (reads (records (now area)) 0) k
+  pub counted : AreaCounted area (readArea (now area))
   -- what is left behind k records is the records from k on
-  pub left : (k : ℕ) → ((j : ℕ) → j < k → IsRecord (answer area j)) → records (restOf (movedBy k (front area))) ≡ drop k (records (now area))
+  pub left : (k : ℕ) → ((j : ℕ) → j < k → IsRecord (nextAfter area j)) → records (restOf (movedBy k (front area))) ≡ drop k (records (now area))
+
+-- so it is the very part of the area, and no equal octets elsewhere
+pub record RestPlaced (s : RefT (List ℕ)) (at : ℕ) : Type 0 where
+  pub same-area : restPlace s at .0 ≡ s .ptr .0
+  pub same-end : restPlace s at .1 + length (drop at (now s)) ≡ s .ptr .1 + length (now s)
 
 -- the two rows as an area, lent where r lies
 abbrev pub twoRows : RefT (List ℕ) → RefT (List ℕ)
 twoRows r = record { ptr = r .ptr; name = r .name; now = 0x02 ∷ 0x01 ∷ 0x86 ∷ 0x01 ∷ 0x03 ∷ [] }
 
 pub record Rows (r : RefT (List ℕ)) : Type 0 where
-  pub flags : answer (twoRows r) 0 ≡ Record (Flags (record { bits = 0x06 })) 3
+  pub flags : nextAfter (twoRows r) 0 ≡ Record (Flags (record { bits = 0x06 })) 3
   pub left : restOf (movedBy 1 (front (twoRows r))) ≡ 0x01 ∷ 0x03 ∷ []
-  pub list : answer (twoRows r) 1 ≡ Record (ServiceUuids16 true 5 0) 5
-  pub end : answer (twoRows r) 2 ≡ End
-  pub stays : answer (twoRows r) 3 ≡ End
+  pub list : nextAfter (twoRows r) 1 ≡ Record (ServiceUuids16 true 5 0) 5
+  pub end : nextAfter (twoRows r) 2 ≡ End
+  pub stays : nextAfter (twoRows r) 3 ≡ End

@@ -21,12 +21,12 @@ use Rattle.records.specs.declared.ad_structure.Read.the-variants.{Record
 use Rattle.records.specs.declared.area.Area.{Area}
 use Rattle.records.specs.declared.area.Area.the-variants.{Accepted}
 use Rattle.records.specs.Record.{named, flagsRead, uuidsRead, dataRead, upTo, recordRead, first}
-use Rattle.records.specs.Area.{cut, records, reads, before, areaOf, readArea}
+use Rattle.records.specs.Area.{cut, records, reads, withFirst, areaOf, readArea}
 use Rattle.records.specs.Accepted.{IsList, Good, AllGood, Bad, zero-length, too-few, wrong-flags, odd-list, Verdict, Decided}
 use Rattle.records.proofs.Cuts.{cut-skip, counting, counting-none}
 
 -- what a record's answer says of it, where `rest` follows its length octet n
-abbrev Class : ℕ → List ℕ → Read → Type 0
+abbrev pub Class : ℕ → List ℕ → Read → Type 0
 Class n rest (Record a next) = Good n (take n rest)
 Class n rest End = ⊥
 Class n rest (Read.Refused e) = Bad (n ∷ rest) e
@@ -97,7 +97,7 @@ module _ (n : ℕ) (rest : List ℕ) (some : 0 < n) (there : n ≤ length rest) 
             list = ⊎-elim (λ t. absurd (eqb-false ty 2 e₂ (sym same-type ∙ t))) (λ t. absurd (eqb-false ty 3 e₃ (sym same-type ∙ t)));
           }
 
-class : (n : ℕ) (rest : List ℕ) (at : ℕ) → Class n rest (recordRead (n ∷ take n rest) at)
+pub class : (n : ℕ) (rest : List ℕ) (at : ℕ) → Class n rest (recordRead (n ∷ take n rest) at)
 unfolding recordRead upTo
 class n rest at = go (eqb n 0) (ltb (length (take n rest)) n) refl refl
   where
@@ -119,8 +119,8 @@ class n rest at = go (eqb n 0) (ltb (length (take n rest)) n) refl refl
         upwards (dataRead (getD (take n rest) 0 0) (drop 1 (take n rest)) (at + 2)) (data-class n rest (omega arith) (omega (arith, length-take n rest, ltb-false (length (take n rest)) n f)) (at + 2))
 
 -- an area whose first record is so, before an area that is so
-verdict-before : (n : ℕ) (rest : List ℕ) (x : Read) (area : Area) → Class n rest x → Verdict (drop n rest) area → Verdict (n ∷ rest) (before x area)
-unfolding before flatten
+verdict-before : (n : ℕ) (rest : List ℕ) (x : Read) (area : Area) → Class n rest x → Verdict (drop n rest) area → Verdict (n ∷ rest) (withFirst x area)
+unfolding withFirst flatten
 verdict-before n rest (Record a next) (Accepted m) good t =
     record {
       pieces = (n ∷ take n rest) ∷ t .pieces;
@@ -155,8 +155,8 @@ exclusive n rest g (odd-list some there (inl is) even) = omega (arith, g .list (
 exclusive n rest g (odd-list some there (inr is) even) = omega (arith, g .list (inr (same-type n rest some there ∙ is)))
 
 -- a good record adds one to the area behind it
-good-before : (n : ℕ) (rest : List ℕ) (x : Read) (area : Area) → Class n rest x → Good n (take n rest) → before x area ≡ counting 1 area
-unfolding before counting
+good-before : (n : ℕ) (rest : List ℕ) (x : Read) (area : Area) → Class n rest x → Good n (take n rest) → withFirst x area ≡ counting 1 area
+unfolding withFirst counting
 good-before n rest (Record a next) (Accepted m) c g = ap Accepted (omega arith)
 good-before n rest (Record a next) (Area.Refused e) c g = refl
 good-before n rest End area c g = absurd c
@@ -214,7 +214,7 @@ begun (wrong-flags some there is other) = tt
 begun (odd-list some there is even) = tt
 
 bad-area : (rest : List ℕ) (at : ℕ) {e : Error} → Bad rest e → areaOf (reads (records rest) at) ≡ Area.Refused e
-unfolding cut first reads areaOf before
+unfolding cut first reads areaOf withFirst
 bad-area [] at bad = absurd (begun bad)
 bad-area (n ∷ rest) at bad = rw (bad-read n rest at bad)
 

@@ -3,14 +3,15 @@
 use mathlib.Core.Path.{_≡_, refl, sym, ap, _∙_, subst}
 use mathlib.Core.Bool.{Bool, true, false, cond}
 use mathlib.Core.List.{List, [], _∷_}
-use Prim.Native.Nat.{ℕ, suc, _+_, _-_, _%_, _≤_, _<_}
+use Prim.Native.Nat.{ℕ, suc, _+_, _-_, _≤_, _<_}
 use native.Mathlib.Omega.{arith}
 use lib.ListN.{length, getD, set, take, drop, length-set, length-take, length-drop}
 use lib.Seq.{drop-drop}
 use lib.Dec.{ltb, eqb}
 use borrow.Author.Tests.{eqb-true, eqb-false, ltb-false, le-ltb}
 use Rattle.octets.specs.declared.error.Error.the-variants.{Eof, InvalidLength}
-use Rattle.octets.specs.declared.uuid.UuidKind.the-variants.{Uuid16}
+use Rattle.octets.specs.declared.uuid.UuidKind.{UuidKind}
+use Rattle.octets.specs.declared.uuid.UuidKind.the-variants.{Uuid16, Uuid32, Uuid128}
 use Rattle.octets.specs.Bytes.{part}
 use Rattle.octets.proofs.Places.{enough, front, drop-take}
 use Rattle.records.specs.declared.ad_structure.AdStructure.{AdStructure}
@@ -20,8 +21,8 @@ use Rattle.records.specs.declared.ad_structure.Parsed.the-variants.{Stru
 use Rattle.records.specs.declared.ad_structure.Read.{Read}
 use Rattle.records.specs.declared.ad_structure.Read.the-variants.{Record, End}
 use Rattle.records.specs.declared.ad_structure.Checked.the-variants.{Fine}
-use Rattle.records.specs.Record.{recordOf, named, flagsRead, uuidsRead, dataRead, upTo, recordRead, first}
-use Rattle.records.specs.Write.{typeOf, startOf, lenOf, checkOf, dataOf, mayWrite, octetsOf}
+use Rattle.records.specs.Record.{recordOf, named, flagsRead, wholeUuids, uuidList, uuidsRead, dataRead, upTo, recordRead, first}
+use Rattle.records.specs.Write.{listType, typeOf, startOf, lenOf, checkOf, dataOf, mayWrite, octetsOf}
 use Rattle.records.specs.Area.{clean}
 use Rattle.records.proofs.Lists.{take-length-take}
 use Rattle.records.proofs.Cuts.{here, Step, stepped}
@@ -31,10 +32,10 @@ unfolding named
 named-twice x = omega arith
 
 -- data as they are written again
-abbrev cleanData : ℕ → List ℕ → List ℕ
+abbrev pub cleanData : ℕ → List ℕ → List ℕ
 cleanData ty d = cond (eqb ty 1) (set d 0 (named (getD d 0 0))) d
 
-clean-data : (n ty : ℕ) (d : List ℕ) → clean (n ∷ ty ∷ d) ≡ n ∷ ty ∷ cleanData ty d
+pub clean-data : (n ty : ℕ) (d : List ℕ) → clean (n ∷ ty ∷ d) ≡ n ∷ ty ∷ cleanData ty d
 unfolding clean
 clean-data n ty d = go (eqb ty 1)
   where
@@ -42,7 +43,7 @@ clean-data n ty d = go (eqb ty 1)
     go true = refl
     go false = refl
 
-clean-data-length : (ty : ℕ) (d : List ℕ) → length (cleanData ty d) ≡ length d
+pub clean-data-length : (ty : ℕ) (d : List ℕ) → length (cleanData ty d) ≡ length d
 clean-data-length ty d = go (eqb ty 1)
   where
     go : (flags : Bool) → length (cond flags (set d 0 (named (getD d 0 0))) d) ≡ length d
@@ -50,13 +51,13 @@ clean-data-length ty d = go (eqb ty 1)
     go false = refl
 
 -- what a structure says that was read from data d of type ty, which lie at `start` of s
-record Means (s : List ℕ) (ty : ℕ) (d : List ℕ) (start : ℕ) (a : AdStructure) : Type 0 where
-  type : typeOf a ≡ ty
-  inside : startOf a + lenOf a ≤ length s
-  fine : checkOf a (part (lenOf a) s (startOf a)) ≡ Fine
-  octets : dataOf a s ≡ cleanData ty d
+pub record Means (s : List ℕ) (ty : ℕ) (d : List ℕ) (start : ℕ) (a : AdStructure) : Type 0 where
+  pub type : typeOf a ≡ ty
+  pub inside : startOf a + lenOf a ≤ length s
+  pub fine : checkOf a (part (lenOf a) s (startOf a)) ≡ Fine
+  pub octets : dataOf a s ≡ cleanData ty d
 
-abbrev Meant : List ℕ → ℕ → List ℕ → ℕ → Parsed → Type 0
+abbrev pub Meant : List ℕ → ℕ → List ℕ → ℕ → Parsed → Type 0
 Meant s ty d start (Structure a) = Means s ty d start a
 Meant s ty d start (Parsed.Refused e) = Unit {0}
 
@@ -75,34 +76,32 @@ module _ (s : List ℕ) (ty : ℕ) (d : List ℕ) (start : ℕ) (room : start + 
       go false e = tt
 
   -- data that are lent whole
-  lent : (ty ≡ 1 → ⊥) → d ≡ cleanData ty d
+  pub lent : (ty ≡ 1 → ⊥) → d ≡ cleanData ty d
   lent other = go (eqb ty 1) refl
     where
       go : (flags : Bool) → eqb ty 1 ≡ flags → d ≡ cond flags (set d 0 (named (getD d 0 0))) d
       go true e = absurd (other (eqb-true ty 1 e))
       go false e = refl
 
-  uuids-meant : (complete : Bool) → cond complete 3 2 ≡ ty → Meant s ty d start (uuidsRead Uuid16 complete d start)
+  pub uuids-meant : (k : UuidKind) (complete : Bool) → listType k complete ≡ ty → (ty ≡ 1 → ⊥) → Meant s ty d start (uuidsRead k complete d start)
   unfolding uuidsRead dataOf
-  uuids-meant complete is = go (eqb (length d % 2) 0) refl
+  uuids-meant k complete is other = go (wholeUuids k d) k is refl
     where
-      other : (c : Bool) → cond c 3 2 ≡ ty → ty ≡ 1 → ⊥
-      other true e f = omega arith
-      other false e f = omega arith
+      go : (whole : Bool) (k : UuidKind) → listType k complete ≡ ty → wholeUuids k d ≡ whole → Meant s ty d start (cond whole (Structure (uuidList k complete start (length d))) (Parsed.Refused Eof))
+      go true Uuid16 is e = record { type = is; inside = room; fine = rw (lies, e); octets = lies ∙ lent other }
+      go true Uuid32 is e = record { type = is; inside = room; fine = rw (lies, e); octets = lies ∙ lent other }
+      go true Uuid128 is e = record { type = is; inside = room; fine = rw (lies, e); octets = lies ∙ lent other }
+      go false k is e = tt
 
-      go : (whole : Bool) → eqb (length d % 2) 0 ≡ whole → Meant s ty d start (cond whole (Structure (ad.ServiceUuids16 complete start (length d))) (Parsed.Refused Eof))
-      go true e = record { type = is; inside = room; fine = rw (lies, e); octets = lies ∙ lent (other complete is) }
-      go false e = tt
-
-  meant : Meant s ty d start (dataRead ty d start)
+  pub meant : Meant s ty d start (dataRead ty d start)
   unfolding dataRead dataOf
   meant = go (eqb ty 1) (eqb ty 2) (eqb ty 3) refl refl refl
     where
       go : (f i c : Bool) → eqb ty 1 ≡ f → eqb ty 2 ≡ i → eqb ty 3 ≡ c
           → Meant s ty d start (cond f (flagsRead d) (cond i (uuidsRead Uuid16 false d start) (cond c (uuidsRead Uuid16 true d start) (Structure (ad.Unknown ty start (length d))))))
       go true i c e₁ e₂ e₃ = flags-meant (eqb-true ty 1 e₁)
-      go false true c e₁ e₂ e₃ = uuids-meant false (sym (eqb-true ty 2 e₂))
-      go false false true e₁ e₂ e₃ = uuids-meant true (sym (eqb-true ty 3 e₃))
+      go false true c e₁ e₂ e₃ = uuids-meant Uuid16 false (sym (eqb-true ty 2 e₂)) (eqb-false ty 1 e₁)
+      go false false true e₁ e₂ e₃ = uuids-meant Uuid16 true (sym (eqb-true ty 3 e₃)) (eqb-false ty 1 e₁)
       go false false false e₁ e₂ e₃ = record { type = refl; inside = room; fine = refl; octets = lies ∙ lent (eqb-false ty 1 e₁) }
 
 -- a record of n octets at position `at` of s, as reading finds it

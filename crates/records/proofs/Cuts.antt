@@ -19,7 +19,7 @@ use Rattle.records.specs.declared.ad_structure.Read.the-variants.{Record
 use Rattle.records.specs.declared.area.Area.{Area}
 use Rattle.records.specs.declared.area.Area.the-variants.{Accepted}
 use Rattle.records.specs.Record.{dataRead, upTo, recordRead, first, recordAt}
-use Rattle.records.specs.Area.{cut, records, reads, before, areaOf, AcceptedFrom}
+use Rattle.records.specs.Area.{cut, records, reads, withFirst, areaOf, AcceptedFrom}
 use Rattle.octets.specs.declared.error.Error.{Error}
 use Rattle.octets.specs.declared.error.Error.the-variants.{Eof, InvalidLength}
 use Rattle.records.proofs.ad_structure.Read.{the-type}
@@ -125,12 +125,12 @@ counting-none (Area.Refused e) = refl
 -- an area at a position, by the answer there
 pub area-more : (s : List ℕ) (at n : ℕ) {a : AdStructure} {next : ℕ} → here s at ≡ Record a next
     → counting n (areaOf (reads (records (drop at s)) at)) ≡ counting (n + 1) (areaOf (reads (records (drop next s)) next))
-unfolding here areaOf reads before counting
+unfolding here areaOf reads withFirst counting
 area-more s at n {a} {next} e =
     let step : Step s at next = stepped s at e in
     simp (step .cuts, e, step .ends) (one-more (areaOf (reads (records (drop next s)) next)))
   where
-    one-more : (area : Area) → counting n (before (Record a next) area) ≡ counting (n + 1) area
+    one-more : (area : Area) → counting n (withFirst (Record a next) area) ≡ counting (n + 1) area
     one-more (Accepted m) = ap Accepted (omega arith)
     one-more (Area.Refused e) = refl
 
@@ -139,7 +139,7 @@ unfolding areaOf reads cut counting
 area-end s at n e = rw (ended s at e) (ap Accepted (omega arith))
 
 pub area-refused : (s : List ℕ) (at n : ℕ) {e : Error} → here s at ≡ Read.Refused e → counting n (areaOf (reads (records (drop at s)) at)) ≡ Area.Refused e
-unfolding here recordRead areaOf reads before cut first counting
+unfolding here recordRead areaOf reads withFirst cut first counting
 area-refused s at n {e} = go (drop at s)
   where
     go : (l : List ℕ) → recordRead (first l) at ≡ Read.Refused e → counting n (areaOf (reads (records l) at)) ≡ Area.Refused e
@@ -148,12 +148,12 @@ area-refused s at n {e} = go (drop at s)
 
 -- an accepted area goes on behind a record, and ends where reading finds none
 pub accepted-more : (s : List ℕ) (at : ℕ) {a : AdStructure} {next : ℕ} → here s at ≡ Record a next → AcceptedFrom s at → AcceptedFrom s next
-unfolding here areaOf reads before
+unfolding here areaOf reads withFirst
 accepted-more s at {a} {next} e from =
     let step : Step s at next = stepped s at e in
     go (areaOf (reads (records (drop next s)) next)) refl (simp (step .cuts, e, step .ends) at (from .accepted))
   where
-    go : (area : Area) → areaOf (reads (records (drop next s)) next) ≡ area → before (Record a next) area ≡ Accepted (from .count) → AcceptedFrom s next
+    go : (area : Area) → areaOf (reads (records (drop next s)) next) ≡ area → withFirst (Record a next) area ≡ Accepted (from .count) → AcceptedFrom s next
     go (Accepted m) is later = record { count = m; accepted = is }
     go (Area.Refused e) is later = absurd (let z : _≡_ {A = ℕ} 0 1 = cc in omega arith)
 

@@ -5,6 +5,12 @@ pub mod Again
 pub mod Rewritten
 pub mod Accepted
 pub mod RoundTrip
+pub mod Restored
+pub mod ReadOn
+pub mod Space
 pub mod ReadBack
-pub mod Rows
+pub mod Order
+pub mod Outlines
+pub mod Flags
+pub mod Examples
 pub mod Uuids

@@ -8,10 +8,10 @@ use native.Mathlib.Nat.{add-zero}
 use native.Mathlib.Omega.{arith}
 use lib.ListN.{length, take, drop}
 use lib.Seq.{length-take-le, take-at, drop-at, drop-drop}
-use lib.Dec.{ltb, eqb·suc-zero}
+use lib.Dec.{eqb·suc-zero}
 use borrow.Author.Tests.{leb-true, le-ltb, ne-eqb}
 use Rattle.octets.specs.declared.error.Error.{Error}
-use Rattle.octets.specs.declared.error.Error.the-variants.{Eof, InvalidValue, RecordLength}
+use Rattle.octets.specs.declared.error.Error.the-variants.{Eof, InvalidValue}
 use Rattle.octets.specs.declared.uuid.UuidKind.{UuidKind}
 use Rattle.octets.specs.declared.uuid.UuidKind.the-variants.{Uuid16, Uuid32, Uuid128}
 use Rattle.utf8.specs.Utf8.{isUtf8}
@@ -24,9 +24,10 @@ use Rattle.records.specs.declared.ad_structure.AdStructure.the-variants 
 use Rattle.records.specs.declared.ad_structure.Parsed.the-variants.{Structure}
 use Rattle.records.specs.declared.ad_structure.Checked.{Checked}
 use Rattle.records.specs.declared.ad_structure.Checked.the-variants.{Fine}
-use Rattle.records.specs.Record.{recordOf, flagsRead, wholeUuids, uuidList, uuidsRead, localName, nameRead, serviceData, manufacturerData, pairRead, dataRead, kindRead, upTo, recordRead, first, recordAt, lentRead, knownRead}
-use Rattle.records.specs.Write.{typeOf, ownOf, startOf, lenOf, listCheck, nameCheck, checkOf, dataOf, andThen, mayWrite, octetsOf, writtenAfter}
+use Rattle.records.specs.Record.{recordOf, flagsRead, wholeUuids, uuidList, uuidsRead, localName, nameRead, pairKind, pairRead, dataRead, kindRead, upTo, recordRead, first, recordAt, lentRead, knownRead}
+use Rattle.records.specs.Write.{typeOf, ownOf, startOf, lenOf, listCheck, nameCheck, checkOf, dataOf, spaceFor, andThen, mayWrite, octetsOf, writtenAfter}
 use Rattle.records.specs.ReadBack.{movedTo, AsItself, OfKnownType, leftAs, WrittenAndReadBack, NotAsItself}
+use Rattle.records.proofs.Space.{space-fine}
 use Rattle.records.proofs.Again.{named-twice}
 
 -- what was tested of a record that may be written
@@ -37,15 +38,16 @@ record May (a : AdStructure) (s out : List ℕ) (at : ℕ) : Type 0 where
 
 may : (a : AdStructure) (s out : List ℕ) (at : ℕ) → mayWrite a s out at ≡ Fine → May a s out at
 unfolding mayWrite
-may a s out at = go (has (lenOf a) s (startOf a)) (checkOf a (part (lenOf a) s (startOf a))) (has (length (dataOf a s) + 2) out at) (ltb 255 (length (dataOf a s) + 1)) refl refl refl
+may a s out at = go (has (lenOf a) s (startOf a)) refl
   where
-    go : (there : Bool) (check : Checked) (room long : Bool) → has (lenOf a) s (startOf a) ≡ there → checkOf a (part (lenOf a) s (startOf a)) ≡ check
-        → has (length (dataOf a s) + 2) out at ≡ room
-        → cond there (andThen check (cond room (cond long (Checked.Refused RecordLength) Fine) (Checked.Refused Eof))) (Checked.Refused Eof) ≡ Fine → May a s out at
-    go false check room long t c r e = absurd (let z : _≡_ {A = ℕ} 0 1 = cc in omega arith)
-    go true (Checked.Refused k) room long t c r e = absurd (let z : _≡_ {A = ℕ} 0 1 = cc in omega arith)
-    go true Fine false long t c r e = absurd (let z : _≡_ {A = ℕ} 0 1 = cc in omega arith)
-    go true Fine true long t c r e = record { placed = leb-true (startOf a + lenOf a) (length s) t; checked = c; space = leb-true (at + (length (dataOf a s) + 2)) (length out) r }
+    check : Checked
+    check = checkOf a (part (lenOf a) s (startOf a))
+
+    go : (there : Bool) → has (lenOf a) s (startOf a) ≡ there → cond there (andThen check (spaceFor (dataOf a s) out at)) (Checked.Refused Eof) ≡ Fine → May a s out at
+    go false t e = absurd (let z : _≡_ {A = ℕ} 0 1 = cc in omega arith)
+    go true t e =
+        let fits = space-fine check (length (dataOf a s)) (length out) at e in
+        record { placed = leb-true (startOf a + lenOf a) (length s) t; checked = fits .0; space = fits .1 }
 
 -- what begins at the position of a record that was written, and what begins at its data
 module _ (ty : ℕ) (d out : List ℕ) (at : ℕ) (space : at + (length d + 2) ≤ length out) where
@@ -126,10 +128,10 @@ known-itself (ad.ServiceUuids32 true from len) s out at start m is = rw add-zero
 known-itself (ad.ServiceUuids32 false from len) s out at start m is = rw add-zero (uuids-back Uuid32 false len from s start (m .placed) (m .checked))
 known-itself (ad.ServiceUuids128 true from len) s out at start m is = rw add-zero (uuids-back Uuid128 true len from s start (m .placed) (m .checked))
 known-itself (ad.ServiceUuids128 false from len) s out at start m is = rw add-zero (uuids-back Uuid128 false len from s start (m .placed) (m .checked))
-known-itself (ad.ServiceData16 uuid from len) s out at start m is = rw (pair-back serviceData uuid (part len s from) start is, parts s .as-long len from (m .placed))
+known-itself (ad.ServiceData16 uuid from len) s out at start m is = rw (pair-back (pairKind true) uuid (part len s from) start is, parts s .as-long len from (m .placed))
 known-itself (ad.CompleteLocalName from len) s out at start m is = rw add-zero (name-back true len from s start (m .placed) (m .checked))
 known-itself (ad.ShortenedLocalName from len) s out at start m is = rw add-zero (name-back false len from s start (m .placed) (m .checked))
-known-itself (ad.ManufacturerSpecificData company from len) s out at start m is = rw (pair-back manufacturerData (company .0) (part len s from) start is, parts s .as-long len from (m .placed))
+known-itself (ad.ManufacturerSpecificData company from len) s out at start m is = rw (pair-back (pairKind false) (company .0) (part len s from) start is, parts s .as-long len from (m .placed))
 known-itself (ad.Unknown ty from len) s out at start m is = absurd is
 
 pub written-and-read-back : WrittenAndReadBack

@@ -25,7 +25,7 @@ use Rattle.records.proofs.Rewritten.{clean-length, tile, rewritten-leng
 use Rattle.octets.proofs.Places.{cond-same}
 
 -- a record reads the same when it is written again
-reads-clean : (r : List ℕ) (at : ℕ) → recordRead (clean r) at ≡ recordRead r at
+pub reads-clean : (r : List ℕ) (at : ℕ) → recordRead (clean r) at ≡ recordRead r at
 unfolding clean recordRead dataRead flagsRead
 reads-clean [] at = refl
 reads-clean (n ∷ []) at = refl

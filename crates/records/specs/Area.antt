@@ -20,7 +20,7 @@ use Rattle.records.specs.declared.ad_structure.Checked.the-variants.{Fin
 use Rattle.records.specs.declared.area.Area.{Area}
 use Rattle.records.specs.declared.area.Area.the-variants.{Accepted}
 use Rattle.records.specs.Record.{named, first, recordRead}
-use Rattle.records.specs.Write.{answer, leaves}
+use Rattle.records.specs.Write.{checkedTo, checkedAfter}
 
 -- the octets of each record, `skip` octets of the record before being still to pass
 unfoldable pub cut : List ℕ → ℕ → List (List ℕ)
@@ -37,15 +37,15 @@ reads [] at = []
 reads (r ∷ rs) at = recordRead r at ∷ reads rs (at + length r)
 
 -- an area whose first record reads so, before an area that reads so
-unfoldable pub before : Read → Area → Area
-before (Record a next) (Accepted n) = Accepted (n + 1)
-before (Record a next) (Area.Refused e) = Area.Refused e
-before End area = area
-before (Read.Refused e) area = Area.Refused e
+unfoldable pub withFirst : Read → Area → Area
+withFirst (Record a next) (Accepted n) = Accepted (n + 1)
+withFirst (Record a next) (Area.Refused e) = Area.Refused e
+withFirst End area = area
+withFirst (Read.Refused e) area = Area.Refused e
 
 unfoldable pub areaOf : List Read → Area
 areaOf [] = Accepted 0
-areaOf (answer ∷ answers) = before answer (areaOf answers)
+areaOf (answer ∷ answers) = withFirst answer (areaOf answers)
 
 unfoldable pub readArea : List ℕ → Area
 readArea s = areaOf (reads (records s) 0)
@@ -67,7 +67,7 @@ mayRewrite (Accepted n) s out = cond (ltb (length out) (length s)) (Checked.Refu
 mayRewrite (Area.Refused e) s out = Checked.Refused e
 
 unfoldable pub rewrittenTo : List ℕ → List ℕ → Written
-rewrittenTo s out = answer (mayRewrite (readArea s) s out) (rewritten s) 0
+rewrittenTo s out = checkedTo (mayRewrite (readArea s) s out) (rewritten s) 0
 
 unfoldable pub rewrittenAfter : List ℕ → List ℕ → List ℕ
-rewrittenAfter s out = leaves (mayRewrite (readArea s) s out) (rewritten s) out 0
+rewrittenAfter s out = checkedAfter (mayRewrite (readArea s) s out) (rewritten s) out 0

@@ -2,8 +2,11 @@ pub mod Types
 pub mod Record
 pub mod Uuids
 pub mod Write
+pub mod Order
+pub mod Outlines
 pub mod Area
 pub mod Accepted
 pub mod RoundTrip
 pub mod ReadBack
-pub mod Rows
+pub mod Flags
+pub mod Examples

@@ -2,7 +2,7 @@
 --   movedTo start a      == a with its lent data at `start`, and Flags without the bits that have no name
 --   AsItself a           == a is of a kind that reading yields: Flags, a list of 16-bit UUIDs, or type and data of a type other than 01, 02 and 03
 --   OfKnownType a        == a is of a kind that reading leaves as type and data, and `read_known` reads on to
---   ReadBack a s out at  == what reading finds
+--   FoundAgain a s out at  == what reading finds
 use mathlib.Core.Path.{_≡_}
 use mathlib.Core.List.{List, [], _∷_}
 use Prim.Native.Nat.{ℕ, _+_, _<_, _^_}
@@ -56,7 +56,7 @@ OfKnownType (Unknown ty start len) = ⊥
 abbrev pub leftAs : AdStructure → List ℕ → ℕ → AdStructure
 leftAs a s start = Unknown (typeOf a) start (length (dataOf a s))
 
-pub record ReadBack (a : AdStructure) (s out : List ℕ) (at : ℕ) : Type 0 where
+pub record FoundAgain (a : AdStructure) (s out : List ℕ) (at : ℕ) : Type 0 where
   -- its type and data are read as those of any record; the position after it is the one that writing answered
   pub reads : recordAt (writtenAfter a s out at) at ≡ upTo (at + length (octetsOf a s)) (dataRead (typeOf a) (dataOf a s) (at + 2))
   -- its data stand after its type
@@ -69,7 +69,7 @@ pub record ReadBack (a : AdStructure) (s out : List ℕ) (at : ℕ) : Type 0 whe
       × (knownRead (leftAs a s (at + 2)) (writtenAfter a s out at) ≡ Structure (movedTo (at + 2 + length (ownOf a)) a))
 
 abbrev pub WrittenAndReadBack : Type 0
-WrittenAndReadBack = (a : AdStructure) (s out : List ℕ) (at : ℕ) → mayWrite a s out at ≡ Fine → ReadBack a s out at
+WrittenAndReadBack = (a : AdStructure) (s out : List ℕ) (at : ℕ) → mayWrite a s out at ≡ Fine → FoundAgain a s out at
 
 -- type and data of type 01, 02 or 03 are read as Flags or as a list, or refused: the smallest such write is of type 01 without data
 pub record NotAsItself : Type 0 where

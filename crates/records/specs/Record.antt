@@ -66,15 +66,9 @@ nameRead complete d start = cond (isUtf8 d) (Structure (localName complete start
 unfoldable pub pairRead : (ℕ → ℕ → ℕ → AdStructure) → List ℕ → ℕ → Parsed
 pairRead kind d start = cond (ltb (length d) 2) (Parsed.Refused Eof) (Structure (kind (le (part 2 d 0)) (start + 2) (length d - 2)))
 
-abbrev pub serviceData : ℕ → ℕ → ℕ → AdStructure
-serviceData uuid start len = ad.ServiceData16 uuid start len
-
-abbrev pub manufacturerData : ℕ → ℕ → ℕ → AdStructure
-manufacturerData company start len = ad.ManufacturerSpecificData (record { 0 = company }) start len
-
 -- service data, or manufacturer specific data
 abbrev pub pairKind : Bool → ℕ → ℕ → ℕ → AdStructure
-pairKind service number start len = cond service (serviceData number start len) (manufacturerData number start len)
+pairKind service number start len = cond service (ad.ServiceData16 number start len) (ad.ManufacturerSpecificData (record { 0 = number }) start len)
 
 unfoldable pub dataRead : ℕ → List ℕ → ℕ → Parsed
 dataRead ty d start =
@@ -91,8 +85,8 @@ kindRead ty d start =
     (cond (eqb ty complete128Type) (uuidsRead Uuid128 true d start)
     (cond (eqb ty shortenedNameType) (nameRead false d start)
     (cond (eqb ty completeNameType) (nameRead true d start)
-    (cond (eqb ty serviceDataType) (pairRead serviceData d start)
-    (cond (eqb ty manufacturerType) (pairRead manufacturerData d start)
+    (cond (eqb ty serviceDataType) (pairRead (pairKind true) d start)
+    (cond (eqb ty manufacturerType) (pairRead (pairKind false) d start)
     (dataRead ty d start))))))))
 
 -- a structure that ends at `next`

@@ -77,8 +77,8 @@ abbrev pub checkOf : AdStructure → List ℕ → Checked
 checkOf a d = shapeOf a .check d
 
 -- the outline of a record that has no octets of its own
-abbrev pub lentBy : ℕ → ℕ → ℕ → Bool → ℕ → Outline
-lentBy ty start len name unit = record { ty = ty; own = 0; held = 0; start = start; len = len; name = name; unit = unit }
+abbrev pub lentOutline : ℕ → ℕ → ℕ → Bool → ℕ → Outline
+lentOutline ty start len name unit = record { ty = ty; own = 0; held = 0; start = start; len = len; name = name; unit = unit }
 
 -- the octets of its own that an outline writes, and its check of the lent part d
 abbrev pub ownIn : Outline → List ℕ
@@ -116,27 +116,27 @@ mayWrite a s out at =
     cond (has (lenOf a) s (startOf a)) (andThen (checkOf a (part (lenOf a) s (startOf a))) (spaceFor (dataOf a s) out at)) (Checked.Refused Eof)
 
 -- what a write of xs that passed its checks, or did not, answers and leaves
-abbrev pub answer : Checked → List ℕ → ℕ → Written
-answer Fine xs at = To (record { at = at + length xs })
-answer (Checked.Refused e) xs at = Written.Refused e
+abbrev pub checkedTo : Checked → List ℕ → ℕ → Written
+checkedTo Fine xs at = To (record { at = at + length xs })
+checkedTo (Checked.Refused e) xs at = Written.Refused e
 
-abbrev pub leaves : Checked → List ℕ → List ℕ → ℕ → List ℕ
-leaves Fine xs out at = written xs out at
-leaves (Checked.Refused e) xs out at = out
+abbrev pub checkedAfter : Checked → List ℕ → List ℕ → ℕ → List ℕ
+checkedAfter Fine xs out at = written xs out at
+checkedAfter (Checked.Refused e) xs out at = out
 
 -- of a record with this outline, whose lent part is d
 unfoldable pub lentTo : Outline → List ℕ → List ℕ → ℕ → Written
-lentTo o d out at = answer (andThen (lentCheck (o .name) (o .unit) d) (spaceFor (ownIn o ++ d) out at)) (recordOf (o .ty) (ownIn o ++ d)) at
+lentTo o d out at = checkedTo (andThen (lentCheck (o .name) (o .unit) d) (spaceFor (ownIn o ++ d) out at)) (recordOf (o .ty) (ownIn o ++ d)) at
 
 unfoldable pub lentAfter : Outline → List ℕ → List ℕ → ℕ → List ℕ
-lentAfter o d out at = leaves (andThen (lentCheck (o .name) (o .unit) d) (spaceFor (ownIn o ++ d) out at)) (recordOf (o .ty) (ownIn o ++ d)) out at
+lentAfter o d out at = checkedAfter (andThen (lentCheck (o .name) (o .unit) d) (spaceFor (ownIn o ++ d) out at)) (recordOf (o .ty) (ownIn o ++ d)) out at
 
 -- of a record
 unfoldable pub octetsOf : AdStructure → List ℕ → List ℕ
 octetsOf a s = recordOf (typeOf a) (dataOf a s)
 
 unfoldable pub writtenTo : AdStructure → List ℕ → List ℕ → ℕ → Written
-writtenTo a s out at = answer (mayWrite a s out at) (octetsOf a s) at
+writtenTo a s out at = checkedTo (mayWrite a s out at) (octetsOf a s) at
 
 unfoldable pub writtenAfter : AdStructure → List ℕ → List ℕ → ℕ → List ℕ
-writtenAfter a s out at = leaves (mayWrite a s out at) (octetsOf a s) out at
+writtenAfter a s out at = checkedAfter (mayWrite a s out at) (octetsOf a s) out at

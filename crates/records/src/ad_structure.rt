@@ -3,12 +3,12 @@ ghost use mathlib.Core.Path.{_≡_};
 ghost use mathlib.Core.List.{_++_};
 ghost use mathlib.Core.Bool.{cond};
 ghost use Prim.Native.Nat.{_+_, _≤_, _<_, _^_};
-ghost use lib.Dec.{eqb};
 ghost use lib.ListN.{length, getD, drop};
 ghost use Rattle.octets.specs.Bytes.{written};
-ghost use Rattle.records.specs.Record.{recordOf, named, bit, uuidList, flagsRead, uuidsRead, localName, nameRead, pairKind, pairRead, dataRead, kindRead, first, recordRead, knownRead, recordAt};
+ghost use Rattle.records.specs.Record.{recordOf, named, uuidList, flagsRead, uuidsRead, localName, nameRead, pairKind, pairRead, dataRead, kindRead, first, recordRead, knownRead, recordAt};
+ghost use Rattle.records.specs.Flags.{limitedDiscoverable, generalDiscoverable, supportsClassic, bothByController, bothByHost, discoverableFlags, broadcastFlags};
 ghost use Rattle.records.specs.Uuids.{uuid16At};
-ghost use Rattle.records.specs.Write.{IsOutline, lentBy, lentCheck, spaceIn, andThen, lentTo, lentAfter, writtenTo, writtenAfter};
+ghost use Rattle.records.specs.Write.{IsOutline, lentOutline, lentCheck, spaceIn, andThen, lentTo, lentAfter, writtenTo, writtenAfter};
 use octets::bytes::ByteReader;
 use octets::bytes::ByteWriter;
 use octets::bytes::Written;
@@ -190,7 +190,7 @@ impl AdStructure {
 
 // The outline of a record that holds nothing itself.
 fn lent(ty: u8, start: usize, len: usize, name: bool, unit: usize) -> Outline
-    ensures { λ r. ⌜ r ≡ lentBy ty start len name unit ⌝ }
+    ensures { λ r. ⌜ r ≡ lentOutline ty start len name unit ⌝ }
 {
     Outline {
         ty,
@@ -526,7 +526,7 @@ impl Flags {
 
     // The Flags of a start: general discoverable, no BR/EDR.
     pub fn discoverable() -> Flags
-        ensures { λ r. ⌜ r .bits ≡ 0x06 ⌝ }
+        ensures { λ r. ⌜ r .bits ≡ discoverableFlags ⌝ }
     {
         Flags {
             bits: Flags::BR_EDR_NOT_SUPPORTED | Flags::LE_GENERAL_DISCOVERABLE,
@@ -535,7 +535,7 @@ impl Flags {
 
     // The Flags of a beacon: not discoverable, no BR/EDR.
     pub fn broadcast() -> Flags
-        ensures { λ r. ⌜ r .bits ≡ 0x04 ⌝ }
+        ensures { λ r. ⌜ r .bits ≡ broadcastFlags ⌝ }
     {
         Flags {
             bits: Flags::BR_EDR_NOT_SUPPORTED,
@@ -551,31 +551,31 @@ impl Flags {
 
     // As the Core has it; rubble answers the opposite (D21).
     pub fn supports_classic_bluetooth(self) -> bool
-        ensures { λ r. ⌜ r ≡ eqb (bit 2 (self .bits)) 0 ⌝ }
+        ensures { λ r. ⌜ r ≡ supportsClassic (self .bits) ⌝ }
     {
         self.bits / Flags::BR_EDR_NOT_SUPPORTED % 2 == 0
     }
 
     pub fn le_limited_discoverable(self) -> bool
-        ensures { λ r. ⌜ r ≡ eqb (bit 0 (self .bits)) 1 ⌝ }
+        ensures { λ r. ⌜ r ≡ limitedDiscoverable (self .bits) ⌝ }
     {
         self.bits / Flags::LE_LIMITED_DISCOVERABLE % 2 == 1
     }
 
     pub fn le_general_discoverable(self) -> bool
-        ensures { λ r. ⌜ r ≡ eqb (bit 1 (self .bits)) 1 ⌝ }
+        ensures { λ r. ⌜ r ≡ generalDiscoverable (self .bits) ⌝ }
     {
         self.bits / Flags::LE_GENERAL_DISCOVERABLE % 2 == 1
     }
 
     pub fn simul_le_br_controller(self) -> bool
-        ensures { λ r. ⌜ r ≡ eqb (bit 3 (self .bits)) 1 ⌝ }
+        ensures { λ r. ⌜ r ≡ bothByController (self .bits) ⌝ }
     {
         self.bits / Flags::SIMUL_LE_BR_CONTROLLER % 2 == 1
     }
 
     pub fn simul_le_br_host(self) -> bool
-        ensures { λ r. ⌜ r ≡ eqb (bit 4 (self .bits)) 1 ⌝ }
+        ensures { λ r. ⌜ r ≡ bothByHost (self .bits) ⌝ }
     {
         self.bits / Flags::SIMUL_LE_BR_HOST % 2 == 1
     }

@@ -3,7 +3,8 @@
 use mathlib.Core.Path.{ap}
 use Prim.Native.Nat.{ℕ}
 use borrow.Author.Needs.{needs}
-use Rattle.records.specs.Record.{manufacturerData}
+use mathlib.Core.Bool.{false}
+use Rattle.records.specs.Record.{pairKind}
 use Rattle.records.proofs.ad_structure.pair.Statement.{statement}
 use Rattle.records.proofs.ad_structure.pair.Tie as tie
 
@@ -13,4 +14,4 @@ pair-spec =
     (tie.spec
     (λ c. rw (c .if1 .taken))
     (λ c κs. search needs)
-    (λ c. let a = c .before .before .args in rw (c .before .if1 .left) (ap (λ (number : ℕ). manufacturerData number (a .start) (a .len)) (c .from-raw .ensures))))
+    (λ c. let a = c .before .before .args in rw (c .before .if1 .left) (ap (λ (number : ℕ). pairKind false number (a .start) (a .len)) (c .from-raw .ensures))))

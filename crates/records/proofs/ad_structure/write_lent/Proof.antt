@@ -1,24 +1,21 @@
 -- `records::ad_structure::write_lent` meets its contract: where all checks pass, the record is put.
 -- Assumes nothing.
 use mathlib.Core.Path.{_≡_, refl, sym, ap, _∙_}
-use mathlib.Core.Bool.{Bool, true, false, cond}
 use mathlib.Core.List.{List, _++_}
 use Prim.Native.Nat.{ℕ, suc, _+_, _≤_}
 use native.Mathlib.Omega.{arith}
 use lib.ListN.{length, take, length-append, length-take}
-use lib.Dec.{leb, ltb}
 use borrow.Author.Needs.{needs}
-use borrow.Author.Tests.{leb-true, ltb-false}
 use Rattle.octets.specs.declared.bytes.Written.{Written}
 use Rattle.octets.specs.declared.bytes.Written.the-variants.{To}
 use Rattle.octets.specs.declared.error.Error.{Error}
-use Rattle.octets.specs.declared.error.Error.the-variants.{Eof, RecordLength}
 use Rattle.octets.specs.Bytes.{written}
 use Rattle.records.specs.declared.ad_structure.Checked.{Checked}
 use Rattle.records.specs.declared.ad_structure.Checked.the-variants.{Fine}
 use Rattle.records.specs.declared.ad_structure.Outline.{Outline}
 use Rattle.records.specs.Record.{recordOf}
-use Rattle.records.specs.Write.{ownIn, lentCheck, spaceIn, spaceFor, andThen, answer, leaves, lentTo, lentAfter}
+use Rattle.records.specs.Write.{ownIn, lentCheck, spaceIn, spaceFor, andThen, checkedTo, checkedAfter, lentTo, lentAfter}
+use Rattle.records.proofs.Space.{space-fine}
 use Rattle.records.proofs.ad_structure.write_lent.Statement.{statement}
 use Rattle.records.proofs.ad_structure.write_lent.Tie as tie
 
@@ -27,7 +24,7 @@ own-size o d short = simp (length-append, length-take) (omega arith)
 
 -- a record that may not be written
 not-put : (check : Checked) (xs d out : List ℕ) (at n : ℕ) {may : Checked} {e : Error} → length d ≡ n → may ≡ andThen check (spaceIn n (length out) at) → may ≡ Checked.Refused e
-    → (Written.Refused e ≡ answer (andThen check (spaceFor d out at)) xs at) × (out ≡ leaves (andThen check (spaceFor d out at)) xs out at)
+    → (Written.Refused e ≡ checkedTo (andThen check (spaceFor d out at)) xs at) × (out ≡ checkedAfter (andThen check (spaceFor d out at)) xs out at)
 not-put check xs d out at n size is why = rw (size, ← is, why) (refl, refl)
 
 refused : tie.Need-returns
@@ -39,17 +36,6 @@ refused c =
     let d = a .«data» .now in
     not-put (lentCheck (o .name) (o .unit) d) (recordOf (o .ty) (ownIn o ++ d)) (ownIn o ++ d) (a .out .now) (a .writer .at) (o .held + length d) (own-size o d (entry .pre .0)) (c .before .before .before .may-write .ensures) (c .before .e .given .1)
 
--- what may be written has space, and a length octet holds its length
-room : (check : Checked) (n size at : ℕ) → Fine ≡ andThen check (spaceIn n size at) → (at + (n + 2) ≤ size) × (n + 1 ≤ 255)
-room check n size at = go check (leb (at + (n + 2)) size) (ltb 255 (n + 1)) refl refl
-  where
-    go : (check : Checked) (fits long : Bool) → leb (at + (n + 2)) size ≡ fits → ltb 255 (n + 1) ≡ long
-        → Fine ≡ andThen check (cond fits (cond long (Checked.Refused RecordLength) Fine) (Checked.Refused Eof)) → (at + (n + 2) ≤ size) × (n + 1 ≤ 255)
-    go (Checked.Refused k) fits long f l e = absurd (let z : _≡_ {A = ℕ} 0 1 = cc in omega arith)
-    go Fine false long f l e = absurd (let z : _≡_ {A = ℕ} 0 1 = cc in omega arith)
-    go Fine true true f l e = absurd (let z : _≡_ {A = ℕ} 0 1 = cc in omega arith)
-    go Fine true false f l e = (leb-true _ _ f, ltb-false _ _ l)
-
 told : (c : tie.After-enum-told)
     → let a = c .before .before .before .before .before .args in
     Fine ≡ andThen (lentCheck (a .outline .name) (a .outline .unit) (a .«data» .now)) (spaceIn (a .outline .held + length (a .«data» .now)) (length (a .out .now)) (a .writer .at))
@@ -60,7 +46,8 @@ space : (c : tie.After-enum-told)
     (a .writer .at + (a .outline .held + length (a .«data» .now) + 2) ≤ length (a .out .now)) × (a .outline .held + length (a .«data» .now) + 1 ≤ 255)
 space c =
     let a = c .before .before .before .before .before .args in
-    room (lentCheck (a .outline .name) (a .outline .unit) (a .«data» .now)) _ _ _ (told c)
+    let fits = space-fine (lentCheck (a .outline .name) (a .outline .unit) (a .«data» .now)) _ _ _ (sym (told c)) in
+    (fits .1, fits .2)
 
 -- the octets of its own are as many as are held
 own-held : (n : ℕ) (own : List ℕ) → length own ≡ 2 → n ≤ 2 → length (take n own) ≡ n
@@ -85,7 +72,7 @@ own-fits c κs =
 put : (check : Checked) (ty : ℕ) (own d out : List ℕ) (at n end : ℕ) {own₁ l : List ℕ} → length (own ++ d) ≡ n → end ≡ at + 2 + n → Fine ≡ andThen check (spaceIn n (length out) at)
     → own₁ ≡ own → l ≡ written (recordOf ty (own₁ ++ d)) out at
     → let may = andThen check (spaceFor (own ++ d) out at) in
-    (To (record { at = end }) ≡ answer may (recordOf ty (own ++ d)) at) × (l ≡ leaves may (recordOf ty (own ++ d)) out at)
+    (To (record { at = end }) ≡ checkedTo may (recordOf ty (own ++ d)) at) × (l ≡ checkedAfter may (recordOf ty (own ++ d)) out at)
 unfolding recordOf
 put check ty own d out at n end size ends fine is e =
     let next : end ≡ at + suc (suc (length (own ++ d))) = omega arith in

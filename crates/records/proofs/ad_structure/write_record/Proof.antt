@@ -1,6 +1,6 @@
 -- `records::ad_structure::write_record` meets its contract: the lent data lie in s, or the write is refused.
 -- Assumes nothing.
-use mathlib.Core.Path.{_≡_, refl, sym, _∙_}
+use mathlib.Core.Path.{_≡_, refl, sym, ap, _∙_}
 use mathlib.Core.Bool.{true, false}
 use mathlib.Core.List.{List}
 use Prim.Native.Nat.{ℕ, _+_, _-_, _≤_}
@@ -10,11 +10,13 @@ use borrow.Author.Needs.{needs}
 use borrow.Author.Tests.{leb-true}
 use Rattle.octets.specs.declared.error.Error.the-variants.{Eof}
 use Rattle.octets.specs.declared.bytes.Written.{Written}
-use Rattle.octets.specs.Bytes.{has, part}
+use Rattle.octets.specs.Bytes.{has}
 use Rattle.records.specs.declared.ad_structure.AdStructure.{AdStructure}
 use Rattle.records.specs.declared.ad_structure.AdStructure.the-variants as ad
 use Rattle.records.specs.declared.ad_structure.Outline.{Outline}
-use Rattle.records.specs.Write.{ownOf, dataOf, IsOutline, mayWrite, lentTo, lentAfter, octetsOf, writtenTo, writtenAfter}
+use Rattle.records.specs.Write.{ownOf, IsOutline, mayWrite, lentTo, lentAfter, writtenTo, writtenAfter}
+use Rattle.records.specs.Order.{Lends, lentOctets}
+use Rattle.records.proofs.Outlines.{written-by-outline}
 use Rattle.records.proofs.ad_structure.write_record.Statement.{statement}
 use Rattle.records.proofs.ad_structure.write_record.Tie as tie
 
@@ -41,10 +43,12 @@ no-data a s out at is few = rw (← is .start, ← is .len, few) (refl, refl)
 lent : (a : AdStructure) (s out : List ℕ) (at : ℕ) {o : Outline} {r : Written} {l : List ℕ} → IsOutline a o → has (o .len) s (o .start) ≡ true
     → (r ≡ lentTo o (take (o .start + o .len - o .start) (drop (o .start) s)) out at) × (l ≡ lentAfter o (take (o .start + o .len - o .start) (drop (o .start) s)) out at)
     → Wrote a s out at r l
-unfolding writtenTo writtenAfter mayWrite lentTo lentAfter octetsOf dataOf
 lent a s out at {o} is there wrote =
     let size : o .start + o .len - o .start ≡ o .len = omega arith in
-    rw (← is .type, ← is .own, ← is .start, ← is .len, ← is .check (part (o .len) s (o .start)), there) (rw size at wrote)
+    let octets : take (o .start + o .len - o .start) (drop (o .start) s) ≡ lentOctets a s = rw (size, is .start, is .len) in
+    let lends : Lends a s = rw (← is .start, ← is .len) (leb-true (o .start + o .len) (length s) there) in
+    let by = written-by-outline a o is in
+    (wrote .0 ∙ ap (λ (d : List ℕ). lentTo o d out at) octets ∙ by .answers s out at lends, wrote .1 ∙ ap (λ (d : List ℕ). lentAfter o d out at) octets ∙ by .after s out at lends)
 
 fits : (c : tie.Then1)
     → let o = c .before .before .outline .result in

@@ -1,27 +1,20 @@
 -- `records::ad_structure::AdStructure::outline` meets its contract, by cases.
 -- Assumes nothing.
 use mathlib.Core.Path.{_≡_, refl, ap}
-use mathlib.Core.Bool.{false}
-use mathlib.Core.List.{List, [], _∷_}
-use Prim.Native.Nat.{ℕ, _%_}
+use mathlib.Core.List.{[], _∷_}
+use Prim.Native.Nat.{ℕ}
 use native.Mathlib.Omega.{arith}
-use lib.ListN.{length, take}
+use lib.ListN.{take}
 use borrow.Author.Needs.{needs}
-use borrow.Author.Tests.{eq-eqb}
 use Rattle.octets.specs.Bytes.{leBytes}
-use Rattle.records.specs.declared.ad_structure.Checked.the-variants.{Fine}
 use Rattle.records.specs.Record.{named}
-use Rattle.records.specs.Write.{lentCheck}
+use Rattle.records.proofs.Outlines.{free}
 use Rattle.records.proofs.ad_structure.AdStructure.outline.Statement.{statement}
 use Rattle.records.proofs.ad_structure.AdStructure.outline.Tie as tie
 
 flags-own : (bits x : ℕ) → x ≡ named bits → take 1 (leBytes 2 x) ≡ named bits ∷ []
 unfolding named
 flags-own bits x is = ap (λ (octet : ℕ). octet ∷ []) (omega arith)
-
--- any octets are whole units of one
-free : (d : List ℕ) → lentCheck false 1 d ≡ Fine
-free d = rw (eq-eqb (length d % 1) 0 (omega arith))
 
 pub outline-spec : {M : Type 1} → statement M
 outline-spec =

@@ -1,0 +1,38 @@
+-- The octet of Flags: its five bits that have a name in the Rust `Flags`, and what is asked of them (the Supplement, Part A, 1.3).
+--   limitedDiscoverable, generalDiscoverable, supportsClassic, bothByController, bothByHost   == what bits 0 to 4 say
+--   discoverableFlags, broadcastFlags   == the octet of a start, and that of a beacon
+--   NamedBits x                         == `named x` keeps these five bits of x, and no other
+use mathlib.Core.Path.{_≡_}
+use mathlib.Core.Bool.{Bool}
+use Prim.Native.Nat.{ℕ, _<_, _≤_}
+use lib.Dec.{eqb}
+use Rattle.records.specs.Record.{named, bit}
+
+-- LE Limited Discoverable Mode
+abbrev pub limitedDiscoverable : ℕ → Bool
+limitedDiscoverable x = eqb (bit 0 x) 1
+
+-- LE General Discoverable Mode
+abbrev pub generalDiscoverable : ℕ → Bool
+generalDiscoverable x = eqb (bit 1 x) 1
+
+-- BR/EDR Not Supported
+abbrev pub supportsClassic : ℕ → Bool
+supportsClassic x = eqb (bit 2 x) 0
+
+-- Simultaneous LE and BR/EDR to Same Device Capable: the controller, and the host
+abbrev pub bothByController : ℕ → Bool
+bothByController x = eqb (bit 3 x) 1
+
+abbrev pub bothByHost : ℕ → Bool
+bothByHost x = eqb (bit 4 x) 1
+
+abbrev pub discoverableFlags : ℕ
+discoverableFlags = 0x06
+
+abbrev pub broadcastFlags : ℕ
+broadcastFlags = 0x04
+
+pub record NamedBits (x : ℕ) : Type 0 where
+  pub kept : (b : ℕ) → b < 5 → bit b (named x) ≡ bit b x
+  pub cleared : (b : ℕ) → 5 ≤ b → bit b (named x) ≡ 0
