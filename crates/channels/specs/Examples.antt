@@ -69,8 +69,10 @@ pub record Examples : Type 0 where
   pub low-5-bits : hopped (fromRaw rowMap) 0 0b11100101 ≡ To 5 (dataChannel 3)
   pub hop-0 : hopped (fromRaw rowMap) 5 0 ≡ To 5 (dataChannel 3)
   pub over-36 : hopped allChannels 36 31 ≡ To 30 (dataChannel 30)
-  -- the same octets with a count that does not agree with them hop elsewhere
+  -- octets with a count that does not agree with them hop elsewhere, or not at all
   pub disagreeing : hopped (record { raw = rowMap; «num_used_channels» = 1 }) 0 5 ≡ To 5 (dataChannel 1)
+  pub disagreeing-none : hopped (record { raw = rowMap; «num_used_channels» = 0 }) 1 0 ≡ Refused EmptyMap
+  pub disagreeing-some : hopped (record { raw = 0 ∷ 0 ∷ 0 ∷ 0 ∷ 0 ∷ []; «num_used_channels» = 1 }) 0 5 ≡ To 5 (dataChannel 0)
   -- 8 before 6, on both sides of 36
   pub from-37 : hopped (fromRaw rowMap) 37 5 ≡ Refused NoSuchChannel
   pub from-37-over-none : hopped (mapOf 0 0 0 0 0xE0) 37 5 ≡ Refused NoSuchChannel
