@@ -130,7 +130,7 @@ impl ScanFilter {
     pub fn should_scan(self, list: &[u8], device: DeviceAddress) -> Matches
         ensures { λ r. ⌜ r ≡ shouldScan self (now (list .entry)) device ⌝ }
     {
-        let scan = self.scan;
-        scan.matches(list, device)
+        let filter = self.scan;
+        filter.matches(list, device)
     }
 }
