@@ -51,5 +51,7 @@ examples = record {
   from-36-over-none = refl;
   hop-found = refl;
   hop-refused = refl;
+  handed-on = refl;
+  handed-back = refl;
   evens = refl;
 }

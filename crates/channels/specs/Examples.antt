@@ -7,7 +7,7 @@ use lib.Dec.{eqb}
 use Rattle.octets.specs.Error.{numberOf}
 use Rattle.octets.specs.declared.error.Error.the-variants.{EmptyMap, NoSuchChannel}
 use Rattle.channels.specs.Count.{count, placed}
-use Rattle.channels.specs.Hop.{hopTo, hopped}
+use Rattle.channels.specs.Hop.{hopTo, hopped, handed}
 use Rattle.channels.specs.Laws.{cycles, rowMap}
 use Rattle.channels.specs.Map.{marks, fromRaw, allChannels, isUsed, byIndex}
 use Rattle.channels.specs.Phy.{whiteningStart, indexOf, firstChannel, ascending, advertisingRf, advertisingFrequency, advertisingWhitening, dataFrequency, dataWhitening, newChannel}
@@ -80,5 +80,8 @@ pub record Examples : Type 0 where
   -- a channel that is found is the hop's, a refusal is handed on
   pub hop-found : hopTo 5 (found.Channel (dataChannel 3)) ≡ To 5 (dataChannel 3)
   pub hop-refused : hopTo 5 (found.Refused EmptyMap) ≡ Refused EmptyMap
+  -- the next call goes on from the unmapped channel, not from the channel used, and after a refusal from where it was
+  pub handed-on : handed 5 (To 10 (dataChannel 1)) ≡ 10
+  pub handed-back : handed 5 (Refused EmptyMap) ≡ 5
   -- of 0 to 4 three are even; the second of them is 2, and there is no fourth
   pub evens : count (λ j. eqb (j % 2) 0) 5 ∷ placed (λ j. eqb (j % 2) 0) 5 1 ∷ placed (λ j. eqb (j % 2) 0) 5 3 ∷ [] ≡ 3 ∷ 2 ∷ 0 ∷ []
