@@ -1,16 +1,18 @@
--- Each setter of a header changes its own box of the figure only: `own-bits`; and the table of types: `codes`. Assumes nothing.
-use mathlib.Core.Bool.{Bool, true, false, cond}
+-- Each setter of a header changes its own box of the figure only: `own-bits`; the figure read and set box by box: `figures`; and the table of types:
+-- `codes`, `types`. Assumes nothing.
+use mathlib.Core.Bool.{Bool, true, false, cond, _||_}
 use mathlib.Core.List.{List, [], _∷_}
 use mathlib.Core.Path.{_≡_, refl, sym, ap, _∙_}
-use Prim.Native.Nat.{ℕ, _+_, _-_, _*_, _/_, _%_, _<_, _≤_, _^_}
+use Prim.Native.Nat.{ℕ, zero, suc, _+_, _-_, _*_, _/_, _%_, _<_, _≤_, _^_}
 use native.Mathlib.Nat.{div-div-eq-div-mul}
 use native.Mathlib.Omega.{arith}
 use lib.ListN.{getD}
 use lib.Dec.{eqb}
-use borrow.Author.Tests.{eqb-true}
-use Rattle.addresses.specs.Header.{headerOf, typeCode, pduType}
-use Rattle.addresses.specs.Laws.{boxes, OwnBits, Codes}
+use borrow.Author.Tests.{eqb-true, ne-eqb, lt-ltb, le-ltb}
+use Rattle.addresses.specs.Header.{headerOf, typeCode, pduType, isBeacon, allowsAdvData}
+use Rattle.addresses.specs.Laws.{boxes, OwnBits, figure, Figure, Codes, Types}
 use Rattle.addresses.specs.declared.header.Header.{Header}
+use Rattle.addresses.specs.declared.header.HeaderMade.the-variants as made
 use Rattle.addresses.specs.declared.header.PduType.{PduType}
 use Rattle.addresses.specs.declared.header.PduType.the-variants.{AdvInd, AdvDirectInd, AdvNonconnInd, AdvScanInd, ScanReq, ScanRsp, ConnectReq, Unknown}
 
@@ -88,4 +90,85 @@ codes =
       code-5 = refl;
       code-6 = refl;
       back = λ n. line n 0 AdvInd _ refl (line n 1 AdvDirectInd _ refl (line n 2 AdvNonconnInd _ refl (line n 3 ScanReq _ refl (line n 4 ScanRsp _ refl (line n 5 ConnectReq _ refl (line n 6 AdvScanInd (Unknown n) refl refl))))));
+      no-name = λ n l. rw (
+        ne-eqb n 0 (λ e. omega arith),
+        ne-eqb n 1 (λ e. omega arith),
+        ne-eqb n 2 (λ e. omega arith),
+        ne-eqb n 3 (λ e. omega arith),
+        ne-eqb n 4 (λ e. omega arith),
+        ne-eqb n 5 (λ e. omega arith),
+        ne-eqb n 6 (λ e. omega arith),
+      );
+      of-no-name = λ n. refl;
+    }
+
+-- what holds of a code by its answers
+both : {n : ℕ} → isBeacon (pduType n) ≡ eqb n 2 → allowsAdvData (pduType n) ≡ eqb n 0 || (eqb n 2 || (eqb n 4 || eqb n 6)) → Types n
+both b r = record { beacon = b; has-records = r; no-name-no-beacon = refl; no-name-no-records = refl }
+
+no-name-types : (n : ℕ) → 7 ≤ n → Types n
+no-name-types n l =
+    let other : (k : ℕ) → k < 7 → eqb n k ≡ false = λ k h. ne-eqb n k (λ e. omega arith) in
+    both (rw (codes .no-name n l, other 2 (omega arith)))
+    (rw (codes .no-name n l, other 0 (omega arith), other 2 (omega arith), other 4 (omega arith), other 6 (omega arith)))
+
+pub types : (n : ℕ) → Types n
+unfolding pduType
+types zero = both refl refl
+types (suc zero) = both refl refl
+types (suc (suc zero)) = both refl refl
+types (suc (suc (suc zero))) = both refl refl
+types (suc (suc (suc (suc zero)))) = both refl refl
+types (suc (suc (suc (suc (suc zero))))) = both refl refl
+types (suc (suc (suc (suc (suc (suc zero)))))) = both refl refl
+types (suc (suc (suc (suc (suc (suc (suc n))))))) = no-name-types _ (omega arith)
+
+-- the number with these in its boxes, and each of them read from it
+abbrev number : ℕ → ℕ → ℕ → ℕ → ℕ → ℕ → ℕ
+number ty low t r n top = ty + 16 * low + 64 * t + 128 * r + 256 * n + 16384 * top
+
+module _ (ty low t r n top : ℕ) (a : ty < 16) (b : low < 4) (c : t ≤ 1) (d : r ≤ 1) (e : n < 64) where
+  box-type : number ty low t r n top / 1 % 16 ≡ ty
+  box-type = omega arith
+
+  box-tx : number ty low t r n top / 64 % 2 ≡ t
+  box-tx = omega arith
+
+  box-rx : number ty low t r n top / 128 % 2 ≡ r
+  box-rx = omega arith
+
+  box-length : number ty low t r n top / 256 % 64 ≡ n
+  box-length = omega arith
+
+  tx-put : (v : ℕ) → number ty low t r n top - 64 * (number ty low t r n top / 64 % 2) + 64 * v ≡ number ty low v r n top
+  tx-put v = rw box-tx (omega arith)
+
+  rx-put : (v : ℕ) → number ty low t r n top - 128 * (number ty low t r n top / 128 % 2) + 128 * v ≡ number ty low t v n top
+  rx-put v = rw box-rx (omega arith)
+
+  length-put : (v : ℕ) → number ty low t r n top - 256 * (number ty low t r n top / 256 % 64) + 256 * v ≡ number ty low t r v top
+  length-put v = rw box-length (omega arith)
+
+-- a bit as a Bool
+bit-is : (v : Bool) → eqb (cond v 1 0) 1 ≡ v
+bit-is true = refl
+bit-is false = refl
+
+pub figures : (ty low n top : ℕ) (tx rx : Bool) → ty < 16 → low < 4 → n < 64 → Figure ty low tx rx n top
+figures ty low n top tx rx a b c =
+    let t : ℕ = cond tx 1 0 in
+    let r : ℕ = cond rx 1 0 in
+    let s = bit-small tx in
+    let q = bit-small rx in
+    record {
+      type = ap pduType (box-type ty low t r n top a b s q c);
+      tx-add = rw (box-tx ty low t r n top a b s q c) (bit-is tx);
+      rx-add = rw (box-rx ty low t r n top a b s q c) (bit-is rx);
+      payload-length = box-length ty low t r n top a b s q c;
+      tx-set = λ v. ap headerOf (tx-put ty low t r n top a b s q c (cond v 1 0));
+      rx-set = λ v. ap headerOf (rx-put ty low t r n top a b s q c (cond v 1 0));
+      length-set = λ m l h. rw (le-ltb m 6 l, le-ltb 37 m h) (ap (λ (x : ℕ). made.Header (headerOf x)) (length-put ty low t r n top a b s q c m));
+      too-short = λ m l. rw (lt-ltb m 6 l);
+      too-long = λ m l. rw (le-ltb m 6 (omega arith), lt-ltb 37 m l);
+      made-new = ap headerOf (codes .back ty ∙ omega arith);
     }

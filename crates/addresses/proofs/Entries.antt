@@ -1,4 +1,4 @@
--- What it means that some number passes a test, and that a whitelist matches. Assumes nothing.
+-- What it means that some number passes a test, that a whitelist matches, and which filter a request is held to. Assumes nothing.
 use mathlib.Core.Bool.{Bool, true, false, cond, not, _||_, or-false, or-true}
 use mathlib.Core.List.{List, _∷_}
 use mathlib.Core.Path.{_≡_, refl, sym, ap, _∙_}
@@ -6,14 +6,15 @@ use Prim.Native.Nat.{ℕ, zero, suc, _+_, _*_, _/_, _%_, _≤_, _<_}
 use native.Mathlib.Omega.{arith}
 use lib.ListN.{length, getD}
 use lib.Dec.{eqb, ltb}
-use borrow.Author.Tests.{eqb-true, ltb-false, not-true}
+use borrow.Author.Tests.{eqb-true, eq-eqb, le-ltb, ltb-false, not-true}
 use Rattle.octets.proofs.Places.{both-true, front}
 use Rattle.octets.specs.Bytes.{part}
 use Rattle.octets.specs.declared.error.Error.the-variants.{InvalidValue}
 use Rattle.addresses.specs.Address.{kindNumber, kindOf}
 use Rattle.addresses.specs.Filter.{any, entryAt, badKind, entryIs, isList, whitelisted}
-use Rattle.addresses.specs.Laws.{Entry, Listed}
+use Rattle.addresses.specs.Laws.{Entry, Listed, Policies}
 use Rattle.addresses.specs.declared.device_address.DeviceAddress.{DeviceAddress}
+use Rattle.addresses.specs.declared.filter.AddressFilter.{AddressFilter}
 use Rattle.addresses.specs.declared.filter.Matches.the-variants.{Is, Refused}
 use Rattle.addresses.proofs.Addresses.{equality, one-kind}
 
@@ -60,6 +61,12 @@ kind-small list n i none h = go (ltb 1 (getD list (7 * i) 0)) refl
         absurd (omega arith)
     go false e = ltb-false 1 (getD list (7 * i) 0) e
 
+-- and the other way
+kinds-small : (list : List ℕ) (n : ℕ) → ((i : ℕ) → i < n → getD list (7 * i) 0 ≤ 1) → any (badKind list) n ≡ false
+unfolding any
+kinds-small list zero small = refl
+kinds-small list (suc n) small = rw (kinds-small list n (λ i l. small i (omega arith)), le-ltb 1 (getD list (7 * n) 0) (small n (omega arith)))
+
 -- an address as an entry has it
 abbrev octetsOf : DeviceAddress → List ℕ
 octetsOf a = kindNumber (a .kind) ∷ a .bytes
@@ -85,6 +92,7 @@ unfolding whitelisted any
 listed list a =
     record {
       tested = tested;
+      whole = λ l k. rw (eq-eqb (length list % 7) 0 l, kinds-small list (length list / 7) k);
       refused = λ bad. rw bad;
       sound = sound (isList list) refl;
       complete = λ good entry.
@@ -93,6 +101,7 @@ listed list a =
           rw (good, found);
       other = λ good none. rw good (ap Is (nobody good (any (entryIs list a) (length list / 7)) refl none));
       empty = refl;
+      all = refl;
     }
   where
     tested : isList list ≡ true → (length list % 7 ≡ 0) × ((i : ℕ) → i < length list / 7 → getD list (7 * i) 0 ≤ 1)
@@ -123,3 +132,6 @@ listed list a =
         let answer = rw e at is in
         let z : _≡_ {A = ℕ} 0 1 = cc in
         absurd (omega arith)
+
+pub policies : (scan connect : AddressFilter) (list : List ℕ) (a : DeviceAddress) → Policies scan connect list a
+policies scan connect list a = record { scans = refl; connects = refl; scanner = refl }

@@ -1,3 +1,5 @@
 pub mod Addresses
 pub mod Boxes
 pub mod Entries
+pub mod Examples
+pub mod Headers

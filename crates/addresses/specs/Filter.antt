@@ -10,6 +10,8 @@
 --   isList list           == whole entries, each of a kind
 --   whitelisted list a    == whether some entry is the address a, or the refusal of what is no list
 --   matchesOf f list a    == whether the address a passes the filter f, with its list
+--   advFilterOf s c       == the advertising filter policy of a filter for scan requests and one for connect requests
+--   mayScan p list a, mayConnect p list a, shouldScan p list a    == whether the address a passes the filter that the policy p has for it
 use mathlib.Core.Bool.{Bool, true, false, cond, not, _&&_, _||_}
 use mathlib.Core.List.{List}
 use Prim.Native.Nat.{ℕ, zero, suc, _+_, _*_, _/_, _%_}
@@ -21,8 +23,10 @@ use Rattle.addresses.specs.Address.{kindOf, addressOf, sameAddress}
 use Rattle.addresses.specs.declared.device_address.DeviceAddress.{DeviceAddress}
 use Rattle.addresses.specs.declared.filter.AddressFilter.{AddressFilter}
 use Rattle.addresses.specs.declared.filter.AddressFilter.the-variants.{AllowAll, Whitelist}
+use Rattle.addresses.specs.declared.filter.AdvFilter.{AdvFilter}
 use Rattle.addresses.specs.declared.filter.Matches.{Matches}
 use Rattle.addresses.specs.declared.filter.Matches.the-variants.{Is, Refused}
+use Rattle.addresses.specs.declared.filter.ScanFilter.{ScanFilter}
 
 unfoldable pub any : (ℕ → Bool) → ℕ → Bool
 any p zero = false
@@ -46,3 +50,15 @@ whitelisted list a = cond (isList list) (Is (any (entryIs list a) (length list /
 abbrev pub matchesOf : AddressFilter → List ℕ → DeviceAddress → Matches
 matchesOf AllowAll list a = Is true
 matchesOf Whitelist list a = whitelisted list a
+
+abbrev pub advFilterOf : AddressFilter → AddressFilter → AdvFilter
+advFilterOf scan connect = record { scan = scan; connect = connect }
+
+abbrev pub mayScan : AdvFilter → List ℕ → DeviceAddress → Matches
+mayScan p list a = matchesOf (p .scan) list a
+
+abbrev pub mayConnect : AdvFilter → List ℕ → DeviceAddress → Matches
+mayConnect p list a = matchesOf (p .connect) list a
+
+abbrev pub shouldScan : ScanFilter → List ℕ → DeviceAddress → Matches
+shouldScan p list a = matchesOf (p .scan) list a

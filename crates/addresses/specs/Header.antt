@@ -3,19 +3,19 @@
 --     | PDU type | reserved | TxAdd   | RxAdd   | length   | reserved  |
 --     | bits 0-3 | bits 4-5 | bit 6   | bit 7   | bits 8-13| bits 14-15|
 --
---   headerOf n            == the header of 16 bits
+--   headerOf n            == the header of 16 bits; newHeader ty: of a type alone; headerOctets h: its two octets
 --   typeCode ty           == the code of a type (the Core's table of PDU types), and pduType n the type of a code
 --   bits b w h            == the w bits of a header from bit b on
 --   setBits b w v h       == the header with v in their place
 --   parsed s              == what `parse` answers
---   headerRead r          == the header that was read as a number of two octets
+--   headerRead r          == the header that was read as a number of two octets; headerAt s at: what `from_bytes` answers
 --   lengthSet n h         == what `set_payload_length` answers
 use mathlib.Core.Bool.{Bool, true, false, cond, _||_}
 use mathlib.Core.List.{List}
 use Prim.Native.Nat.{ℕ, _+_, _-_, _*_, _/_, _%_, _^_}
 use lib.Dec.{eqb, ltb}
 use lib.ListN.{length}
-use Rattle.octets.specs.Bytes.{part, le}
+use Rattle.octets.specs.Bytes.{part, le, leBytes, u16Read}
 use Rattle.octets.specs.declared.bytes.U16Read.{U16Read}
 use Rattle.octets.specs.declared.bytes.U16Read.the-variants as u16read
 use Rattle.octets.specs.declared.error.Error.the-variants.{ShortHeader, PayloadLength}
@@ -50,6 +50,10 @@ pduType n =
     (cond (eqb n 0b0101) ConnectReq
     (cond (eqb n 0b0110) AdvScanInd
     (Unknown n)))))))
+
+-- the code of a type, and nothing else
+abbrev pub newHeader : PduType → Header
+newHeader ty = headerOf (typeCode ty)
 
 abbrev pub isBeacon : PduType → Bool
 isBeacon AdvNonconnInd = true
@@ -105,6 +109,12 @@ parsed s = cond (ltb (length s) 2) (made.Refused ShortHeader) (made.Header (head
 abbrev pub headerRead : U16Read → HeaderRead
 headerRead (u16read.Value n next) = read.Header (headerOf n) next
 headerRead (u16read.Refused e) = read.Refused e
+
+abbrev pub headerAt : List ℕ → ℕ → HeaderRead
+headerAt s at = headerRead (u16Read s at)
+
+abbrev pub headerOctets : Header → List ℕ
+headerOctets h = leBytes 2 (h .0)
 
 abbrev pub lengthSet : ℕ → Header → HeaderMade
 lengthSet n h = cond (ltb n 6 || ltb 37 n) (made.Refused PayloadLength) (made.Header (setLength n h))

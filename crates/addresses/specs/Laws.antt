@@ -1,23 +1,32 @@
 -- The laws of addresses, filters and headers, each with the theorem of proofs/ that proves it.
 --   Equality      Addresses.equality    the test of two addresses
---   Listed        Entries.listed        a whitelist
+--   Listed        Entries.listed        a whitelist, and no filter
+--   Policies      Entries.policies      which filter each request is held to
 --   OwnBits       Boxes.own-bits        the setters of a header of 16 bits
+--   Figure        Boxes.figures         the figure of a header, read and set box by box
+--   Reading       Headers.reading       two octets as a header; 4 and 1
 --   Codes         Boxes.codes           the types of document 01 by their codes
-use mathlib.Core.Bool.{Bool, true, false, cond}
+--   Types         Boxes.types           which codes are beacons and which have records
+-- Worked values stand in specs/Examples.
+use mathlib.Core.Bool.{Bool, true, false, cond, _||_}
 use mathlib.Core.List.{List, [], _∷_}
 use mathlib.Core.Path.{_≡_}
-use Prim.Native.Nat.{ℕ, _*_, _/_, _%_, _≤_, _<_, _^_}
+use Prim.Native.Nat.{ℕ, _+_, _*_, _/_, _%_, _≤_, _<_, _^_}
+use lib.Dec.{eqb}
 use lib.ListN.{length, getD, set}
 use Rattle.octets.specs.Bytes.{part}
-use Rattle.octets.specs.declared.error.Error.the-variants.{InvalidValue}
+use Rattle.octets.specs.declared.error.Error.the-variants.{Eof, InvalidValue, ShortHeader, PayloadLength}
 use Rattle.addresses.specs.Address.{kindNumber, sameAddress}
-use Rattle.addresses.specs.Filter.{isList, matchesOf}
-use Rattle.addresses.specs.Header.{typeCode, pduType, bits, setTxAdd, setRxAdd, setLength}
+use Rattle.addresses.specs.Filter.{isList, matchesOf, advFilterOf, mayScan, mayConnect, shouldScan}
+use Rattle.addresses.specs.Header.{headerOf, newHeader, headerOctets, typeCode, pduType, isBeacon, allowsAdvData, bits, typeOf, txAdd, rxAdd, lengthOf, setTxAdd, setRxAdd, setLength, parsed, headerAt, lengthSet}
 use Rattle.addresses.specs.declared.device_address.DeviceAddress.{DeviceAddress}
-use Rattle.addresses.specs.declared.filter.AddressFilter.the-variants.{Whitelist}
+use Rattle.addresses.specs.declared.filter.AddressFilter.{AddressFilter}
+use Rattle.addresses.specs.declared.filter.AddressFilter.the-variants.{AllowAll, Whitelist}
 use Rattle.addresses.specs.declared.filter.Matches.the-variants.{Is, Refused}
 use Rattle.addresses.specs.declared.header.Header.{Header}
-use Rattle.addresses.specs.declared.header.PduType.the-variants.{AdvInd, AdvDirectInd, AdvNonconnInd, AdvScanInd, ScanReq, ScanRsp, ConnectReq}
+use Rattle.addresses.specs.declared.header.HeaderMade.the-variants as made
+use Rattle.addresses.specs.declared.header.HeaderRead.the-variants as read
+use Rattle.addresses.specs.declared.header.PduType.the-variants.{AdvInd, AdvDirectInd, AdvNonconnInd, AdvScanInd, ScanReq, ScanRsp, ConnectReq, Unknown}
 
 -- The test of two addresses is true exactly where they are one: the same octets and the same kind.
 pub record Equality (a b : DeviceAddress) : Type 0 where
@@ -34,11 +43,20 @@ pub record Entry (list : List ℕ) (a : DeviceAddress) : Type 0 where
 pub record Listed (list : List ℕ) (a : DeviceAddress) : Type 0 where
   -- the whole list decides first: its length, and the kind of each entry
   pub tested : isList list ≡ true → (length list % 7 ≡ 0) × ((i : ℕ) → i < length list / 7 → getD list (7 * i) 0 ≤ 1)
+  pub whole : length list % 7 ≡ 0 → ((i : ℕ) → i < length list / 7 → getD list (7 * i) 0 ≤ 1) → isList list ≡ true
   pub refused : isList list ≡ false → matchesOf Whitelist list a ≡ Refused InvalidValue
   pub sound : matchesOf Whitelist list a ≡ Is true → Entry list a
   pub complete : isList list ≡ true → Entry list a → matchesOf Whitelist list a ≡ Is true
   pub other : isList list ≡ true → (Entry list a → ⊥) → matchesOf Whitelist list a ≡ Is false
   pub empty : matchesOf Whitelist [] a ≡ Is false
+  -- "accept all", and whatever list is lent is not looked at
+  pub all : matchesOf AllowAll list a ≡ Is true
+
+-- Scan requests are held to the filter that was given for them, and connect requests to theirs.
+pub record Policies (scan connect : AddressFilter) (list : List ℕ) (a : DeviceAddress) : Type 0 where
+  pub scans : mayScan (advFilterOf scan connect) list a ≡ matchesOf scan list a
+  pub connects : mayConnect (advFilterOf scan connect) list a ≡ matchesOf connect list a
+  pub scanner : shouldScan (record { scan = scan }) list a ≡ matchesOf scan list a
 
 -- the boxes of a header's figure: type, reserved, TxAdd, RxAdd, length, reserved
 abbrev pub boxes : Header → List ℕ
@@ -51,8 +69,34 @@ pub record OwnBits (h : Header) : Type 0 where
   pub len : (n : ℕ) → n < 64 → boxes (setLength n h) ≡ set (boxes h) 4 n
   pub all : (g : Header) → g .0 < 2 ^ 16 → boxes g ≡ boxes h → g ≡ h
 
--- Document 01: 0 ADV_IND, 1 ADV_DIRECT_IND, 2 ADV_NONCONN_IND, 3 SCAN_REQ, 4 SCAN_RSP, 5 CONNECT_IND, 6 ADV_SCAN_IND; and the code of the type of any
--- code is that code.
+-- The header that has these in the boxes of the figure.
+abbrev pub figure : ℕ → ℕ → Bool → Bool → ℕ → ℕ → Header
+figure ty low tx rx n top = headerOf (ty + 2 ^ 4 * low + 2 ^ 6 * cond tx 1 0 + 2 ^ 7 * cond rx 1 0 + 2 ^ 8 * n + 2 ^ 14 * top)
+
+-- Document 01: "Header bits 0-3 type, 6 TxAdd, 7 RxAdd, 8-13 length; other bits are kept", and a length outside 6 to 37 is 7.
+pub record Figure (ty low : ℕ) (tx rx : Bool) (n top : ℕ) : Type 0 where
+  pub type : typeOf (figure ty low tx rx n top) ≡ pduType ty
+  pub tx-add : txAdd (figure ty low tx rx n top) ≡ tx
+  pub rx-add : rxAdd (figure ty low tx rx n top) ≡ rx
+  pub payload-length : lengthOf (figure ty low tx rx n top) ≡ n
+  pub tx-set : (v : Bool) → setTxAdd v (figure ty low tx rx n top) ≡ figure ty low v rx n top
+  pub rx-set : (v : Bool) → setRxAdd v (figure ty low tx rx n top) ≡ figure ty low tx v n top
+  pub length-set : (m : ℕ) → 6 ≤ m → m ≤ 37 → lengthSet m (figure ty low tx rx n top) ≡ made.Header (figure ty low tx rx m top)
+  pub too-short : (m : ℕ) → m < 6 → lengthSet m (figure ty low tx rx n top) ≡ made.Refused PayloadLength
+  pub too-long : (m : ℕ) → 37 < m → lengthSet m (figure ty low tx rx n top) ≡ made.Refused PayloadLength
+  pub made-new : newHeader (pduType ty) ≡ figure ty 0 false false 0 0
+
+-- Two octets are a header, the first of them its bits 0 to 7. `parse` of under 2 octets is 4; `from_bytes` at a position that has fewer is 1.
+pub record Reading (s : List ℕ) (at : ℕ) : Type 0 where
+  pub parse : 2 ≤ length s → parsed s ≡ made.Header (headerOf (getD s 0 0 + 256 * getD s 1 0))
+  pub parse-short : length s < 2 → parsed s ≡ made.Refused ShortHeader
+  pub from : at + 2 ≤ length s → headerAt s at ≡ read.Header (headerOf (getD s at 0 + 256 * getD s (at + 1) 0)) (record { at = at + 2 })
+  pub from-short : length s < at + 2 → headerAt s at ≡ read.Refused Eof
+  -- and the octets of a header are parsed as that header
+  pub back : (h : Header) → h .0 < 2 ^ 16 → parsed (headerOctets h) ≡ made.Header h
+
+-- Document 01: 0 ADV_IND, 1 ADV_DIRECT_IND, 2 ADV_NONCONN_IND, 3 SCAN_REQ, 4 SCAN_RSP, 5 CONNECT_IND, 6 ADV_SCAN_IND; other codes have no
+-- name. The code of the type of any code is that code.
 pub record Codes : Type 0 where
   pub code-0 : pduType 0 ≡ AdvInd
   pub code-1 : pduType 1 ≡ AdvDirectInd
@@ -62,3 +106,12 @@ pub record Codes : Type 0 where
   pub code-5 : pduType 5 ≡ ConnectReq
   pub code-6 : pduType 6 ≡ AdvScanInd
   pub back : (n : ℕ) → typeCode (pduType n) ≡ n
+  pub no-name : (n : ℕ) → 7 ≤ n → pduType n ≡ Unknown n
+  pub of-no-name : (n : ℕ) → typeCode (Unknown n) ≡ n
+
+-- Document 01: a beacon is type 2; types 0, 2, 4, 6 have records.
+pub record Types (n : ℕ) : Type 0 where
+  pub beacon : isBeacon (pduType n) ≡ eqb n 2
+  pub has-records : allowsAdvData (pduType n) ≡ eqb n 0 || (eqb n 2 || (eqb n 4 || eqb n 6))
+  pub no-name-no-beacon : isBeacon (Unknown n) ≡ false
+  pub no-name-no-records : allowsAdvData (Unknown n) ≡ false

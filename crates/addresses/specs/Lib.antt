@@ -1,4 +1,5 @@
 pub mod Address
+pub mod Examples
 pub mod Filter
 pub mod Header
 pub mod Laws

@@ -2,7 +2,7 @@
 ghost use mathlib.Core.Path.{_≡_};
 ghost use Prim.Native.Nat.{_+_, _*_, _/_, _≤_};
 ghost use lib.ListN.{length};
-ghost use Rattle.addresses.specs.Filter.{any, badKind, entryIs, whitelisted, matchesOf};
+ghost use Rattle.addresses.specs.Filter.{any, badKind, entryIs, whitelisted, matchesOf, advFilterOf, mayScan, mayConnect, shouldScan};
 use crate::device_address::AddressKind;
 use crate::device_address::DeviceAddress;
 use octets::bytes::ByteReader;
@@ -95,20 +95,20 @@ pub struct AdvFilter {
 
 impl AdvFilter {
     pub fn new(scan: AddressFilter, connect: AddressFilter) -> AdvFilter
-        ensures { λ r. ⌜ (r .scan ≡ scan) × (r .connect ≡ connect) ⌝ }
+        ensures { λ r. ⌜ r ≡ advFilterOf scan connect ⌝ }
     {
         AdvFilter { scan, connect }
     }
 
     pub fn may_scan(self, list: &[u8], device: DeviceAddress) -> Matches
-        ensures { λ r. ⌜ r ≡ matchesOf (self .scan) (now (list .entry)) device ⌝ }
+        ensures { λ r. ⌜ r ≡ mayScan self (now (list .entry)) device ⌝ }
     {
         let scan = self.scan;
         scan.matches(list, device)
     }
 
     pub fn may_connect(self, list: &[u8], device: DeviceAddress) -> Matches
-        ensures { λ r. ⌜ r ≡ matchesOf (self .connect) (now (list .entry)) device ⌝ }
+        ensures { λ r. ⌜ r ≡ mayConnect self (now (list .entry)) device ⌝ }
     {
         let connect = self.connect;
         connect.matches(list, device)
@@ -128,9 +128,9 @@ impl ScanFilter {
     }
 
     pub fn should_scan(self, list: &[u8], device: DeviceAddress) -> Matches
-        ensures { λ r. ⌜ r ≡ matchesOf (self .scan) (now (list .entry)) device ⌝ }
+        ensures { λ r. ⌜ r ≡ shouldScan self (now (list .entry)) device ⌝ }
     {
-        let scan = self.scan;
-        scan.matches(list, device)
+        let filter = self.scan;
+        filter.matches(list, device)
     }
 }

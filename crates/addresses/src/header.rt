@@ -1,8 +1,8 @@
 // The header of an advertising channel PDU, and the types of PDUs.
 ghost use mathlib.Core.Path.{_≡_};
 ghost use Prim.Native.Nat.{_<_};
-ghost use Rattle.octets.specs.Bytes.{leBytes, u16Read, writeTo, outAfter};
-ghost use Rattle.addresses.specs.Header.{headerOf, typeCode, pduType, isBeacon, allowsAdvData, typeOf, txAdd, rxAdd, lengthOf, setTxAdd, setRxAdd, setLength, parsed, headerRead, lengthSet};
+ghost use Rattle.octets.specs.Bytes.{writeTo, outAfter};
+ghost use Rattle.addresses.specs.Header.{newHeader, typeCode, pduType, isBeacon, allowsAdvData, typeOf, txAdd, rxAdd, lengthOf, setTxAdd, setRxAdd, setLength, parsed, headerAt, headerOctets, lengthSet};
 use octets::bytes::ByteReader;
 use octets::bytes::ByteWriter;
 use octets::bytes::U16Read;
@@ -28,7 +28,7 @@ pub enum HeaderRead {
 impl Header {
     // The header that holds the code of a type and nothing else: for a type with a name, bits 4 to 15 are 0.
     pub fn new(ty: PduType) -> Header
-        ensures { λ r. ⌜ r ≡ headerOf (typeCode ty) ⌝ }
+        ensures { λ r. ⌜ r ≡ newHeader ty ⌝ }
     {
         Header(ty.to_u8() as u16)
     }
@@ -119,7 +119,7 @@ impl Header {
     }
 
     pub fn from_bytes(reader: ByteReader, s: &[u8]) -> HeaderRead
-        ensures { λ r. ⌜ r ≡ headerRead (u16Read (now (s .entry)) (reader .at)) ⌝ }
+        ensures { λ r. ⌜ r ≡ headerAt (now (s .entry)) (reader .at) ⌝ }
     {
         match reader.read_u16_le(s) {
             U16Read::Value(raw, next) => HeaderRead::Header(Header(raw), next),
@@ -128,7 +128,7 @@ impl Header {
     }
 
     pub fn to_bytes(self, writer: ByteWriter, out: &mut [u8]) -> Written
-        ensures { λ r. ⌜ (r ≡ writeTo 2 (now (out .entry)) (writer .at)) × (now (out .exit) ≡ outAfter (leBytes 2 (self .0)) (now (out .entry)) (writer .at)) ⌝ }
+        ensures { λ r. ⌜ (r ≡ writeTo 2 (now (out .entry)) (writer .at)) × (now (out .exit) ≡ outAfter (headerOctets self) (now (out .entry)) (writer .at)) ⌝ }
     {
         writer.write_u16_le(out, self.0)
     }

@@ -11,7 +11,7 @@ use Rattle.channels.proofs.Counting.{count-ext}
 use Rattle.channels.proofs.Cycles.{once-each, cycles-add}
 use Rattle.channels.proofs.Events.{fair, run}
 use Rattle.channels.specs.Count.{count}
-use Rattle.channels.specs.Hop.{eventChannel, uses as usesIn, remapped, before, hopped}
+use Rattle.channels.specs.Hop.{eventChannel, uses as usesIn, remapped, unmappedBefore, hopped}
 use Rattle.channels.specs.Laws.{cycles}
 use Rattle.channels.specs.Map.{marks, channelAt, fromRaw}
 use Rattle.channels.specs.Phy.{indexOf, cycled, firstChannel}
@@ -248,7 +248,7 @@ module _ (p : List ℕ) (some : 0 < marks (mapIn p)) where
 
   -- the connection of the request before event k
   abbrev pub connectionAt : ℕ → Connection
-  connectionAt k = record { «channel_map» = fromRaw (mapIn p); hop = hopIn p; «unmapped_channel» = before (fromRaw (mapIn p)) (hopIn p) k }
+  connectionAt k = record { «channel_map» = fromRaw (mapIn p); hop = hopIn p; «unmapped_channel» = unmappedBefore (fromRaw (mapIn p)) (hopIn p) k }
 
   abbrev pub EventAt : ℕ → Device → Type 0
   EventAt k d = (d .mode ≡ Connected) × (d .conn ≡ connectionAt k)
@@ -257,9 +257,9 @@ module _ (p : List ℕ) (some : 0 < marks (mapIn p)) where
   five-bits = omega arith
 
   -- event k: the channel of the hop, and the unmapped channel of the next
-  event-is : (k u : ℕ) (channel : DataChannel) → hopped (fromRaw (mapIn p)) (before (fromRaw (mapIn p)) (hopIn p) k) (hopIn p) ≡ hop.To u channel
-      → (channel .index ≡ channelOf k) × (u ≡ before (fromRaw (mapIn p)) (hopIn p) (suc k))
-  unfolding before
+  event-is : (k u : ℕ) (channel : DataChannel) → hopped (fromRaw (mapIn p)) (unmappedBefore (fromRaw (mapIn p)) (hopIn p) k) (hopIn p) ≡ hop.To u channel
+      → (channel .index ≡ channelOf k) × (u ≡ unmappedBefore (fromRaw (mapIn p)) (hopIn p) (suc k))
+  unfolding unmappedBefore
   event-is k u channel there =
       let same = sym there ∙ run (mapIn p) (hopIn p) k some in
       let index : channel .index ≡ eventChannel (mapIn p) (hopIn p % 32) k = cc in
@@ -299,7 +299,7 @@ payloadIn stop = []
 
 pub events-from : {d : Device} {c : Call} {r : Called} → Happens d c r → Sound (r .device) → isFirstEvent (r .answer) ≡ true
     → (cs : List Call) → Events (payloadIn c) (entryOf d c r ∷ gather eventRole (traced (r .device) cs))
-unfolding requestOf before
+unfolding requestOf unmappedBefore
 events-from (starts time interval records tx pdu ok made wrote) sound a cs = absurd (false≢true a)
 events-from (ticks tx m ok wrote) sound a cs = absurd (false≢true a)
 events-from (begins end header payload crcGood u channel m e ok some there low) sound a cs =

@@ -17,7 +17,7 @@ use Rattle.octets.specs.declared.error.Error.{Error}
 use Rattle.octets.specs.declared.error.Error.the-variants.{Eof, WrongMode}
 use Rattle.octets.specs.declared.time.Instant.{Instant}
 use Rattle.channels.proofs.Events.{run}
-use Rattle.channels.specs.Hop.{unmapped, eventChannel, before, hopped}
+use Rattle.channels.specs.Hop.{unmapped, eventChannel, unmappedBefore, hopped}
 use Rattle.channels.specs.Map.{marks, fromRaw}
 use Rattle.channels.specs.declared.connection.Hop.{Hop}
 use Rattle.channels.specs.declared.connection.Hop.the-variants as hop
@@ -340,7 +340,7 @@ module _ (d : Device) (end : Instant) (h : Header) (p : List ℕ) (crcGood : Boo
 
   -- the first hop of a request is event 0
   first-hop : 1 ≤ marks (mapIn p) → hopped (fromRaw (mapIn p)) 0 (hopIn p) ≡ hop.To (unmapped (hopIn p) 1) (record { index = eventChannel (mapIn p) (hopIn p) 0 })
-  unfolding before
+  unfolding unmappedBefore
   first-hop some = run (mapIn p) (hopIn p) 0 some ∙ ap (λ (x : ℕ). hop.To (unmapped x 1) (record { index = eventChannel (mapIn p) x 0 })) five-bits
 
   requested : Requests own h p crcGood
