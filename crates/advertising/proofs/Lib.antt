@@ -2,4 +2,5 @@ pub mod Accepting
 pub mod Buffers
 pub mod Building
 pub mod Figures
+pub mod Refusals
 pub mod Rows

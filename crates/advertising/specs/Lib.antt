@@ -1,3 +1,4 @@
 pub mod Laws
 pub mod Pdu
 pub mod PduBuf
+pub mod Refusals
