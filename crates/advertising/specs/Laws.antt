@@ -1,9 +1,8 @@
--- The laws of PDUs, each with the theorem of proofs/ that proves it.
+-- The laws of PDUs, each with the theorem of proofs/ that proves it; refusals are in specs/Refusals.antt, what each builder builds in specs/Builders.antt.
 --   Accepting     Accepting.accepting    which headers and payloads are accepted, and what is read of them
 --   Building      Building.building      what is read of a PDU that was built
---   Rows          Rows.rows              document 01's rows
---   Example       Rows.example           a connect request, field by field
---   Accuracies    Rows.accuracies        the sleep clock accuracies by their codes
+--   Example       Examples.example       a connect request, field by field
+--   Accuracies    Examples.accuracies    the sleep clock accuracies by their codes
 use mathlib.Core.Bool.{true, false}
 use mathlib.Core.List.{List, [], _∷_, _++_, map, flatten}
 use mathlib.Core.Logic.{_⊎_}
@@ -16,14 +15,14 @@ use Rattle.addresses.specs.declared.device_address.AddressKind.the-variants.{Pu
 use Rattle.addresses.specs.declared.device_address.DeviceAddress.{DeviceAddress}
 use Rattle.addresses.specs.declared.header.Header.{Header}
 use Rattle.addresses.specs.declared.header.PduType.{PduType}
-use Rattle.addresses.specs.declared.header.PduType.the-variants.{AdvInd, AdvDirectInd, AdvNonconnInd, ScanReq, ConnectReq}
+use Rattle.addresses.specs.declared.header.PduType.the-variants.{AdvInd, AdvDirectInd, ScanReq, ConnectReq}
 use Rattle.channels.specs.Map.{fromRaw}
 use Rattle.octets.specs.Bytes.{le}
 use Rattle.octets.specs.declared.error.Error.{Error}
-use Rattle.octets.specs.declared.error.Error.the-variants.{Eof, InvalidLength, InvalidValue}
+use Rattle.octets.specs.declared.error.Error.the-variants.{Eof}
 use Rattle.records.specs.Area.{readArea, rewritten}
 use Rattle.records.specs.declared.area.Area.the-variants as area
-use Rattle.advertising.specs.Pdu.{undirectedFigure, directedFigure, connectFigure, accuracyOf, noRequest, noAddress, noData, dataIn, decodedAs, refusedPdu, decodeOf}
+use Rattle.advertising.specs.Pdu.{undirectedFigure, directedFigure, connectFigure, accuracyOf, noRequest, noAddress, noData, dataIn, decodedAs, decodeOf}
 use Rattle.advertising.specs.PduBuf.{headerFor, refusedBuf, builtOf, builtDirected, flagsRecord, payloadOf}
 use Rattle.advertising.specs.declared.pdu.AdvData.{AdvData}
 use Rattle.advertising.specs.declared.pdu.Decoded.{Decoded}
@@ -99,23 +98,13 @@ pub record Building : Type 0 where
       → 37 < length (a .bytes ++ flags) + length s
       → builtOf ty a flags s ≡ refusedBuf Eof
 
--- Document 01's rows on PDUs: the two octets of a header, and a payload.
+-- what the two octets of a header and a payload decode to
 abbrev pub row : ℕ → ℕ → List ℕ → Decoded
 row h0 h1 p = decodeOf (headerOf (le (h0 ∷ h1 ∷ []))) p
 
+-- the nine octets of document 01's first rows
 abbrev pub nine : List ℕ
 nine = 0x01 ∷ 0x02 ∷ 0x03 ∷ 0x04 ∷ 0x05 ∷ 0xC6 ∷ 0x02 ∷ 0x01 ∷ 0x06 ∷ []
-
-pub record Rows : Type 0 where
-  pub row-42-09 : row 0x42 0x09 nine
-      ≡ decodedAs Accepted AdvNonconnInd (addressOf (0x01 ∷ 0x02 ∷ 0x03 ∷ 0x04 ∷ 0x05 ∷ 0xC6 ∷ []) Random) noAddress (record { start = 6; len = 3; count = 1 }) noRequest
-  pub row-42-08 : row 0x42 0x08 nine ≡ refusedPdu InvalidLength
-  pub row-07-06 : (a b c d e f : ℕ) → row 0x07 0x06 (a ∷ b ∷ c ∷ d ∷ e ∷ f ∷ []) ≡ refusedPdu InvalidValue
-  pub row-07-05 : (a b c d e f : ℕ) → row 0x07 0x05 (a ∷ b ∷ c ∷ d ∷ e ∷ f ∷ []) ≡ refusedPdu InvalidLength
-  pub row-00-05 : (a b c d e : ℕ) → row 0x00 0x05 (a ∷ b ∷ c ∷ d ∷ e ∷ []) ≡ refusedPdu Eof
-  pub row-00-06 : (a b c d e f : ℕ)
-      → row 0x00 0x06 (a ∷ b ∷ c ∷ d ∷ e ∷ f ∷ [])
-      ≡ decodedAs Accepted AdvInd (addressOf (a ∷ b ∷ c ∷ d ∷ e ∷ f ∷ []) Public) noAddress (record { start = 6; len = 0; count = 0 }) noRequest
 
 -- A connect request of the octets 00 to 21, each field by its number.
 abbrev pub counted : List ℕ

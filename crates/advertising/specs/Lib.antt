@@ -1,3 +1,4 @@
+pub mod Builders
 pub mod Laws
 pub mod Pdu
 pub mod PduBuf
