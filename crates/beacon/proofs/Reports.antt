@@ -99,17 +99,17 @@ module _ (s : BeaconScanner) (h : Header) (p : List ℕ) (crcOk : Bool) (list : 
   f = s .filter .scan
 
   -- what is scanned, by whether there is a list and whether the checks pass
-  abbrev answer : Bool → Bool → Scanned
-  answer l t = cond l (cond t (reportOf (s .channel) (decodeOf h p .pdu)) (unreported report.Nothing (s .channel))) (unreported (report.Refused InvalidValue) (s .channel))
+  abbrev scannedBy : Bool → Bool → Scanned
+  scannedBy l t = cond l (cond t (reportOf (s .channel) (decodeOf h p .pdu)) (unreported report.Nothing (s .channel))) (unreported (report.Refused InvalidValue) (s .channel))
 
   abbrev checked : Bool
   checked = isBeaconPacket h p crcOk && passes f list (decodeOf h p .pdu .sender)
 
-  by-cases : scanned s h p crcOk list ≡ answer (isListFor f list) checked
+  by-cases : scanned s h p crcOk list ≡ scannedBy (isListFor f list) checked
   unfolding scanned
   by-cases = refl
 
-  reported : (l t : Bool) → answer l t .report ≡ report.Beacon → t ≡ true
+  reported : (l t : Bool) → scannedBy l t .report ≡ report.Beacon → t ≡ true
   reported true true e = refl
   reported true false e = let z : _≡_ {A = ℕ} 0 1 = cc in absurd (omega arith)
   reported false t e = let z : _≡_ {A = ℕ} 0 1 = cc in absurd (omega arith)
@@ -139,7 +139,7 @@ module _ (s : BeaconScanner) (h : Header) (p : List ℕ) (crcOk : Bool) (list : 
   unchecked true e fails = absurd (fails (checks e))
   unchecked false e fails = refl
 
-  numbered : (l t : Bool) → reportNumber (answer l t .report) ≡ cond l 0 3
+  numbered : (l t : Bool) → reportNumber (scannedBy l t .report) ≡ cond l 0 3
   numbered true true = refl
   numbered true false = refl
   numbered false t = refl

@@ -2,7 +2,7 @@
 --   Reports       Reports.reports             which packets are reported, and what of them
 --   Scanning      Runs.scanning               the channels and instants of a run of calls
 --   Sends         Broadcasts.sends            what is transmitted and written
---   Refusing      Broadcasts.refusing         which records make no beacon
+--   NoBeacon      Broadcasts.no-beacon        which records make no beacon
 --   Broadcasting  Broadcasts.broadcasting     what is heard of a beacon that was made
 --   Sendable      Broadcasts.sendable         what can be sent whatever the records, after a refusal too
 --   Row           Rows.row                    document 01's row
@@ -98,7 +98,7 @@ pub record Sends (b : Beacon) (tx : List ℕ) : Type 0 where
   pub kept : length tx < length (payloadOf (b .pdu)) → payloadAfter (b .pdu) tx ≡ tx
 
 -- A bad area makes no beacon, refused as its first bad record is; and a good one of more than 31 octets is 1.
-pub record Refusing (a : DeviceAddress) (s : List ℕ) : Type 0 where
+pub record NoBeacon (a : DeviceAddress) (s : List ℕ) : Type 0 where
   pub bad-area : (e : Error) → readArea s ≡ area.Refused e → beaconOf a s .outcome ≡ outcome.Refused e
   pub too-long : (n : ℕ) → length (a .bytes) ≡ 6 → readArea s ≡ area.Accepted n → 31 < length s → beaconOf a s .outcome ≡ outcome.Refused Eof
 
