@@ -77,8 +77,16 @@ sent b = leBytes 2 (b .header .0) ++ payloadOf b
 -- the transmit window's end, of a WinOffset and a WinSize in µs
 abbrev pub endOf : ℕ → ℕ → ℕ
 endOf offset size = windowEnd (record {
-  «access_address» = 0; «crc_init» = 0; «win_size» = size; «win_offset» = offset; interval = 0; latency = 0; timeout = 0;
-  chm = row 0x85 0x22 counted .pdu .lldata .chm; hop = 0; sca = row 0x85 0x22 counted .pdu .lldata .sca;
+  «access_address» = 0;
+  «crc_init» = 0;
+  «win_size» = size;
+  «win_offset» = offset;
+  interval = 0;
+  latency = 0;
+  timeout = 0;
+  chm = row 0x85 0x22 counted .pdu .lldata .chm;
+  hop = 0;
+  sca = row 0x85 0x22 counted .pdu .lldata .sca;
 })
 
 pub record Examples : Type 0 where

@@ -234,12 +234,7 @@ impl Scanned {
 }
 
 // What a packet holds for a scanner without a filter. It is decoded only where its CRC is good and its type a beacon's.
-fn unfiltered(
-    channel: AdvertisingChannel,
-    header: Header,
-    payload: &[u8],
-    crc_ok: bool,
-) -> Scanned
+fn unfiltered(channel: AdvertisingChannel, header: Header, payload: &[u8], crc_ok: bool) -> Scanned
     ensures { λ r. ⌜ r ≡ unfiltered channel header (now (payload .entry)) «crc_ok» ⌝ }
 {
     if crc_ok {
