@@ -1,5 +1,6 @@
 -- The laws of PDUs, each with the theorem of proofs/ that proves it; refusals are in specs/Refusals.antt, what each builder builds in specs/Builders.antt.
 --   Accepting     Accepting.accepting    which headers and payloads are accepted, and what is read of them
+--   RecordArea    Accepting.record-area  where the records of a payload lie
 --   Building      Building.building      what is read of a PDU that was built
 --   Example       Examples.example       a connect request, field by field
 --   Accuracies    Examples.accuracies    the sleep clock accuracies by their codes
@@ -8,7 +9,8 @@ use mathlib.Core.List.{List, [], _∷_, _++_, map, flatten}
 use mathlib.Core.Logic.{_⊎_}
 use mathlib.Core.Path.{_≡_}
 use Prim.Native.Nat.{ℕ, _+_, _*_, _/_, _%_, _≤_, _<_}
-use lib.ListN.{length, getD}
+use lib.ListN.{length, getD, drop}
+use denote.Ref.{RefT, now}
 use Rattle.addresses.specs.Address.{kindOf, isRandom, addressOf}
 use Rattle.addresses.specs.Header.{headerOf, typeOf, txAdd, rxAdd, lengthOf, allowsAdvData}
 use Rattle.addresses.specs.declared.device_address.AddressKind.the-variants.{Public, Random}
@@ -22,7 +24,7 @@ use Rattle.octets.specs.declared.error.Error.{Error}
 use Rattle.octets.specs.declared.error.Error.the-variants.{Eof}
 use Rattle.records.specs.Area.{readArea, rewritten}
 use Rattle.records.specs.declared.area.Area.the-variants as area
-use Rattle.advertising.specs.Pdu.{undirectedFigure, directedFigure, connectFigure, accuracyOf, noRequest, noAddress, noData, dataIn, decodedAs, decodeOf}
+use Rattle.advertising.specs.Pdu.{undirectedFigure, directedFigure, connectFigure, accuracyOf, noRequest, noAddress, noData, dataIn, dataPlace, decodedAs, decodeOf}
 use Rattle.advertising.specs.PduBuf.{headerFor, refusedBuf, builtOf, builtDirected, flagsRecord, payloadOf}
 use Rattle.advertising.specs.declared.pdu.AdvData.{AdvData}
 use Rattle.advertising.specs.declared.pdu.Decoded.{Decoded}
@@ -145,3 +147,8 @@ worstOf Ppm0To20 = 20
 -- The eight codes go from the worst clock to the best (the Core, Vol 6 Part B, 2.3.3.1).
 abbrev pub Accuracies : Type 0
 Accuracies = (code : ℕ) → code < 8 → worstOf (accuracyOf code) ≡ getD (500 ∷ 250 ∷ 150 ∷ 100 ∷ 75 ∷ 50 ∷ 30 ∷ 20 ∷ []) code 0
+
+-- The record area of a PDU that was read is the part of its payload behind the six octets of the address, in its own place.
+pub record RecordArea (h : Header) (p : RefT (List ℕ)) : Type 0 where
+  pub octets : allowsAdvData (typeOf h) ≡ true → decodeOf h (now p) .outcome ≡ Accepted → dataIn (decodeOf h (now p) .pdu .«adv_data») (now p) ≡ drop 6 (now p)
+  pub place : allowsAdvData (typeOf h) ≡ true → decodeOf h (now p) .outcome ≡ Accepted → dataPlace (decodeOf h (now p) .pdu .«adv_data») p ≡ (p .ptr .0, p .ptr .1 + 6)
