@@ -5,6 +5,7 @@ use mathlib.Core.Logic.{inl, inr}
 use mathlib.Core.Path.{_≡_, refl, sym, ap, _∙_}
 use Prim.Native.Nat.{ℕ, zero, suc, _+_, _*_, _/_, _%_, _≤_, _<_}
 use native.Mathlib.Omega.{arith}
+use denote.Ref.{RefT, now}
 use lib.Dec.{eqb, ltb}
 use lib.ListN.{length, getD, take, drop}
 use lib.Seq.{take-length}
@@ -16,7 +17,7 @@ use Rattle.records.specs.declared.area.Area.the-variants as area
 use Rattle.addresses.proofs.Entries.{listed}
 use Rattle.addresses.specs.Address.{kindOf, addressOf}
 use Rattle.addresses.specs.Filter.{any, badKind, isList, matchesOf}
-use Rattle.addresses.specs.Header.{bits, pduType, typeOf, txAdd}
+use Rattle.addresses.specs.Header.{bits, pduType, typeOf, txAdd, allowsAdvData}
 use Rattle.addresses.specs.declared.device_address.DeviceAddress.{DeviceAddress}
 use Rattle.addresses.specs.declared.filter.AddressFilter.{AddressFilter}
 use Rattle.addresses.specs.declared.filter.AddressFilter.the-variants.{AllowAll, Whitelist}
@@ -24,16 +25,15 @@ use Rattle.addresses.specs.declared.filter.Matches.{Matches}
 use Rattle.addresses.specs.declared.filter.Matches.the-variants as matches
 use Rattle.addresses.specs.declared.header.Header.{Header}
 use Rattle.addresses.specs.declared.header.PduType.the-variants.{AdvNonconnInd}
-use Rattle.advertising.proofs.Accepting.{accepting}
+use Rattle.advertising.proofs.Accepting.{accepting, is-accepted, record-area}
 use Rattle.advertising.proofs.Figures.{field-is, behind, long}
 use Rattle.advertising.specs.Laws.{Shaped, with-records, two-addresses, with-lldata}
-use Rattle.advertising.proofs.Accepting.{is-accepted}
-use Rattle.advertising.specs.Pdu.{noAddress, dataIn, isAccepted, decodeOf, wellFormed}
+use Rattle.advertising.specs.Pdu.{noAddress, dataIn, dataPlace, decodeOf, wellFormed}
 use Rattle.advertising.specs.declared.pdu.Decoded.{Decoded}
 use Rattle.advertising.specs.declared.pdu.Outcome.the-variants as outcome
 use Rattle.advertising.specs.declared.pdu.Pdu.{Pdu}
 use Rattle.beacon.specs.Laws as laws
-use Rattle.beacon.specs.Laws.{Lets, Checks, Reports, BadList, Unfiltered}
+use Rattle.beacon.specs.Laws.{Lets, Checks, Reports, Located, BadList, Unfiltered}
 use Rattle.beacon.specs.Scanner.{openScanner, isListFor, isPass, passes, isType2, isBeaconPacket, reportOf, unreported, ofDecoded, unfiltered, scanned, reportNumber}
 use Rattle.beacon.specs.declared.beacon.BeaconScanner.{BeaconScanner}
 use Rattle.beacon.specs.declared.beacon.Report.the-variants as report
@@ -220,3 +220,12 @@ module _ (h : Header) (p : List ℕ) (crcOk : Bool) (list : List ℕ) where
         checked = open-same;
         decoded = λ c type. rw (eq-eqb (bits 0 4 h) 2 type);
       }
+
+pub located : (s : BeaconScanner) (h : Header) (p : RefT (List ℕ)) (crcOk : Bool) (list : List ℕ) → Located s h p crcOk list
+located s h p crcOk list =
+    record {
+      place = λ e.
+          let c = reports s h (now p) crcOk list .sound e in
+          let allows : allowsAdvData (typeOf h) ≡ true = ap allowsAdvData (type-is (bits 0 4 h) (c .type-2)) in
+          ap (λ (x : Scanned). dataPlace (x .«adv_data») p) (complete s h (now p) crcOk list c) ∙ record-area h p .place allows (c .decoding);
+    }

@@ -1,5 +1,6 @@
 -- The laws of beacons and their scanner, each with the theorem of proofs/ that proves it.
 --   Reports       Reports.reports             which packets are reported, and what of them
+--   Located       Reports.located             where a reported beacon's records lie
 --   BadList       Reports.bad-list            which filter lists are refused
 --   Unfiltered    Reports.without-filter      what a scanner without a filter reports
 --   Scanning      Runs.scanning               the channels and instants of a run of calls
@@ -15,6 +16,7 @@ use mathlib.Core.Path.{_≡_}
 use Prim.Native.Nat.{ℕ, zero, suc, _+_, _*_, _/_, _%_, _≤_, _<_}
 use lib.Dec.{eqb}
 use lib.ListN.{length, getD, take, drop}
+use denote.Ref.{RefT, now}
 use Rattle.octets.specs.Bytes.{le}
 use Rattle.octets.specs.Time.{later}
 use Rattle.octets.specs.declared.error.Error.{Error}
@@ -38,7 +40,7 @@ use Rattle.addresses.specs.declared.filter.AddressFilter.the-variants.{AllowAll
 use Rattle.addresses.specs.declared.header.Header.{Header}
 use Rattle.addresses.specs.declared.header.PduType.the-variants.{AdvNonconnInd}
 use Rattle.advertising.specs.Laws.{nine}
-use Rattle.advertising.specs.Pdu.{noRequest, noAddress, noData, dataIn, decodedAs, decodeOf}
+use Rattle.advertising.specs.Pdu.{noRequest, noAddress, noData, dataIn, dataPlace, decodedAs, decodeOf}
 use Rattle.advertising.specs.PduBuf.{headerFor, payloadOf, payloadAfter}
 use Rattle.advertising.specs.declared.pdu.AdvData.{AdvData}
 use Rattle.advertising.specs.declared.pdu.Outcome.the-variants as outcome
@@ -80,6 +82,10 @@ pub record Reports (s : BeaconScanner) (h : Header) (p : List ℕ) (crcOk : Bool
   pub records : scanned s h p crcOk list .report ≡ report.Beacon → dataIn (scanned s h p crcOk list .«adv_data») p ≡ drop 6 p
   pub number-of-records : scanned s h p crcOk list .report ≡ report.Beacon
       → readArea (drop 6 p) ≡ area.Accepted (scanned s h p crcOk list .«adv_data» .count)
+
+-- The record area of a reported beacon is the part of its payload behind the address, in its own place.
+pub record Located (s : BeaconScanner) (h : Header) (p : RefT (List ℕ)) (crcOk : Bool) (list : List ℕ) : Type 0 where
+  pub place : scanned s h (now p) crcOk list .report ≡ report.Beacon → dataPlace (scanned s h (now p) crcOk list .«adv_data») p ≡ (p .ptr .0, p .ptr .1 + 6)
 
 -- "filter list not a multiple of 7, or kind above 1": 3, whatever the packet; no other list is refused, and none where there is no filter.
 pub record BadList (s : BeaconScanner) (h : Header) (p : List ℕ) (crcOk : Bool) (list : List ℕ) : Type 0 where
