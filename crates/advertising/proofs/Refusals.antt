@@ -22,7 +22,7 @@ use Rattle.records.specs.Record.{named, first, flagsRead, dataRead, upTo, recor
 use Rattle.records.specs.declared.area.Area.{Area}
 use Rattle.records.specs.declared.area.Area.the-variants as area
 use Rattle.advertising.specs.Pdu.{outcomeNumber, requestOf, withArea, undirected, directed, connectRequest, byType, decodeOf}
-use Rattle.advertising.specs.Refusals.{numberFor, needed, OneOf, Order, FromBytes, Rows}
+use Rattle.advertising.specs.Refusals.{numberFor, needed, Among, Order, FromBytes, Rows}
 use Rattle.advertising.specs.declared.pdu.Decoded.{Decoded}
 use Rattle.advertising.proofs.Accepting.{arm-undirected}
 
@@ -90,7 +90,7 @@ module _ (n : ℕ) (p : List ℕ) where
     named : pduType code ≡ type
     allows : allowsAdvData type ≡ true
 
-  has-records : OneOf (n % 16) (0 ∷ 2 ∷ 4 ∷ 6 ∷ []) → HasRecords
+  has-records : Among (n % 16) (0 ∷ 2 ∷ 4 ∷ 6 ∷ []) → HasRecords
   has-records (inl e) = record { code = 0; type = AdvInd; is = e; named = codes .code-0; allows = refl }
   has-records (inr (inl e)) = record { code = 2; type = AdvNonconnInd; is = e; named = codes .code-2; allows = refl }
   has-records (inr (inr (inl e))) = record { code = 4; type = ScanRsp; is = e; named = codes .code-4; allows = refl }
@@ -98,7 +98,7 @@ module _ (n : ℕ) (p : List ℕ) where
   has-records (inr (inr (inr (inr none)))) = absurd none
 
   -- what an area that reads so comes to
-  of-area : (k : ℕ) (a : Area) → n / 256 % 64 ≡ length p → OneOf (n % 16) (0 ∷ 2 ∷ 4 ∷ 6 ∷ []) → 6 ≤ length p → readArea (drop 6 p) ≡ a
+  of-area : (k : ℕ) (a : Area) → n / 256 % 64 ≡ length p → Among (n % 16) (0 ∷ 2 ∷ 4 ∷ 6 ∷ []) → 6 ≤ length p → readArea (drop 6 p) ≡ a
       → ((ty : PduType) → outcomeNumber (withArea ty h p a .outcome) ≡ k) → numberFor n p ≡ k
   unfolding undirected
   of-area k a counts which enough reads number =
@@ -109,7 +109,7 @@ module _ (n : ℕ) (p : List ℕ) where
       area-is : (ty : PduType) → undirected ty h p ≡ withArea ty h p a
       area-is ty = rw (le-ltb (length p) 6 enough, reads)
 
-  further : n / 256 % 64 ≡ length p → OneOf (n % 16) (1 ∷ 3 ∷ 5 ∷ []) → getD needed (n % 16) 0 ≤ length p → numberFor n p ≡ 0
+  further : n / 256 % 64 ≡ length p → Among (n % 16) (1 ∷ 3 ∷ 5 ∷ []) → getD needed (n % 16) 0 ≤ length p → numberFor n p ≡ 0
   unfolding byType directed connectRequest
   further counts (inl e) long = by 1 AdvDirectInd 0 counts e (codes .code-1) (let size : 12 ≤ length p = rw e at long in rw (le-ltb (length p) 12 size))
   further counts (inr (inl e)) long = by 3 ScanReq 0 counts e (codes .code-3) (let size : 12 ≤ length p = rw e at long in rw (le-ltb (length p) 12 size))

@@ -29,9 +29,9 @@ numberFor n p = outcomeNumber (decodeOf (headerOf n) p .outcome)
 abbrev pub needed : List ℕ
 needed = 6 ∷ 12 ∷ 6 ∷ 12 ∷ 6 ∷ 34 ∷ 6 ∷ []
 
-abbrev pub OneOf : ℕ → List ℕ → Type 0
-OneOf c [] = ⊥
-OneOf c (x ∷ xs) = (c ≡ x) ⊎ OneOf c xs
+abbrev pub Among : ℕ → List ℕ → Type 0
+Among c [] = ⊥
+Among c (x ∷ xs) = (c ≡ x) ⊎ Among c xs
 
 -- "Header bits 0-3 type, .. 8-13 length"
 pub record Order (n : ℕ) (p : List ℕ) : Type 0 where
@@ -42,10 +42,10 @@ pub record Order (n : ℕ) (p : List ℕ) : Type 0 where
   -- the type is 0 to 6, and its fields need more octets: 1
   pub by-fields : n / 256 % 64 ≡ length p → n % 16 ≤ 6 → length p < getD needed (n % 16) 0 → numberFor n p ≡ 1
   -- an address and records: these decide
-  pub by-records : (e : Error) → n / 256 % 64 ≡ length p → OneOf (n % 16) (0 ∷ 2 ∷ 4 ∷ 6 ∷ []) → 6 ≤ length p → readArea (drop 6 p) ≡ area.Refused e → numberFor n p ≡ numberOf e
-  pub with-records : (k : ℕ) → n / 256 % 64 ≡ length p → OneOf (n % 16) (0 ∷ 2 ∷ 4 ∷ 6 ∷ []) → 6 ≤ length p → readArea (drop 6 p) ≡ area.Accepted k → numberFor n p ≡ 0
+  pub by-records : (e : Error) → n / 256 % 64 ≡ length p → Among (n % 16) (0 ∷ 2 ∷ 4 ∷ 6 ∷ []) → 6 ≤ length p → readArea (drop 6 p) ≡ area.Refused e → numberFor n p ≡ numberOf e
+  pub with-records : (k : ℕ) → n / 256 % 64 ≡ length p → Among (n % 16) (0 ∷ 2 ∷ 4 ∷ 6 ∷ []) → 6 ≤ length p → readArea (drop 6 p) ≡ area.Accepted k → numberFor n p ≡ 0
   -- "for 1, 3 and 5 further octets are accepted"
-  pub others : n / 256 % 64 ≡ length p → OneOf (n % 16) (1 ∷ 3 ∷ 5 ∷ []) → getD needed (n % 16) 0 ≤ length p → numberFor n p ≡ 0
+  pub others : n / 256 % 64 ≡ length p → Among (n % 16) (1 ∷ 3 ∷ 5 ∷ []) → getD needed (n % 16) 0 ≤ length p → numberFor n p ≡ 0
 
 abbrev pub readFrom : List ℕ → ℕ → Decoded
 readFrom s at = decodedAt (headerRead (u16Read s at)) s
