@@ -20,8 +20,8 @@ unfolding decodeOf byType undirected withArea pduType readArea areaOf reads befo
 nine-decoded = refl
 
 pub example : Example
-unfolding decodeOf byType connectRequest requestOf pduType
-example = record { connect-request = refl }
+unfolding decodeOf byType undirected withArea connectRequest requestOf pduType readArea areaOf reads cut
+example = record { connect-request = refl; no-receiver = refl; no-lldata = refl; no-records = refl; refused = refl }
 
 pub accuracies : Accuracies
 accuracies zero h = refl

@@ -2,14 +2,14 @@
 --   Accepting     Accepting.accepting    which headers and payloads are accepted, and what is read of them
 --   RecordArea    Accepting.record-area  where the records of a payload lie
 --   Building      Building.building      what is read of a PDU that was built
---   Example       Examples.example       a connect request, field by field
+--   Example       Examples.example       a connect request, field by field, and what a type lacks
 --   Accuracies    Examples.accuracies    the sleep clock accuracies by their codes
 use mathlib.Core.Bool.{true, false}
 use mathlib.Core.List.{List, [], _∷_, _++_, map, flatten}
 use mathlib.Core.Logic.{_⊎_}
 use mathlib.Core.Path.{_≡_}
 use Prim.Native.Nat.{ℕ, _+_, _*_, _/_, _%_, _≤_, _<_}
-use lib.ListN.{length, getD, drop}
+use lib.ListN.{length, getD, take, drop}
 use denote.Ref.{RefT, now}
 use Rattle.addresses.specs.Address.{kindOf, isRandom, addressOf}
 use Rattle.addresses.specs.Header.{headerOf, typeOf, txAdd, rxAdd, lengthOf, allowsAdvData}
@@ -17,7 +17,7 @@ use Rattle.addresses.specs.declared.device_address.AddressKind.the-variants.{Pu
 use Rattle.addresses.specs.declared.device_address.DeviceAddress.{DeviceAddress}
 use Rattle.addresses.specs.declared.header.Header.{Header}
 use Rattle.addresses.specs.declared.header.PduType.{PduType}
-use Rattle.addresses.specs.declared.header.PduType.the-variants.{AdvInd, AdvDirectInd, ScanReq, ConnectReq}
+use Rattle.addresses.specs.declared.header.PduType.the-variants.{AdvInd, AdvDirectInd, ScanReq, ConnectReq, Unknown}
 use Rattle.channels.specs.Map.{fromRaw}
 use Rattle.octets.specs.Bytes.{le}
 use Rattle.octets.specs.declared.error.Error.{Error}
@@ -132,6 +132,23 @@ pub record Example : Type 0 where
         hop = 1;
         sca = Ppm151To250;
       })
+  -- what a type lacks is zero, and so is all of a refused PDU, whose type is none
+  pub no-receiver : row 0x02 0x06 (take 6 nine) .pdu .receiver ≡ addressOf (0 ∷ 0 ∷ 0 ∷ 0 ∷ 0 ∷ 0 ∷ []) Public
+  pub no-lldata : row 0x02 0x06 (take 6 nine) .pdu .lldata
+      ≡ record {
+        «access_address» = 0;
+        «crc_init» = 0;
+        «win_size» = 0;
+        «win_offset» = 0;
+        interval = 0;
+        latency = 0;
+        timeout = 0;
+        chm = fromRaw (0 ∷ 0 ∷ 0 ∷ 0 ∷ 0 ∷ []);
+        hop = 0;
+        sca = Ppm251To500;
+      }
+  pub no-records : row 0x85 0x22 counted .pdu .«adv_data» ≡ record { start = 0; len = 0; count = 0 }
+  pub refused : row 0x02 0x05 (take 5 nine) .pdu ≡ record { ty = Unknown 15; sender = noAddress; receiver = noAddress; «adv_data» = noData; lldata = noRequest }
 
 -- the worst clock of an accuracy, in ppm
 abbrev pub worstOf : SleepClockAccuracy → ℕ

@@ -27,5 +27,6 @@ examples =
       numbers = refl;
       reported = refl;
       channels = refl;
+      unconfigured = refl;
       instants = refl;
     }

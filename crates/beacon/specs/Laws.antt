@@ -192,6 +192,7 @@ pub record Examples : Type 0 where
   pub all-pass : scanned openScanner (headerOf 0x0942) nine true [] .report ≡ report.Beacon
   pub numbers : map reportNumber (report.Beacon ∷ report.Nothing ∷ report.Refused InvalidValue ∷ []) ≡ 0 ∷ 0 ∷ 3 ∷ []
   pub reported : map isReport (report.Beacon ∷ report.Nothing ∷ report.Refused InvalidValue ∷ []) ≡ true ∷ false ∷ false ∷ []
-  -- the first calls of a run; instants are counted modulo 2^32, here from 2^32 - 500 on
+  -- the first calls of a run, and an update before it; instants are counted modulo 2^32, here from 2^32 - 500 on
   pub channels : map (λ (k : ℕ). indexOf (run openScanner 1000 (λ j. record { 0 = 0 }) k .cmd .channel)) (0 ∷ 1 ∷ 2 ∷ 3 ∷ []) ≡ 37 ∷ 38 ∷ 39 ∷ 37 ∷ []
+  pub unconfigured : timerUpdated openScanner (record { 0 = 77 }) .cmd ≡ record { channel = Channel38; «next_update» = record { 0 = 77 } }
   pub instants : map (λ (k : ℕ). run openScanner 1000 (λ j. record { 0 = 4294966796 + 100 * j }) k .cmd .«next_update» .0) (0 ∷ 1 ∷ []) ≡ 500 ∷ 600 ∷ []
