@@ -1,12 +1,13 @@
--- A header and a payload are accepted exactly if they have a shape of the Core: `accepting`. Assumes nothing.
+-- A header and a payload are accepted exactly if they have a shape of the Core: `accepting`; where the records then lie: `record-area`. Assumes nothing.
 use mathlib.Core.Bool.{Bool, true, false, cond}
-use mathlib.Core.List.{List, [], _∷_}
+use mathlib.Core.List.{List, [], _∷_, _++_, flatten, append-nil}
 use mathlib.Core.Logic.{_⊎_, inl, inr}
-use mathlib.Core.Path.{_≡_, refl, sym, _∙_}
-use Prim.Native.Nat.{ℕ, _-_, _≤_, _*_, _/_, _%_}
+use mathlib.Core.Path.{_≡_, refl, sym, ap, subst, _∙_}
+use Prim.Native.Nat.{ℕ, _+_, _-_, _≤_, _*_, _/_, _%_}
 use native.Mathlib.Omega.{arith}
 use lib.Dec.{eqb, ltb}
-use lib.ListN.{length, drop, length-drop}
+use lib.ListN.{length, getD, drop, length-drop}
+use denote.Ref.{RefT, now}
 use borrow.Author.Tests.{eq-eqb, eqb-true, le-ltb, ltb-false}
 use Rattle.addresses.specs.Address.{kindOf, addressOf}
 use Rattle.addresses.specs.Header.{typeOf, txAdd, rxAdd, lengthOf, allowsAdvData}
@@ -14,14 +15,16 @@ use Rattle.addresses.specs.declared.header.Header.{Header}
 use Rattle.addresses.specs.declared.header.PduType.{PduType}
 use Rattle.addresses.specs.declared.header.PduType.the-variants.{AdvInd, AdvDirectInd, AdvNonconnInd, AdvScanInd, ScanReq, ScanRsp, ConnectReq, Unknown}
 use Rattle.channels.specs.Map.{fromRaw}
-use Rattle.octets.specs.Bytes.{part, le}
+use Rattle.octets.proofs.PartOf.{part-is}
+use Rattle.octets.specs.Bytes.{part, partOr, partPlace, le}
 use Rattle.octets.specs.declared.error.Error.{Error}
 use Rattle.octets.specs.declared.error.Error.the-variants.{Eof, InvalidLength}
 use Rattle.records.specs.Area.{readArea}
 use Rattle.records.specs.declared.area.Area.{Area}
 use Rattle.records.specs.declared.area.Area.the-variants as area
-use Rattle.advertising.specs.Laws.{Figure, Shaped, with-records, two-addresses, with-lldata, Accepting}
-use Rattle.advertising.specs.Pdu.{undirectedFigure, directedFigure, connectFigure, accuracyOf, requestOf, noRequest, noAddress, noData, senderOf, receiverOf, isAccepted, decodedAs, refusedPdu, withArea, undirected, directed, connectRequest, byType, decodeOf}
+use Rattle.advertising.specs.Laws.{Figure, Shaped, with-records, two-addresses, with-lldata, Accepting, RecordArea}
+use Rattle.advertising.specs.Pdu.{undirectedFigure, directedFigure, connectFigure, accuracyOf, requestOf, noRequest, noAddress, noData, senderOf, receiverOf, dataIn, dataPlace, isAccepted, decodedAs, refusedPdu, withArea, undirected, directed, connectRequest, byType, decodeOf}
+use Rattle.advertising.specs.declared.pdu.AdvData.{AdvData}
 use Rattle.advertising.specs.declared.pdu.Decoded.{Decoded}
 use Rattle.advertising.specs.declared.pdu.Outcome.{Outcome}
 use Rattle.advertising.specs.declared.pdu.Outcome.the-variants.{Accepted, Refused}
@@ -153,3 +156,40 @@ accepting h p =
           (eqb-true (lengthOf h) (length p) same, rw same (by-type h p (typeOf h) refl (rw same at ok)));
       complete = complete h p;
     }
+
+module _ (h : Header) (p : RefT (List ℕ)) where
+  -- the records of a payload, and their place
+  record Lies (d : AdvData) : Type 0 where
+    octets : dataIn d (now p) ≡ drop 6 (now p)
+    place : dataPlace d p ≡ (p .ptr .0, p .ptr .1 + 6)
+
+  lies : (d : Decoded) → allowsAdvData (typeOf h) ≡ true → Shaped h (now p) d → Lies (d .pdu .«adv_data»)
+  unfolding flatten
+  lies d allows (with-records ty advA records n is allowed fig good e) =
+      let size : length advA ≡ 6 = ap (λ (l : List ℕ). getD l 0 0) (fig .sizes) in
+      let tiles : now p ≡ advA ++ (records ++ []) = fig .tiles ∙ rw (append-nil advA, append-nil records) in
+      let part = part-is p .there advA records [] tiles in
+      let at : AdvData = record { start = 6; len = length records; count = n } in
+      subst Lies (ap (λ (x : Decoded). x .pdu .«adv_data») (sym e)) (record {
+        octets = ap (λ (k : ℕ). partOr (length records) (now p) k) (sym size) ∙ part .0 ∙ sym (behind fig);
+        place = ap (λ (k : ℕ). partPlace (length records) p k) (sym size) ∙ part .1 ∙ ap (λ (k : ℕ). (p .ptr .0, p .ptr .1 + k)) size;
+      })
+  lies d allows (two-addresses ty first second further is (inl which) fig e) =
+      let none : allowsAdvData AdvDirectInd ≡ true = ap allowsAdvData (sym (is ∙ which)) ∙ allows in
+      let z : _≡_ {A = ℕ} 0 1 = cc in
+      absurd (omega arith)
+  lies d allows (two-addresses ty first second further is (inr which) fig e) =
+      let none : allowsAdvData ScanReq ≡ true = ap allowsAdvData (sym (is ∙ which)) ∙ allows in
+      let z : _≡_ {A = ℕ} 0 1 = cc in
+      absurd (omega arith)
+  lies d allows (with-lldata initA advA aa crcInit winSize winOffset interval latency timeout chM hopSca further is fig e) =
+      let none : allowsAdvData ConnectReq ≡ true = ap allowsAdvData (sym is) ∙ allows in
+      let z : _≡_ {A = ℕ} 0 1 = cc in
+      absurd (omega arith)
+
+  pub record-area : RecordArea h p
+  record-area =
+      record {
+        octets = λ allows ok. lies (decodeOf h (now p)) allows (accepting h (now p) .sound ok .1) .octets;
+        place = λ allows ok. lies (decodeOf h (now p)) allows (accepting h (now p) .sound ok .1) .place;
+      }

@@ -98,7 +98,7 @@ payload-back ty tx rx xs code fits =
 too-small : (n m : ℕ) (x y : Built) → n < m → cond (ltb n m) x y ≡ x
 too-small n m x y h = rw (lt-ltb n m h)
 
-enough-space : (n m : ℕ) (x y : Built) → m ≤ n → cond (ltb n m) x y ≡ y
+pub enough-space : (n m : ℕ) (x y : Built) → m ≤ n → cond (ltb n m) x y ≡ y
 enough-space n m x y h = rw (le-ltb n m h)
 
 -- an address, and records of which n are read

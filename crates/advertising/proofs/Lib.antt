@@ -1,5 +1,7 @@
 pub mod Accepting
 pub mod Buffers
+pub mod Builders
 pub mod Building
+pub mod Examples
 pub mod Figures
-pub mod Rows
+pub mod Refusals

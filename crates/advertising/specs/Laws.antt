@@ -1,29 +1,30 @@
--- The laws of PDUs, each with the theorem of proofs/ that proves it.
+-- The laws of PDUs, each with the theorem of proofs/ that proves it; refusals are in specs/Refusals.antt, what each builder builds in specs/Builders.antt.
 --   Accepting     Accepting.accepting    which headers and payloads are accepted, and what is read of them
+--   RecordArea    Accepting.record-area  where the records of a payload lie
 --   Building      Building.building      what is read of a PDU that was built
---   Rows          Rows.rows              document 01's rows
---   Example       Rows.example           a connect request, field by field
---   Accuracies    Rows.accuracies        the sleep clock accuracies by their codes
+--   Example       Examples.example       a connect request, field by field, and what a type lacks
+--   Accuracies    Examples.accuracies    the sleep clock accuracies by their codes
 use mathlib.Core.Bool.{true, false}
 use mathlib.Core.List.{List, [], _∷_, _++_, map, flatten}
 use mathlib.Core.Logic.{_⊎_}
 use mathlib.Core.Path.{_≡_}
 use Prim.Native.Nat.{ℕ, _+_, _*_, _/_, _%_, _≤_, _<_}
-use lib.ListN.{length, getD}
+use lib.ListN.{length, getD, take, drop}
+use denote.Ref.{RefT, now}
 use Rattle.addresses.specs.Address.{kindOf, isRandom, addressOf}
 use Rattle.addresses.specs.Header.{headerOf, typeOf, txAdd, rxAdd, lengthOf, allowsAdvData}
 use Rattle.addresses.specs.declared.device_address.AddressKind.the-variants.{Public, Random}
 use Rattle.addresses.specs.declared.device_address.DeviceAddress.{DeviceAddress}
 use Rattle.addresses.specs.declared.header.Header.{Header}
 use Rattle.addresses.specs.declared.header.PduType.{PduType}
-use Rattle.addresses.specs.declared.header.PduType.the-variants.{AdvInd, AdvDirectInd, AdvNonconnInd, ScanReq, ConnectReq}
+use Rattle.addresses.specs.declared.header.PduType.the-variants.{AdvInd, AdvDirectInd, ScanReq, ConnectReq, Unknown}
 use Rattle.channels.specs.Map.{fromRaw}
 use Rattle.octets.specs.Bytes.{le}
 use Rattle.octets.specs.declared.error.Error.{Error}
-use Rattle.octets.specs.declared.error.Error.the-variants.{Eof, InvalidLength, InvalidValue}
+use Rattle.octets.specs.declared.error.Error.the-variants.{Eof}
 use Rattle.records.specs.Area.{readArea, rewritten}
 use Rattle.records.specs.declared.area.Area.the-variants as area
-use Rattle.advertising.specs.Pdu.{undirectedFigure, directedFigure, connectFigure, accuracyOf, noRequest, noAddress, noData, dataIn, decodedAs, refusedPdu, decodeOf}
+use Rattle.advertising.specs.Pdu.{undirectedFigure, directedFigure, connectFigure, accuracyOf, noRequest, noAddress, noData, dataIn, dataPlace, decodedAs, decodeOf}
 use Rattle.advertising.specs.PduBuf.{headerFor, refusedBuf, builtOf, builtDirected, flagsRecord, payloadOf}
 use Rattle.advertising.specs.declared.pdu.AdvData.{AdvData}
 use Rattle.advertising.specs.declared.pdu.Decoded.{Decoded}
@@ -99,23 +100,13 @@ pub record Building : Type 0 where
       → 37 < length (a .bytes ++ flags) + length s
       → builtOf ty a flags s ≡ refusedBuf Eof
 
--- Document 01's rows on PDUs: the two octets of a header, and a payload.
+-- what the two octets of a header and a payload decode to
 abbrev pub row : ℕ → ℕ → List ℕ → Decoded
 row h0 h1 p = decodeOf (headerOf (le (h0 ∷ h1 ∷ []))) p
 
+-- the nine octets of document 01's first rows
 abbrev pub nine : List ℕ
 nine = 0x01 ∷ 0x02 ∷ 0x03 ∷ 0x04 ∷ 0x05 ∷ 0xC6 ∷ 0x02 ∷ 0x01 ∷ 0x06 ∷ []
-
-pub record Rows : Type 0 where
-  pub row-42-09 : row 0x42 0x09 nine
-      ≡ decodedAs Accepted AdvNonconnInd (addressOf (0x01 ∷ 0x02 ∷ 0x03 ∷ 0x04 ∷ 0x05 ∷ 0xC6 ∷ []) Random) noAddress (record { start = 6; len = 3; count = 1 }) noRequest
-  pub row-42-08 : row 0x42 0x08 nine ≡ refusedPdu InvalidLength
-  pub row-07-06 : (a b c d e f : ℕ) → row 0x07 0x06 (a ∷ b ∷ c ∷ d ∷ e ∷ f ∷ []) ≡ refusedPdu InvalidValue
-  pub row-07-05 : (a b c d e f : ℕ) → row 0x07 0x05 (a ∷ b ∷ c ∷ d ∷ e ∷ f ∷ []) ≡ refusedPdu InvalidLength
-  pub row-00-05 : (a b c d e : ℕ) → row 0x00 0x05 (a ∷ b ∷ c ∷ d ∷ e ∷ []) ≡ refusedPdu Eof
-  pub row-00-06 : (a b c d e f : ℕ)
-      → row 0x00 0x06 (a ∷ b ∷ c ∷ d ∷ e ∷ f ∷ [])
-      ≡ decodedAs Accepted AdvInd (addressOf (a ∷ b ∷ c ∷ d ∷ e ∷ f ∷ []) Public) noAddress (record { start = 6; len = 0; count = 0 }) noRequest
 
 -- A connect request of the octets 00 to 21, each field by its number.
 abbrev pub counted : List ℕ
@@ -141,6 +132,23 @@ pub record Example : Type 0 where
         hop = 1;
         sca = Ppm151To250;
       })
+  -- what a type lacks is zero, and so is all of a refused PDU, whose type is none
+  pub no-receiver : row 0x02 0x06 (take 6 nine) .pdu .receiver ≡ addressOf (0 ∷ 0 ∷ 0 ∷ 0 ∷ 0 ∷ 0 ∷ []) Public
+  pub no-lldata : row 0x02 0x06 (take 6 nine) .pdu .lldata
+      ≡ record {
+        «access_address» = 0;
+        «crc_init» = 0;
+        «win_size» = 0;
+        «win_offset» = 0;
+        interval = 0;
+        latency = 0;
+        timeout = 0;
+        chm = fromRaw (0 ∷ 0 ∷ 0 ∷ 0 ∷ 0 ∷ []);
+        hop = 0;
+        sca = Ppm251To500;
+      }
+  pub no-records : row 0x85 0x22 counted .pdu .«adv_data» ≡ record { start = 0; len = 0; count = 0 }
+  pub refused : row 0x02 0x05 (take 5 nine) .pdu ≡ record { ty = Unknown 15; sender = noAddress; receiver = noAddress; «adv_data» = noData; lldata = noRequest }
 
 -- the worst clock of an accuracy, in ppm
 abbrev pub worstOf : SleepClockAccuracy → ℕ
@@ -156,3 +164,8 @@ worstOf Ppm0To20 = 20
 -- The eight codes go from the worst clock to the best (the Core, Vol 6 Part B, 2.3.3.1).
 abbrev pub Accuracies : Type 0
 Accuracies = (code : ℕ) → code < 8 → worstOf (accuracyOf code) ≡ getD (500 ∷ 250 ∷ 150 ∷ 100 ∷ 75 ∷ 50 ∷ 30 ∷ 20 ∷ []) code 0
+
+-- The record area of a PDU that was read is the part of its payload behind the six octets of the address, in its own place.
+pub record RecordArea (h : Header) (p : RefT (List ℕ)) : Type 0 where
+  pub octets : allowsAdvData (typeOf h) ≡ true → decodeOf h (now p) .outcome ≡ Accepted → dataIn (decodeOf h (now p) .pdu .«adv_data») (now p) ≡ drop 6 (now p)
+  pub place : allowsAdvData (typeOf h) ≡ true → decodeOf h (now p) .outcome ≡ Accepted → dataPlace (decodeOf h (now p) .pdu .«adv_data») p ≡ (p .ptr .0, p .ptr .1 + 6)

@@ -1,3 +1,5 @@
+pub mod Builders
 pub mod Laws
 pub mod Pdu
 pub mod PduBuf
+pub mod Refusals

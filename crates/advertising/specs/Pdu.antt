@@ -14,7 +14,7 @@
 --   windowEnd d               == the end of the transmit window, from the end of a request with these data
 --   senderOf h p, receiverOf h p   == the first and the second address
 --   hasReceiver ty            == a type with a second address
---   dataIn d p                == the part of a payload where records lie
+--   dataIn d p                == the part of a payload where records lie, and dataPlace d p where that part lies
 --   isAccepted o              == an outcome that is no refusal; outcomeNumber o: its number in document 01, 0 where it is none
 --   decodedAs o ty s r d l    == an answer, with all that it says
 --   refusedPdu e              == the refusal e, with an empty PDU
@@ -26,8 +26,9 @@ use mathlib.Core.List.{List, [], _∷_}
 use Prim.Native.Nat.{ℕ, _+_, _-_, _*_, _/_, _%_}
 use lib.Dec.{eqb, ltb}
 use lib.ListN.{length, getD, take, drop}
+use denote.Ref.{RefT}
 use Rattle.channels.specs.Map.{fromRaw}
-use Rattle.octets.specs.Bytes.{part, partOr, le}
+use Rattle.octets.specs.Bytes.{part, partOr, partPlace, le}
 use Rattle.octets.specs.Error.{numberOf}
 use Rattle.octets.specs.Time.{later}
 use Rattle.octets.specs.declared.error.Error.{Error}
@@ -139,6 +140,9 @@ hasReceiver (Unknown n) = false
 
 abbrev pub dataIn : AdvData → List ℕ → List ℕ
 dataIn d p = partOr (d .len) p (d .start)
+
+abbrev pub dataPlace : AdvData → RefT (List ℕ) → ℕ × ℕ
+dataPlace d p = partPlace (d .len) p (d .start)
 
 abbrev pub isAccepted : Outcome → Bool
 isAccepted Accepted = true

@@ -6,6 +6,7 @@
 --   refusedBuf e              == the refusal e, with that
 --   withRecords ty tx front s == the PDU whose payload is `front` and the records of s, read and written again
 --   builtOf ty a flags s      == the PDU of the address a, the record `flags` if there is one, and the records of s
+--   connectablePdu, nonconnectablePdu, scannablePdu, beaconPdu, discoverablePdu, scanResponsePdu a s == what each builder builds
 --   builtDirected a b         == the PDU of two addresses
 --   payloadOf b               == the payload of a PDU
 --   payloadTo b out, payloadAfter b out == what copying it to the front of `out` answers, and what `out` then holds
@@ -26,7 +27,7 @@ use Rattle.addresses.specs.Header.{headerOf, typeCode, lengthOf, setTxAdd, setR
 use Rattle.addresses.specs.declared.device_address.DeviceAddress.{DeviceAddress}
 use Rattle.addresses.specs.declared.header.Header.{Header}
 use Rattle.addresses.specs.declared.header.PduType.{PduType}
-use Rattle.addresses.specs.declared.header.PduType.the-variants.{AdvDirectInd}
+use Rattle.addresses.specs.declared.header.PduType.the-variants.{AdvInd, AdvDirectInd, AdvNonconnInd, AdvScanInd, ScanRsp}
 use Rattle.advertising.specs.declared.pdu.Outcome.the-variants.{Accepted, Refused}
 use Rattle.advertising.specs.declared.pdu_buf.Built.{Built}
 use Rattle.advertising.specs.declared.pdu_buf.PduBuf.{PduBuf}
@@ -61,6 +62,25 @@ builtOf ty a flags s = withRecords ty (isRandom (a .kind)) (a .bytes ++ flags) s
 -- general discoverable mode, BR/EDR not supported (the Supplement, Part A, 1.3)
 abbrev pub flagsRecord : List ℕ
 flagsRecord = 0x02 ∷ 0x01 ∷ 0x06 ∷ []
+
+-- the builders' types (document 01: 0 ADV_IND, 2 ADV_NONCONN_IND, 4 SCAN_RSP, 6 ADV_SCAN_IND)
+abbrev pub connectablePdu : DeviceAddress → List ℕ → Built
+connectablePdu a s = builtOf AdvInd a [] s
+
+abbrev pub nonconnectablePdu : DeviceAddress → List ℕ → Built
+nonconnectablePdu a s = builtOf AdvNonconnInd a [] s
+
+abbrev pub scannablePdu : DeviceAddress → List ℕ → Built
+scannablePdu a s = builtOf AdvScanInd a [] s
+
+abbrev pub beaconPdu : DeviceAddress → List ℕ → Built
+beaconPdu a s = nonconnectablePdu a s
+
+abbrev pub discoverablePdu : DeviceAddress → List ℕ → Built
+discoverablePdu a s = builtOf AdvInd a flagsRecord s
+
+abbrev pub scanResponsePdu : DeviceAddress → List ℕ → Built
+scanResponsePdu a s = builtOf ScanRsp a [] s
 
 abbrev pub builtDirected : DeviceAddress → DeviceAddress → PduBuf
 builtDirected a b = bufOf AdvDirectInd (isRandom (a .kind)) (isRandom (b .kind)) (a .bytes ++ b .bytes)

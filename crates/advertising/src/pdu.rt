@@ -5,7 +5,7 @@ ghost use lib.ListN.{length};
 ghost use Rattle.octets.specs.Bytes.{part, le, u16Read};
 ghost use Rattle.addresses.specs.Header.{headerRead};
 ghost use Rattle.addresses.specs.Address.{kindOf, addressOf};
-ghost use Rattle.advertising.specs.Pdu.{accuracyOf, requestOf, noRequest, noAddress, noData, windowEnd, hasReceiver, dataIn, outcomeNumber, decodedAs, refusedPdu, undirected, directed, connectRequest, decodeOf, decodedAt};
+ghost use Rattle.advertising.specs.Pdu.{accuracyOf, requestOf, noRequest, noAddress, noData, windowEnd, hasReceiver, dataIn, dataPlace, outcomeNumber, decodedAs, refusedPdu, undirected, directed, connectRequest, decodeOf, decodedAt};
 use addresses::device_address::AddressKind;
 use addresses::device_address::DeviceAddress;
 use addresses::header::Header;
@@ -41,9 +41,9 @@ pub struct AdvData {
 }
 
 impl AdvData {
-    // The records as a part of the payload: no octets where the payload has no such part.
+    // The records as that part of the payload: no octets, at its start, where it has no such part.
     pub fn within(self, payload: &[u8]) -> &[u8]
-        ensures { λ r. ⌜ now r ≡ dataIn self (now (payload .entry)) ⌝ }
+        ensures { λ r. ⌜ (r .ptr ≡ dataPlace self (payload .entry)) × (now r ≡ dataIn self (now (payload .entry))) ⌝ }
     {
         part_of(payload, self.start, self.len)
     }
@@ -146,9 +146,9 @@ impl Pdu {
         self.ty
     }
 
-    // The record area as a part of the payload: no octets where the payload has no such part.
+    // The record area as that part of the payload: no octets, at its start, where it has no such part.
     pub fn advertising_data(self, payload: &[u8]) -> &[u8]
-        ensures { λ r. ⌜ now r ≡ dataIn (self .«adv_data») (now (payload .entry)) ⌝ }
+        ensures { λ r. ⌜ (r .ptr ≡ dataPlace (self .«adv_data») (payload .entry)) × (now r ≡ dataIn (self .«adv_data») (now (payload .entry))) ⌝ }
     {
         let place = self.adv_data;
         place.within(payload)
@@ -266,13 +266,15 @@ fn address_at(random: bool, payload: &[u8], at: usize) -> DeviceAddress
     DeviceAddress::new(octets, AddressKind::of(random))
 }
 
-fn no_address() -> DeviceAddress
+// The address of a PDU that has none: zeros.
+pub fn no_address() -> DeviceAddress
     ensures { λ r. ⌜ r ≡ noAddress ⌝ }
 {
     DeviceAddress::new([0, 0, 0, 0, 0, 0], AddressKind::Public)
 }
 
-fn no_data() -> AdvData
+// The place of the records of a PDU that has none.
+pub fn no_data() -> AdvData
     ensures { λ r. ⌜ r ≡ noData ⌝ }
 {
     AdvData {

@@ -5,8 +5,7 @@ ghost use Prim.Native.Nat.{_+_, _≤_};
 ghost use lib.ListN.{length, take, drop};
 ghost use Rattle.octets.specs.Bytes.{outAfter};
 ghost use Rattle.records.specs.Area.{rewrittenTo, rewrittenAfter};
-ghost use Rattle.advertising.specs.PduBuf.{padded, headerFor, emptyBuf, refusedBuf, withRecords, builtOf, builtDirected, flagsRecord, payloadTo, payloadAfter};
-ghost use Rattle.addresses.specs.declared.header.PduType.the-variants.{AdvInd, AdvNonconnInd, AdvScanInd, ScanRsp};
+ghost use Rattle.advertising.specs.PduBuf.{padded, headerFor, emptyBuf, refusedBuf, withRecords, builtOf, connectablePdu, nonconnectablePdu, scannablePdu, beaconPdu, discoverablePdu, scanResponsePdu, builtDirected, payloadTo, payloadAfter};
 use crate::pdu::Outcome;
 use addresses::device_address::DeviceAddress;
 use addresses::header::Header;
@@ -56,7 +55,7 @@ impl PduBuf {
 
     // An `ADV_IND` with these records.
     pub fn connectable_undirected(advertiser_addr: DeviceAddress, advertiser_data: &[u8]) -> Built
-        ensures { λ r. ⌜ r ≡ builtOf AdvInd «advertiser_addr» [] (now («advertiser_data» .entry)) ⌝ }
+        ensures { λ r. ⌜ r ≡ connectablePdu «advertiser_addr» (now («advertiser_data» .entry)) ⌝ }
     {
         PduBuf::adv(PduType::AdvInd, advertiser_addr, advertiser_data)
     }
@@ -89,28 +88,28 @@ impl PduBuf {
         advertiser_addr: DeviceAddress,
         advertiser_data: &[u8],
     ) -> Built
-        ensures { λ r. ⌜ r ≡ builtOf AdvNonconnInd «advertiser_addr» [] (now («advertiser_data» .entry)) ⌝ }
+        ensures { λ r. ⌜ r ≡ nonconnectablePdu «advertiser_addr» (now («advertiser_data» .entry)) ⌝ }
     {
         PduBuf::adv(PduType::AdvNonconnInd, advertiser_addr, advertiser_data)
     }
 
     // An `ADV_SCAN_IND` with these records.
     pub fn scannable_undirected(advertiser_addr: DeviceAddress, advertiser_data: &[u8]) -> Built
-        ensures { λ r. ⌜ r ≡ builtOf AdvScanInd «advertiser_addr» [] (now («advertiser_data» .entry)) ⌝ }
+        ensures { λ r. ⌜ r ≡ scannablePdu «advertiser_addr» (now («advertiser_data» .entry)) ⌝ }
     {
         PduBuf::adv(PduType::AdvScanInd, advertiser_addr, advertiser_data)
     }
 
     // What a beacon sends: an `ADV_NONCONN_IND` with these records.
     pub fn beacon(advertiser_addr: DeviceAddress, advertiser_data: &[u8]) -> Built
-        ensures { λ r. ⌜ r ≡ builtOf AdvNonconnInd «advertiser_addr» [] (now («advertiser_data» .entry)) ⌝ }
+        ensures { λ r. ⌜ r ≡ beaconPdu «advertiser_addr» (now («advertiser_data» .entry)) ⌝ }
     {
         PduBuf::nonconnectable_undirected(advertiser_addr, advertiser_data)
     }
 
     // What a start sends: an `ADV_IND` with the record of Flags and then these.
     pub fn discoverable(advertiser_addr: DeviceAddress, advertiser_data: &[u8]) -> Built
-        ensures { λ r. ⌜ r ≡ builtOf AdvInd «advertiser_addr» flagsRecord (now («advertiser_data» .entry)) ⌝ }
+        ensures { λ r. ⌜ r ≡ discoverablePdu «advertiser_addr» (now («advertiser_data» .entry)) ⌝ }
     {
         let bytes = advertiser_addr.raw();
         let front = placed([0u8; MAX_PAYLOAD_SIZE], 0, &bytes);
@@ -127,7 +126,7 @@ impl PduBuf {
 
     // A `SCAN_RSP` with these records.
     pub fn scan_response(advertiser_addr: DeviceAddress, scan_data: &[u8]) -> Built
-        ensures { λ r. ⌜ r ≡ builtOf ScanRsp «advertiser_addr» [] (now («scan_data» .entry)) ⌝ }
+        ensures { λ r. ⌜ r ≡ scanResponsePdu «advertiser_addr» (now («scan_data» .entry)) ⌝ }
     {
         PduBuf::adv(PduType::ScanRsp, advertiser_addr, scan_data)
     }

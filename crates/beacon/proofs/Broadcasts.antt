@@ -1,4 +1,4 @@
--- What is sent of a beacon, and heard of it: `sends`, `refusing`, `broadcasting`, `sendable`. Assumes nothing.
+-- What is sent of a beacon, and heard of it: `sends`, `no-beacon`, `broadcasting`, `sendable`. Assumes nothing.
 use mathlib.Core.Bool.{Bool, true, false}
 use mathlib.Core.List.{List, [], _++_, append-nil}
 use mathlib.Core.Path.{_≡_, refl, sym, ap, subst, _∙_}
@@ -25,14 +25,14 @@ use Rattle.advertising.proofs.Accepting.{accepting}
 use Rattle.advertising.proofs.Building.{building}
 use Rattle.advertising.specs.Laws.{ReadsBack}
 use Rattle.advertising.specs.Pdu.{noRequest, noAddress, isAccepted, decodedAs, decodeOf}
-use Rattle.advertising.specs.PduBuf.{headerFor, payloadOf}
+use Rattle.advertising.specs.PduBuf.{headerFor, beaconPdu, payloadOf}
 use Rattle.advertising.specs.declared.pdu.AdvData.{AdvData}
 use Rattle.advertising.specs.declared.pdu.Decoded.{Decoded}
 use Rattle.advertising.specs.declared.pdu.Outcome.the-variants as outcome
 use Rattle.advertising.specs.declared.pdu_buf.Built.{Built}
-use Rattle.beacon.specs.Laws.{Sends, Refusing, Broadcasting, Sendable}
+use Rattle.beacon.specs.Laws.{Sends, NoBeacon, Broadcasting, Sendable}
 use Rattle.beacon.specs.Scanner.{reportOf}
-use Rattle.beacon.specs.Sending.{beaconPdu, beaconOf}
+use Rattle.beacon.specs.Sending.{beaconOf}
 use Rattle.beacon.specs.declared.beacon.Beacon.{Beacon}
 use Rattle.beacon.specs.declared.beacon.Made.{Made}
 use Rattle.beacon.proofs.Reports.{Holds, same-type, holds-decoded, complete}
@@ -47,8 +47,8 @@ sends b tx =
       kept = λ few. rw (too-few n tx 0 (omega arith));
     }
 
-pub refusing : (a : DeviceAddress) (s : List ℕ) → Refusing a s
-refusing a s =
+pub no-beacon : (a : DeviceAddress) (s : List ℕ) → NoBeacon a s
+no-beacon a s =
     record {
       bad-area = λ e bad. ap (λ (b : Built). b .outcome) (building .bad-area AdvNonconnInd a [] s e bad);
       too-long = λ n six good much.
@@ -119,11 +119,11 @@ module _ (a : DeviceAddress) (s : List ℕ) where
       refused e refusal = subst (Sent a) (sym (beacon-refused e refusal)) (sent a [] 0 (broadcasting a [] 0 six no-records (omega arith)))
 
       by-size : (n : ℕ) → readArea s ≡ area.Accepted n → (t : Bool) → ltb 31 (length s) ≡ t → Sent a (beaconOf a s .beacon)
-      by-size n good true much = refused Eof (refusing a s .too-long n six good (ltb-true 31 (length s) much))
+      by-size n good true much = refused Eof (no-beacon a s .too-long n six good (ltb-true 31 (length s) much))
       by-size n good false few = sent a s n (broadcasting a s n six good (ltb-false 31 (length s) few))
 
       by-area : (r : Area) → readArea s ≡ r → Sent a (beaconOf a s .beacon)
-      by-area (area.Refused e) bad = refused e (refusing a s .bad-area e bad)
+      by-area (area.Refused e) bad = refused e (no-beacon a s .bad-area e bad)
       by-area (area.Accepted n) good = by-size n good (ltb 31 (length s)) refl
 
   pub sendable : Sendable a s

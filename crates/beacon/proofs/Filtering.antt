@@ -19,7 +19,7 @@ use Rattle.addresses.specs.declared.header.Header.{Header}
 use Rattle.addresses.specs.declared.header.PduType.{PduType}
 use Rattle.addresses.specs.declared.header.PduType.the-variants.{AdvInd, AdvDirectInd, AdvScanInd, ScanReq, ScanRsp, ConnectReq, Unknown}
 use Rattle.advertising.specs.Pdu.{decodeOf}
-use Rattle.beacon.specs.Scanner.{isListFor, isPass, passes, isBeaconPacket, reportOf, unreported, heardOf, scanned}
+use Rattle.beacon.specs.Scanner.{isListFor, isPass, passes, isBeaconPacket, reportOf, unreported, unfiltered, scanned}
 use Rattle.beacon.specs.declared.beacon.BeaconScanner.{BeaconScanner}
 use Rattle.beacon.specs.declared.beacon.Report.the-variants as report
 use Rattle.beacon.specs.declared.beacon.Scanned.{Scanned}
@@ -77,9 +77,9 @@ module _ (s : BeaconScanner) (h : Header) (p : List ℕ) (crcOk : Bool) (list : 
       rw (says .0, ← says .1)
 
   -- the filter takes what was heard, or leaves nothing of it
-  pub filtered : (w : Scanned) (b : Bool) → w ≡ heardOf (s .channel) h p crcOk → matchesOf (s .filter .scan) list (w .sender) ≡ matches.Is b
+  pub filtered : (w : Scanned) (b : Bool) → w ≡ unfiltered (s .channel) h p crcOk → matchesOf (s .filter .scan) list (w .sender) ≡ matches.Is b
       → cond b w (unreported report.Nothing (s .channel)) ≡ scanned s h p crcOk list
-  unfolding heardOf scanned
+  unfolding unfiltered scanned
   filtered w b is answer =
       let says = told (isListFor f list) (passes f list (w .sender)) b (sym (matches-is f list (w .sender)) ∙ answer) in
       rw (says .0) (go (isBeaconPacket h p crcOk) is (says .1))

@@ -1,21 +1,23 @@
 -- A scanner reports a packet exactly if all checks pass: `reports`. Assumes nothing.
-use mathlib.Core.Bool.{Bool, true, false, cond, _&&_}
+use mathlib.Core.Bool.{Bool, true, false, cond, not, _&&_, _||_}
 use mathlib.Core.List.{List}
 use mathlib.Core.Logic.{inl, inr}
 use mathlib.Core.Path.{_≡_, refl, sym, ap, _∙_}
-use Prim.Native.Nat.{ℕ, _+_}
+use Prim.Native.Nat.{ℕ, zero, suc, _+_, _*_, _/_, _%_, _≤_, _<_}
 use native.Mathlib.Omega.{arith}
-use lib.ListN.{length, take, drop}
+use denote.Ref.{RefT, now}
+use lib.Dec.{eqb, ltb}
+use lib.ListN.{length, getD, take, drop}
 use lib.Seq.{take-length}
-use borrow.Author.Tests.{eq-eqb, eqb-true}
+use borrow.Author.Tests.{eq-eqb, eqb-true, le-ltb}
 use Rattle.octets.proofs.Places.{both-true, enough}
 use Rattle.octets.specs.declared.error.Error.the-variants.{InvalidValue}
 use Rattle.records.specs.Area.{readArea}
 use Rattle.records.specs.declared.area.Area.the-variants as area
 use Rattle.addresses.proofs.Entries.{listed}
 use Rattle.addresses.specs.Address.{kindOf, addressOf}
-use Rattle.addresses.specs.Filter.{matchesOf}
-use Rattle.addresses.specs.Header.{bits, pduType, typeOf, txAdd}
+use Rattle.addresses.specs.Filter.{any, badKind, isList, matchesOf}
+use Rattle.addresses.specs.Header.{bits, pduType, typeOf, txAdd, allowsAdvData}
 use Rattle.addresses.specs.declared.device_address.DeviceAddress.{DeviceAddress}
 use Rattle.addresses.specs.declared.filter.AddressFilter.{AddressFilter}
 use Rattle.addresses.specs.declared.filter.AddressFilter.the-variants.{AllowAll, Whitelist}
@@ -23,17 +25,16 @@ use Rattle.addresses.specs.declared.filter.Matches.{Matches}
 use Rattle.addresses.specs.declared.filter.Matches.the-variants as matches
 use Rattle.addresses.specs.declared.header.Header.{Header}
 use Rattle.addresses.specs.declared.header.PduType.the-variants.{AdvNonconnInd}
-use Rattle.advertising.proofs.Accepting.{accepting}
+use Rattle.advertising.proofs.Accepting.{accepting, is-accepted, record-area}
 use Rattle.advertising.proofs.Figures.{field-is, behind, long}
 use Rattle.advertising.specs.Laws.{Shaped, with-records, two-addresses, with-lldata}
-use Rattle.advertising.proofs.Accepting.{is-accepted}
-use Rattle.advertising.specs.Pdu.{dataIn, decodeOf, wellFormed}
+use Rattle.advertising.specs.Pdu.{noAddress, dataIn, dataPlace, decodeOf, wellFormed}
 use Rattle.advertising.specs.declared.pdu.Decoded.{Decoded}
 use Rattle.advertising.specs.declared.pdu.Outcome.the-variants as outcome
 use Rattle.advertising.specs.declared.pdu.Pdu.{Pdu}
 use Rattle.beacon.specs.Laws as laws
-use Rattle.beacon.specs.Laws.{Lets, Checks, Reports}
-use Rattle.beacon.specs.Scanner.{isListFor, isPass, passes, isType2, isBeaconPacket, reportOf, unreported, scanned, reportNumber}
+use Rattle.beacon.specs.Laws.{Lets, Checks, Reports, Located, BadList, Unfiltered}
+use Rattle.beacon.specs.Scanner.{openScanner, isListFor, isPass, passes, isType2, isBeaconPacket, reportOf, unreported, ofDecoded, unfiltered, scanned, reportNumber}
 use Rattle.beacon.specs.declared.beacon.BeaconScanner.{BeaconScanner}
 use Rattle.beacon.specs.declared.beacon.Report.the-variants as report
 use Rattle.beacon.specs.declared.beacon.Scanned.{Scanned}
@@ -57,6 +58,15 @@ lets-list (laws.listed is entry) = is
 lets-passes : {f : AddressFilter} {list : List ℕ} {a : DeviceAddress} → Lets f list a → passes f list a ≡ true
 lets-passes laws.all = refl
 lets-passes {list = list} {a = a} (laws.listed is entry) = ap isPass (listed list a .complete is entry)
+
+-- whole entries, each of a kind, are a list
+none-bad : (list : List ℕ) (n : ℕ) → ((i : ℕ) → i < n → getD list (7 * i) 0 ≤ 1) → any (badKind list) n ≡ false
+unfolding any
+none-bad list zero kinds = refl
+none-bad list (suc n) kinds = rw (none-bad list n (λ i below. kinds i (omega arith)), le-ltb 1 (getD list (7 * n) 0) (kinds n (omega arith)))
+
+is-list : (list : List ℕ) → length list % 7 ≡ 0 → ((i : ℕ) → i < length list / 7 → getD list (7 * i) 0 ≤ 1) → isList list ≡ true
+is-list list size kinds = rw (eq-eqb (length list % 7) 0 size, none-bad list (length list / 7) kinds)
 
 -- what a PDU says of a payload that is an address and records
 pub record Holds (h : Header) (p : List ℕ) (d : Pdu) : Type 0 where
@@ -99,17 +109,17 @@ module _ (s : BeaconScanner) (h : Header) (p : List ℕ) (crcOk : Bool) (list : 
   f = s .filter .scan
 
   -- what is scanned, by whether there is a list and whether the checks pass
-  abbrev answer : Bool → Bool → Scanned
-  answer l t = cond l (cond t (reportOf (s .channel) (decodeOf h p .pdu)) (unreported report.Nothing (s .channel))) (unreported (report.Refused InvalidValue) (s .channel))
+  abbrev scannedBy : Bool → Bool → Scanned
+  scannedBy l t = cond l (cond t (reportOf (s .channel) (decodeOf h p .pdu)) (unreported report.Nothing (s .channel))) (unreported (report.Refused InvalidValue) (s .channel))
 
   abbrev checked : Bool
   checked = isBeaconPacket h p crcOk && passes f list (decodeOf h p .pdu .sender)
 
-  by-cases : scanned s h p crcOk list ≡ answer (isListFor f list) checked
+  by-cases : scanned s h p crcOk list ≡ scannedBy (isListFor f list) checked
   unfolding scanned
   by-cases = refl
 
-  reported : (l t : Bool) → answer l t .report ≡ report.Beacon → t ≡ true
+  reported : (l t : Bool) → scannedBy l t .report ≡ report.Beacon → t ≡ true
   reported true true e = refl
   reported true false e = let z : _≡_ {A = ℕ} 0 1 = cc in absurd (omega arith)
   reported false t e = let z : _≡_ {A = ℕ} 0 1 = cc in absurd (omega arith)
@@ -139,7 +149,7 @@ module _ (s : BeaconScanner) (h : Header) (p : List ℕ) (crcOk : Bool) (list : 
   unchecked true e fails = absurd (fails (checks e))
   unchecked false e fails = refl
 
-  numbered : (l t : Bool) → reportNumber (answer l t .report) ≡ cond l 0 3
+  numbered : (l t : Bool) → reportNumber (scannedBy l t .report) ≡ cond l 0 3
   numbered true true = refl
   numbered true false = refl
   numbered false t = refl
@@ -151,6 +161,31 @@ module _ (s : BeaconScanner) (h : Header) (p : List ℕ) (crcOk : Bool) (list : 
 
     is : scanned s h p crcOk list ≡ reportOf (s .channel) (decodeOf h p .pdu)
     is = complete (sound e)
+
+  -- the tests of a list
+  list-is : (l : Bool) → isListFor f list ≡ l → reportNumber (scanned s h p crcOk list .report) ≡ cond l 0 3
+  list-is l e = ap (λ (x : Scanned). reportNumber (x .report)) by-cases ∙ numbered (isListFor f list) checked ∙ ap (λ (k : Bool). cond k 0 3) e
+
+  no-list : f ≡ Whitelist → (isList list ≡ true → ⊥) → isListFor f list ≡ false
+  no-list is fails = rw is (go (isList list) refl)
+    where
+      go : (t : Bool) → isList list ≡ t → t ≡ false
+      go true e = absurd (fails e)
+      go false e = refl
+
+  a-list : (g : AddressFilter) → isList list ≡ true → isListFor g list ≡ true
+  a-list AllowAll e = refl
+  a-list Whitelist e = e
+
+  pub bad-list : BadList s h p crcOk list
+  bad-list =
+      record {
+        size = λ is odd. list-is false (no-list is (λ e. odd (listed list noAddress .tested e .0)));
+        kind = λ is i inside above.
+            list-is false (no-list is (λ e. let low : getD list (7 * i) 0 ≤ 1 = listed list noAddress .tested e .1 i inside in omega arith));
+        good = λ size kinds. list-is true (a-list f (is-list list size kinds));
+        unasked = λ is. list-is true (ap (λ (g : AddressFilter). isListFor g list) is);
+      }
 
   pub reports : Reports s h p crcOk list
   reports =
@@ -164,3 +199,33 @@ module _ (s : BeaconScanner) (h : Header) (p : List ℕ) (crcOk : Bool) (list : 
         records = λ e. ap (λ (x : Scanned). dataIn (x .«adv_data») p) (is e) ∙ its e .records;
         number-of-records = λ e. its e .number ∙ ap (λ (x : Scanned). area.Accepted (x .«adv_data» .count)) (sym (is e));
       }
+
+module _ (h : Header) (p : List ℕ) (crcOk : Bool) (list : List ℕ) where
+  -- of a filter that accepts all nothing is left to test
+  open-same : (s : BeaconScanner) → s .filter .scan ≡ AllowAll → unfiltered (s .channel) h p crcOk ≡ scanned s h p crcOk list
+  unfolding unfiltered scanned
+  open-same s is = rw is (go (isBeaconPacket h p crcOk))
+    where
+      go : (t : Bool)
+          → cond t (reportOf (s .channel) (decodeOf h p .pdu)) (unreported report.Nothing (s .channel))
+          ≡ cond (t && true) (reportOf (s .channel) (decodeOf h p .pdu)) (unreported report.Nothing (s .channel))
+      go true = refl
+      go false = refl
+
+  pub without-filter : Unfiltered h p crcOk list
+  unfolding unfiltered
+  without-filter =
+      record {
+        all-pass = λ type ok. ap (λ (x : Scanned). x .report) (complete openScanner h p true list (record { crc = refl; type-2 = type; decoding = ok; filter = laws.all }));
+        checked = open-same;
+        decoded = λ c type. rw (eq-eqb (bits 0 4 h) 2 type);
+      }
+
+pub located : (s : BeaconScanner) (h : Header) (p : RefT (List ℕ)) (crcOk : Bool) (list : List ℕ) → Located s h p crcOk list
+located s h p crcOk list =
+    record {
+      place = λ e.
+          let c = reports s h (now p) crcOk list .sound e in
+          let allows : allowsAdvData (typeOf h) ≡ true = ap allowsAdvData (type-is (bits 0 4 h) (c .type-2)) in
+          ap (λ (x : Scanned). dataPlace (x .«adv_data») p) (complete s h (now p) crcOk list c) ∙ record-area h p .place allows (c .decoding);
+    }

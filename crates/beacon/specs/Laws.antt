@@ -1,17 +1,22 @@
 -- The laws of beacons and their scanner, each with the theorem of proofs/ that proves it.
 --   Reports       Reports.reports             which packets are reported, and what of them
+--   Located       Reports.located             where a reported beacon's records lie
+--   BadList       Reports.bad-list            which filter lists are refused
+--   Unfiltered    Reports.without-filter      what a scanner without a filter reports
 --   Scanning      Runs.scanning               the channels and instants of a run of calls
 --   Sends         Broadcasts.sends            what is transmitted and written
---   Refusing      Broadcasts.refusing         which records make no beacon
+--   NoBeacon      Broadcasts.no-beacon        which records make no beacon
 --   Broadcasting  Broadcasts.broadcasting     what is heard of a beacon that was made
 --   Sendable      Broadcasts.sendable         what can be sent whatever the records, after a refusal too
 --   Row           Rows.row                    document 01's row
+--   Examples      Rows.examples               worked values
 use mathlib.Core.Bool.{Bool, true, false, cond}
-use mathlib.Core.List.{List, [], _∷_, _++_}
+use mathlib.Core.List.{List, [], _∷_, _++_, map}
 use mathlib.Core.Path.{_≡_}
-use Prim.Native.Nat.{ℕ, zero, suc, _+_, _≤_, _<_}
+use Prim.Native.Nat.{ℕ, zero, suc, _+_, _*_, _/_, _%_, _≤_, _<_}
 use lib.Dec.{eqb}
-use lib.ListN.{length, take, drop}
+use lib.ListN.{length, getD, take, drop}
+use denote.Ref.{RefT, now}
 use Rattle.octets.specs.Bytes.{le}
 use Rattle.octets.specs.Time.{later}
 use Rattle.octets.specs.declared.error.Error.{Error}
@@ -35,15 +40,16 @@ use Rattle.addresses.specs.declared.filter.AddressFilter.the-variants.{AllowAll
 use Rattle.addresses.specs.declared.header.Header.{Header}
 use Rattle.addresses.specs.declared.header.PduType.the-variants.{AdvNonconnInd}
 use Rattle.advertising.specs.Laws.{nine}
-use Rattle.advertising.specs.Pdu.{noRequest, noAddress, dataIn, decodedAs, decodeOf}
+use Rattle.advertising.specs.Pdu.{noRequest, noAddress, noData, dataIn, dataPlace, decodedAs, decodeOf}
 use Rattle.advertising.specs.PduBuf.{headerFor, payloadOf, payloadAfter}
 use Rattle.advertising.specs.declared.pdu.AdvData.{AdvData}
 use Rattle.advertising.specs.declared.pdu.Outcome.the-variants as outcome
-use Rattle.beacon.specs.Scanner.{scannerOf, configured, timerUpdated, isListFor, reportOf, unreported, scanned, reportNumber}
+use Rattle.beacon.specs.Scanner.{scannerOf, openScanner, configured, timerUpdated, isListFor, ofDecoded, unfiltered, scanned, reportNumber, isReport}
 use Rattle.beacon.specs.Sending.{beaconOf, broadcastOf, broadcastNumber}
 use Rattle.beacon.specs.declared.beacon.Beacon.{Beacon}
 use Rattle.beacon.specs.declared.beacon.BeaconScanner.{BeaconScanner}
 use Rattle.beacon.specs.declared.beacon.Broadcast.the-variants as broadcast
+use Rattle.beacon.specs.declared.beacon.Report.{Report}
 use Rattle.beacon.specs.declared.beacon.Report.the-variants as report
 use Rattle.beacon.specs.declared.beacon.Updated.{Updated}
 
@@ -62,10 +68,13 @@ pub record Checks (f : AddressFilter) (h : Header) (p : List ℕ) (crcOk : Bool)
 -- All passing, the sender and record area are reported; else nothing is. A filter list comes first.
 pub record Reports (s : BeaconScanner) (h : Header) (p : List ℕ) (crcOk : Bool) (list : List ℕ) : Type 0 where
   pub sound : scanned s h p crcOk list .report ≡ report.Beacon → Checks (s .filter .scan) h p crcOk list
-  pub complete : Checks (s .filter .scan) h p crcOk list → scanned s h p crcOk list ≡ reportOf (s .channel) (decodeOf h p .pdu)
+  pub complete : Checks (s .filter .scan) h p crcOk list
+      → scanned s h p crcOk list
+      ≡ record { report = report.Beacon; sender = decodeOf h p .pdu .sender; «adv_data» = decodeOf h p .pdu .«adv_data»; channel = s .channel }
   pub nothing : isListFor (s .filter .scan) list ≡ true → (Checks (s .filter .scan) h p crcOk list → ⊥)
-      → scanned s h p crcOk list ≡ unreported report.Nothing (s .channel)
-  pub refused : isListFor (s .filter .scan) list ≡ false → scanned s h p crcOk list ≡ unreported (report.Refused InvalidValue) (s .channel)
+      → scanned s h p crcOk list ≡ record { report = report.Nothing; sender = noAddress; «adv_data» = noData; channel = s .channel }
+  pub refused : isListFor (s .filter .scan) list ≡ false
+      → scanned s h p crcOk list ≡ record { report = report.Refused InvalidValue; sender = noAddress; «adv_data» = noData; channel = s .channel }
   -- so a bad list is 3, whatever the packet, and nothing else is refused
   pub number : reportNumber (scanned s h p crcOk list .report) ≡ cond (isListFor (s .filter .scan) list) 0 3
   -- the sender is the first six octets, its kind TxAdd; the records are all that follows, with their number
@@ -73,6 +82,25 @@ pub record Reports (s : BeaconScanner) (h : Header) (p : List ℕ) (crcOk : Bool
   pub records : scanned s h p crcOk list .report ≡ report.Beacon → dataIn (scanned s h p crcOk list .«adv_data») p ≡ drop 6 p
   pub number-of-records : scanned s h p crcOk list .report ≡ report.Beacon
       → readArea (drop 6 p) ≡ area.Accepted (scanned s h p crcOk list .«adv_data» .count)
+
+-- The record area of a reported beacon is the part of its payload behind the address, in its own place.
+pub record Located (s : BeaconScanner) (h : Header) (p : RefT (List ℕ)) (crcOk : Bool) (list : List ℕ) : Type 0 where
+  pub place : scanned s h (now p) crcOk list .report ≡ report.Beacon → dataPlace (scanned s h (now p) crcOk list .«adv_data») p ≡ (p .ptr .0, p .ptr .1 + 6)
+
+-- "filter list not a multiple of 7, or kind above 1": 3, whatever the packet; no other list is refused, and none where there is no filter.
+pub record BadList (s : BeaconScanner) (h : Header) (p : List ℕ) (crcOk : Bool) (list : List ℕ) : Type 0 where
+  pub size : s .filter .scan ≡ Whitelist → (length list % 7 ≡ 0 → ⊥) → reportNumber (scanned s h p crcOk list .report) ≡ 3
+  pub kind : s .filter .scan ≡ Whitelist → (i : ℕ) → i < length list / 7 → 1 < getD list (7 * i) 0 → reportNumber (scanned s h p crcOk list .report) ≡ 3
+  pub good : length list % 7 ≡ 0 → ((i : ℕ) → i < length list / 7 → getD list (7 * i) 0 ≤ 1) → reportNumber (scanned s h p crcOk list .report) ≡ 0
+  pub unasked : s .filter .scan ≡ AllowAll → reportNumber (scanned s h p crcOk list .report) ≡ 0
+
+-- A scanner without a filter: "All senders pass", whatever list is lent.
+pub record Unfiltered (h : Header) (p : List ℕ) (crcOk : Bool) (list : List ℕ) : Type 0 where
+  pub all-pass : bits 0 4 h ≡ 2 → decodeOf h p .outcome ≡ outcome.Accepted → scanned openScanner h p true list .report ≡ report.Beacon
+  -- what all checks save the filter find is what any scanner finds that accepts all
+  pub checked : (s : BeaconScanner) → s .filter .scan ≡ AllowAll → unfiltered (s .channel) h p crcOk ≡ scanned s h p crcOk list
+  -- and of a CRC-good packet of type 2 it is what its decoding says
+  pub decoded : (c : AdvertisingChannel) → bits 0 4 h ≡ 2 → unfiltered c h p true ≡ ofDecoded c (decodeOf h p)
 
 -- what call k of a run answers: call 0 configures the scanner, the others are timer updates, each at its time
 unfoldable pub run : BeaconScanner → ℕ → (ℕ → Instant) → ℕ → Updated
@@ -98,7 +126,7 @@ pub record Sends (b : Beacon) (tx : List ℕ) : Type 0 where
   pub kept : length tx < length (payloadOf (b .pdu)) → payloadAfter (b .pdu) tx ≡ tx
 
 -- A bad area makes no beacon, refused as its first bad record is; and a good one of more than 31 octets is 1.
-pub record Refusing (a : DeviceAddress) (s : List ℕ) : Type 0 where
+pub record NoBeacon (a : DeviceAddress) (s : List ℕ) : Type 0 where
   pub bad-area : (e : Error) → readArea s ≡ area.Refused e → beaconOf a s .outcome ≡ outcome.Refused e
   pub too-long : (n : ℕ) → length (a .bytes) ≡ 6 → readArea s ≡ area.Accepted n → 31 < length s → beaconOf a s .outcome ≡ outcome.Refused Eof
 
@@ -137,3 +165,34 @@ pub record Row : Type 0 where
         channel = Channel37;
       }
   pub records : dataIn (record { start = 6; len = 3; count = 1 }) nine ≡ 0x02 ∷ 0x01 ∷ 0x06 ∷ []
+
+-- what a scanner with a filter answers to the row 42 09, with this list
+abbrev pub listAnswer : List ℕ → Report
+listAnswer list = scanned (scannerOf Whitelist) (headerOf 0x0942) nine true list .report
+
+-- entries of a list: the row's sender, it as a public address, and one of kind 2
+abbrev pub senderEntry : List ℕ
+senderEntry = 0x01 ∷ 0x01 ∷ 0x02 ∷ 0x03 ∷ 0x04 ∷ 0x05 ∷ 0xC6 ∷ []
+
+abbrev pub publicEntry : List ℕ
+publicEntry = 0x00 ∷ 0x01 ∷ 0x02 ∷ 0x03 ∷ 0x04 ∷ 0x05 ∷ 0xC6 ∷ []
+
+abbrev pub kind2Entry : List ℕ
+kind2Entry = 0x02 ∷ 0x01 ∷ 0x02 ∷ 0x03 ∷ 0x04 ∷ 0x05 ∷ 0xC6 ∷ []
+
+pub record Examples : Type 0 where
+  -- no entry, the sender's, another kind's, and the sender's behind that
+  pub lists : map listAnswer ([] ∷ senderEntry ∷ publicEntry ∷ (publicEntry ++ senderEntry) ∷ []) ≡ report.Nothing ∷ report.Beacon ∷ report.Nothing ∷ report.Beacon ∷ []
+  -- six octets, eight, a kind of 2, and one behind the entry that matches
+  pub bad-lists : map (λ (list : List ℕ). reportNumber (listAnswer list)) (take 6 senderEntry ∷ (senderEntry ++ (0x00 ∷ [])) ∷ kind2Entry ∷ (senderEntry ++ kind2Entry) ∷ []) ≡ 3 ∷ 3 ∷ 3 ∷ 3 ∷ []
+  -- a bad CRC, type 0, a header that counts 8 octets, and none of these
+  pub crc : scanned openScanner (headerOf 0x0942) nine false [] .report ≡ report.Nothing
+  pub type-0 : scanned openScanner (headerOf 0x0940) nine true [] .report ≡ report.Nothing
+  pub decoding : scanned openScanner (headerOf 0x0842) nine true [] .report ≡ report.Nothing
+  pub all-pass : scanned openScanner (headerOf 0x0942) nine true [] .report ≡ report.Beacon
+  pub numbers : map reportNumber (report.Beacon ∷ report.Nothing ∷ report.Refused InvalidValue ∷ []) ≡ 0 ∷ 0 ∷ 3 ∷ []
+  pub reported : map isReport (report.Beacon ∷ report.Nothing ∷ report.Refused InvalidValue ∷ []) ≡ true ∷ false ∷ false ∷ []
+  -- the first calls of a run, and an update before it; instants are counted modulo 2^32, here from 2^32 - 500 on
+  pub channels : map (λ (k : ℕ). indexOf (run openScanner 1000 (λ j. record { 0 = 0 }) k .cmd .channel)) (0 ∷ 1 ∷ 2 ∷ 3 ∷ []) ≡ 37 ∷ 38 ∷ 39 ∷ 37 ∷ []
+  pub unconfigured : timerUpdated openScanner (record { 0 = 77 }) .cmd ≡ record { channel = Channel38; «next_update» = record { 0 = 77 } }
+  pub instants : map (λ (k : ℕ). run openScanner 1000 (λ j. record { 0 = 4294966796 + 100 * j }) k .cmd .«next_update» .0) (0 ∷ 1 ∷ []) ≡ 500 ∷ 600 ∷ []

@@ -1,5 +1,5 @@
 -- What a scanner answers (document 01, beacon.rs, "AddressFilter" and "Refused calls").
---   scannerOf f                 == a scanner with the filter f, before it is configured
+--   scannerOf f                 == a scanner with the filter f, before it is configured; openScanner: one without a filter
 --   listening s t               == the scanner s, which listens on its channel from time t on for its interval
 --   configured s t interval     == what `configure` answers
 --   timerUpdated s t            == what `timer_update` answers
@@ -10,7 +10,7 @@
 --   reportOf c pdu              == the report of a PDU, with the channel c
 --   unreported r c              == an answer that reports no PDU
 --   ofDecoded c d               == what is reported of a decoded packet, by its outcome alone
---   heardOf c h p crcOk         == what is reported by all checks save the filter
+--   unfiltered c h p crcOk      == what is reported by all checks save the filter
 --   scanned s h p crcOk list    == what `process_adv_packet` answers
 --   reportNumber r              == document 01's number of a report, 0 where it is no refusal; isReport r: a beacon is reported
 use mathlib.Core.Bool.{Bool, true, false, cond, _&&_}
@@ -42,6 +42,10 @@ use Rattle.beacon.specs.declared.beacon.Updated.{Updated}
 
 abbrev pub scannerOf : AddressFilter → BeaconScanner
 scannerOf f = record { filter = record { scan = f }; interval = 0; channel = firstChannel }
+
+-- "accept all"
+abbrev pub openScanner : BeaconScanner
+openScanner = scannerOf AllowAll
 
 -- the next instant is counted from the given time, modulo 2^32
 abbrev pub listening : BeaconScanner → Instant → Updated
@@ -84,8 +88,8 @@ unreported r c = record { report = r; sender = noAddress; «adv_data» = noData;
 abbrev pub ofDecoded : AdvertisingChannel → Decoded → Scanned
 ofDecoded c d = cond (isAccepted (d .outcome)) (reportOf c (d .pdu)) (unreported report.Nothing c)
 
-unfoldable pub heardOf : AdvertisingChannel → Header → List ℕ → Bool → Scanned
-heardOf c h p crcOk = cond (isBeaconPacket h p crcOk) (reportOf c (decodeOf h p .pdu)) (unreported report.Nothing c)
+unfoldable pub unfiltered : AdvertisingChannel → Header → List ℕ → Bool → Scanned
+unfiltered c h p crcOk = cond (isBeaconPacket h p crcOk) (reportOf c (decodeOf h p .pdu)) (unreported report.Nothing c)
 
 -- "All passing, the sender and record area are reported; else nothing is."; the filter list comes first, and is refused 3 whatever the packet
 unfoldable pub scanned : BeaconScanner → Header → List ℕ → Bool → List ℕ → Scanned

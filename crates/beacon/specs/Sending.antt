@@ -1,5 +1,4 @@
 -- What making and sending a beacon answers (document 01, beacon.rs): one type 2 PDU, its payload written once, its header transmitted on 37, 38 and 39.
---   beaconPdu a s       == the PDU of the address a and the records of s
 --   beaconOf a s        == what `Beacon::new` answers
 --   broadcastOf b tx    == what `broadcast` answers, and broadcastNumber r document 01's number of it
 use mathlib.Core.Bool.{cond}
@@ -11,18 +10,12 @@ use Rattle.octets.specs.Error.{numberOf}
 use Rattle.octets.specs.declared.error.Error.the-variants.{Eof}
 use Rattle.channels.specs.Phy.{ascending}
 use Rattle.addresses.specs.declared.device_address.DeviceAddress.{DeviceAddress}
-use Rattle.addresses.specs.declared.header.PduType.the-variants.{AdvNonconnInd}
 use Rattle.advertising.specs.Pdu.{isAccepted}
-use Rattle.advertising.specs.PduBuf.{builtOf, payloadOf}
-use Rattle.advertising.specs.declared.pdu_buf.Built.{Built}
+use Rattle.advertising.specs.PduBuf.{beaconPdu, payloadOf}
 use Rattle.beacon.specs.declared.beacon.Beacon.{Beacon}
 use Rattle.beacon.specs.declared.beacon.Broadcast.{Broadcast}
 use Rattle.beacon.specs.declared.beacon.Broadcast.the-variants as broadcast
 use Rattle.beacon.specs.declared.beacon.Made.{Made}
-
--- the PDU of a beacon: an ADV_NONCONN_IND (the Core, Vol 6 Part B, 2.3.1.3), or why it cannot be built
-abbrev pub beaconPdu : DeviceAddress → List ℕ → Built
-beaconPdu a s = builtOf AdvNonconnInd a [] s
 
 -- the beacon of an address and records; after a refusal the one without records, so that whatever can be sent is type 2
 abbrev pub beaconOf : DeviceAddress → List ℕ → Made

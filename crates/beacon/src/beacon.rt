@@ -1,11 +1,9 @@
 // A beacon that is sent, and a scanner that hears beacons: no device and no mode.
 ghost use mathlib.Core.Path.{_≡_};
-ghost use Rattle.addresses.specs.declared.filter.AddressFilter.the-variants.{AllowAll};
-ghost use Rattle.advertising.specs.Pdu.{dataIn};
+ghost use Rattle.advertising.specs.Pdu.{dataIn, dataPlace};
 ghost use Rattle.advertising.specs.PduBuf.{payloadAfter};
 ghost use Rattle.beacon.specs.Sending.{beaconOf, broadcastOf};
-ghost use Rattle.beacon.specs.Scanner.{scannerOf, listening, configured, timerUpdated, unreported, ofDecoded, heardOf, scanned, reportNumber, isReport};
-use addresses::device_address::AddressKind;
+ghost use Rattle.beacon.specs.Scanner.{scannerOf, openScanner, listening, configured, timerUpdated, unreported, ofDecoded, unfiltered, scanned, reportNumber, isReport};
 use addresses::device_address::DeviceAddress;
 use addresses::filter::AddressFilter;
 use addresses::filter::Matches;
@@ -15,6 +13,8 @@ use advertising::pdu::AdvData;
 use advertising::pdu::Decoded;
 use advertising::pdu::Outcome;
 use advertising::pdu::Pdu;
+use advertising::pdu::no_address;
+use advertising::pdu::no_data;
 use advertising::pdu_buf::PduBuf;
 use channels::phy::AdvertisingChannel;
 use channels::phy::AllChannels;
@@ -136,7 +136,7 @@ pub struct Scanned {
 impl BeaconScanner {
     // A scanner without a filter: every sender passes.
     pub fn new() -> BeaconScanner
-        ensures { λ r. ⌜ r ≡ scannerOf AllowAll ⌝ }
+        ensures { λ r. ⌜ r ≡ openScanner ⌝ }
     {
         BeaconScanner::with_filter(AddressFilter::AllowAll)
     }
@@ -209,7 +209,7 @@ impl BeaconScanner {
         let filter = self.filter;
         let channel = self.channel;
         // Where this is no beacon its sender is blank, and the filter only tests its list.
-        let found = heard(channel, header, payload, crc_ok);
+        let found = unfiltered(channel, header, payload, crc_ok);
         let sender = found.sender;
         match filter.should_scan(list, sender) {
             Matches::Is(passes) => {
@@ -224,9 +224,9 @@ impl BeaconScanner {
 }
 
 impl Scanned {
-    // The record area of a beacon as a part of its payload: no octets where the payload has no such part.
+    // The record area of a beacon as that part of its payload: no octets, at its start, where it has no such part.
     pub fn advertising_data(self, payload: &[u8]) -> &[u8]
-        ensures { λ r. ⌜ now r ≡ dataIn (self .«adv_data») (now (payload .entry)) ⌝ }
+        ensures { λ r. ⌜ (r .ptr ≡ dataPlace (self .«adv_data») (payload .entry)) × (now r ≡ dataIn (self .«adv_data») (now (payload .entry))) ⌝ }
     {
         let place = self.adv_data;
         place.within(payload)
@@ -234,8 +234,8 @@ impl Scanned {
 }
 
 // What a packet holds for a scanner without a filter. It is decoded only where its CRC is good and its type a beacon's.
-fn heard(channel: AdvertisingChannel, header: Header, payload: &[u8], crc_ok: bool) -> Scanned
-    ensures { λ r. ⌜ r ≡ heardOf channel header (now (payload .entry)) «crc_ok» ⌝ }
+fn unfiltered(channel: AdvertisingChannel, header: Header, payload: &[u8], crc_ok: bool) -> Scanned
+    ensures { λ r. ⌜ r ≡ unfiltered channel header (now (payload .entry)) «crc_ok» ⌝ }
 {
     if crc_ok {
         if header.type_().is_beacon() {
@@ -270,12 +270,8 @@ fn of_decoded(channel: AdvertisingChannel, decoded: Decoded) -> Scanned
 fn unreported(report: Report, channel: AdvertisingChannel) -> Scanned
     ensures { λ r. ⌜ r ≡ unreported report channel ⌝ }
 {
-    let sender = DeviceAddress::new([0, 0, 0, 0, 0, 0], AddressKind::Public);
-    let adv_data = AdvData {
-        start: 0,
-        len: 0,
-        count: 0,
-    };
+    let sender = no_address();
+    let adv_data = no_data();
     Scanned {
         report,
         sender,

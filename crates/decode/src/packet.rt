@@ -50,7 +50,7 @@ fn accuracy_number(sca: SleepClockAccuracy) -> u8
     }
 }
 
-fn packet_of(decoded: Decoded) -> Packet
+fn packet_said(decoded: Decoded) -> Packet
     ensures { λ r. ⌜ r ≡ packetSaid decoded ⌝ }
 {
     let outcome = decoded.outcome;
@@ -95,7 +95,7 @@ pub extern "C" fn board_decode(header: &[u8], payload: &[u8]) -> Packet
     ensures { λ r. ⌜ r ≡ decodedFrom (parsed (now (header .entry))) (now (payload .entry)) ⌝ }
 {
     match Header::parse(header) {
-        HeaderMade::Header(h) => packet_of(Pdu::from_header_and_payload(h, payload)),
-        HeaderMade::Refused(e) => packet_of(Decoded::refused(e)),
+        HeaderMade::Header(h) => packet_said(Pdu::from_header_and_payload(h, payload)),
+        HeaderMade::Refused(e) => packet_said(Decoded::refused(e)),
     }
 }

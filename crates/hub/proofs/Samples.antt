@@ -3,7 +3,7 @@ use mathlib.Core.Path.{_≡_, refl, ap, _∙_}
 use mathlib.Core.List.{List, [], _∷_, flatten}
 use Prim.Native.Nat.{ℕ, _-_}
 use native.Mathlib.Omega.{arith}
-use Rattle.advertising.proofs.Rows.{rows}
+use Rattle.advertising.proofs.Examples.{nine-decoded}
 use Rattle.beacon.specs.Scanner.{scanned}
 use Rattle.columns.specs.Column.{leading, column}
 use Rattle.items.proofs.Items.{one-whole, none-whole}
@@ -53,7 +53,7 @@ pub sample : Sample
 unfolding leading column behind flatten scanned heardIn scannerAfter reportLine line reportsIn after printed afterAll printedAll lastLine logOf
 sample =
     record {
-      sample = rw (both, rows .row-42-09);
+      sample = rw (both, nine-decoded);
       empty = rw no-items;
       crc-bad = rw bad-item;
       six-bits = rw long-item;

@@ -8,13 +8,13 @@ use Rattle.decode.proofs.packet.board_decode.Tie as tie
 
 returns : tie.Need-returns
 returns c =
-    c .packet-of .ensures
+    c .packet-said .ensures
     ∙ rw (c .before .from-header-and-payload .ensures)
     (ap (λ (m : HeaderMade). decodedFrom m (c .before .before .before .before .before .before .before .before .args .payload .now)) (sym (c .before .before .before .h .given .1) ∙ c .before .before .before .before .before .parse .ensures))
 
 returns-2 : tie.Need-returns-2
 returns-2 c =
-    c .packet-of2 .ensures
+    c .packet-said2 .ensures
     ∙ rw (c .before .refused .ensures)
     (ap (λ (m : HeaderMade). decodedFrom m (c .before .before .before .before .before .before .before .before .args .payload .now)) (sym (c .before .before .before .e .given .1) ∙ c .before .before .before .before .before .parse .ensures))
 

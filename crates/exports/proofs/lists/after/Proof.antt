@@ -27,7 +27,7 @@ loop-again c =
     record {
       below = omega (arith, c .before .before .before .before .before .before .before .before .before .loop-test .taken);
       small = l .loop .inv .small;
-      reached = turned _ _ (l .loop .i) (l .loop .inv .reached) (c .before .before .before .before .before .before .before .before .part-of .ensures) (s .step-with .ensures .0) (s .step-with .ensures .1) (s .step-with .ensures .2);
+      reached = turned _ _ (l .loop .i) (l .loop .inv .reached) (c .before .before .before .before .before .before .before .before .part-of .ensures .1) (s .step-with .ensures .0) (s .step-with .ensures .1) (s .step-with .ensures .2);
       long-first = search needs;
       long-second = search needs;
     }

@@ -16,7 +16,7 @@ use Rattle.exports.proofs.lists.step.Tie as tie
 returns : tie.Need-returns
 returns c =
     let a = c .before .before .before .before .before .before .before .before .before .before .before .before .before .args in
-    (c .before .before .start-advertise .ensures .0 ∙ ap (callOf (a .device)) (as-start (a .call .now) (a .tx .now) (sym (c .before .before .before .before .before .before .octet2 .ensures) ∙ c .before .before .before .before .before .match .keys1) (c .before .before .before .before .before .before .before .before .before .from-raw-micros .ensures ∙ c .before .before .before .before .before .before .before .before .before .before .time-of .ensures) (c .before .before .before .before .interval-of .ensures) (c .before .before .before .before .before .before .before .part-of .ensures ∙ ap (λ (k : ℕ). partOr k (a .call .now) 14) (c .before .before .before .before .before .before .before .before .octet .ensures))), c .before .before .start-advertise .ensures .1 ∙ ap (λ (k : Call). bufferAfter (a .device) k (a .tx .now)) (as-start (a .call .now) (a .tx .now) (sym (c .before .before .before .before .before .before .octet2 .ensures) ∙ c .before .before .before .before .before .match .keys1) (c .before .before .before .before .before .before .before .before .before .from-raw-micros .ensures ∙ c .before .before .before .before .before .before .before .before .before .before .time-of .ensures) (c .before .before .before .before .interval-of .ensures) (c .before .before .before .before .before .before .before .part-of .ensures ∙ ap (λ (k : ℕ). partOr k (a .call .now) 14) (c .before .before .before .before .before .before .before .before .octet .ensures))))
+    (c .before .before .start-advertise .ensures .0 ∙ ap (callOf (a .device)) (as-start (a .call .now) (a .tx .now) (sym (c .before .before .before .before .before .before .octet2 .ensures) ∙ c .before .before .before .before .before .match .keys1) (c .before .before .before .before .before .before .before .before .before .from-raw-micros .ensures ∙ c .before .before .before .before .before .before .before .before .before .before .time-of .ensures) (c .before .before .before .before .interval-of .ensures) (c .before .before .before .before .before .before .before .part-of .ensures .1 ∙ ap (λ (k : ℕ). partOr k (a .call .now) 14) (c .before .before .before .before .before .before .before .before .octet .ensures))), c .before .before .start-advertise .ensures .1 ∙ ap (λ (k : Call). bufferAfter (a .device) k (a .tx .now)) (as-start (a .call .now) (a .tx .now) (sym (c .before .before .before .before .before .before .octet2 .ensures) ∙ c .before .before .before .before .before .match .keys1) (c .before .before .before .before .before .before .before .before .before .from-raw-micros .ensures ∙ c .before .before .before .before .before .before .before .before .before .before .time-of .ensures) (c .before .before .before .before .interval-of .ensures) (c .before .before .before .before .before .before .before .part-of .ensures .1 ∙ ap (λ (k : ℕ). partOr k (a .call .now) 14) (c .before .before .before .before .before .before .before .before .octet .ensures))))
 
 returns-2 : tie.Need-returns-2
 returns-2 c =
@@ -26,7 +26,7 @@ returns-2 c =
 returns-3 : tie.Need-returns-3
 returns-3 c =
     let a = c .before .before .before .before .before .before .before .before .before .before .before .before .args in
-    (c .process-adv-packet .ensures ∙ ap (callOf (a .device)) (as-packet (a .call .now) (a .tx .now) (sym (c .before .before .before .before .before .octet2 .ensures) ∙ c .before .before .before .before .match .keys3) (c .before .before .before .before .before .before .before .before .from-raw-micros .ensures ∙ c .before .before .before .before .before .before .before .before .before .time-of .ensures) (c .before .before .header-of .ensures ∙ ap (λ (s : List ℕ). headerOr (parsed s)) (c .before .before .before .part-of2 .ensures)) (c .before .before .before .before .before .before .part-of .ensures ∙ ap (λ (k : ℕ). partOr k (a .call .now) 14) (c .before .before .before .before .before .before .before .octet .ensures)) (ap (λ (k : ℕ). eqb k 1) (c .before .octet3 .ensures))), ap (λ (k : Call). bufferAfter (a .device) k (a .tx .now)) (as-packet (a .call .now) (a .tx .now) (sym (c .before .before .before .before .before .octet2 .ensures) ∙ c .before .before .before .before .match .keys3) (c .before .before .before .before .before .before .before .before .from-raw-micros .ensures ∙ c .before .before .before .before .before .before .before .before .before .time-of .ensures) (c .before .before .header-of .ensures ∙ ap (λ (s : List ℕ). headerOr (parsed s)) (c .before .before .before .part-of2 .ensures)) (c .before .before .before .before .before .before .part-of .ensures ∙ ap (λ (k : ℕ). partOr k (a .call .now) 14) (c .before .before .before .before .before .before .before .octet .ensures)) (ap (λ (k : ℕ). eqb k 1) (c .before .octet3 .ensures))))
+    (c .process-adv-packet .ensures ∙ ap (callOf (a .device)) (as-packet (a .call .now) (a .tx .now) (sym (c .before .before .before .before .before .octet2 .ensures) ∙ c .before .before .before .before .match .keys3) (c .before .before .before .before .before .before .before .before .from-raw-micros .ensures ∙ c .before .before .before .before .before .before .before .before .before .time-of .ensures) (c .before .before .header-of .ensures ∙ ap (λ (s : List ℕ). headerOr (parsed s)) (c .before .before .before .part-of2 .ensures .1)) (c .before .before .before .before .before .before .part-of .ensures .1 ∙ ap (λ (k : ℕ). partOr k (a .call .now) 14) (c .before .before .before .before .before .before .before .octet .ensures)) (ap (λ (k : ℕ). eqb k 1) (c .before .octet3 .ensures))), ap (λ (k : Call). bufferAfter (a .device) k (a .tx .now)) (as-packet (a .call .now) (a .tx .now) (sym (c .before .before .before .before .before .octet2 .ensures) ∙ c .before .before .before .before .match .keys3) (c .before .before .before .before .before .before .before .before .from-raw-micros .ensures ∙ c .before .before .before .before .before .before .before .before .before .time-of .ensures) (c .before .before .header-of .ensures ∙ ap (λ (s : List ℕ). headerOr (parsed s)) (c .before .before .before .part-of2 .ensures .1)) (c .before .before .before .before .before .before .part-of .ensures .1 ∙ ap (λ (k : ℕ). partOr k (a .call .now) 14) (c .before .before .before .before .before .before .before .octet .ensures)) (ap (λ (k : ℕ). eqb k 1) (c .before .octet3 .ensures))))
 
 returns-4 : tie.Need-returns-4
 returns-4 c =

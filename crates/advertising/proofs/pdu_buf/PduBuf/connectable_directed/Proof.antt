@@ -6,7 +6,6 @@ use lib.ListN.{length, length-append}
 use borrow.Author.Needs.{needs}
 use Rattle.addresses.specs.declared.header.PduType.the-variants.{AdvDirectInd}
 use Rattle.advertising.proofs.Buffers.{placed-first, placed-behind}
-use Rattle.addresses.specs.Address.{isRandom}
 use Rattle.advertising.specs.PduBuf.{padded, headerFor, bufOf}
 use Rattle.advertising.proofs.pdu_buf.PduBuf.connectable_directed.Statement.{statement}
 use Rattle.advertising.proofs.pdu_buf.PduBuf.connectable_directed.Tie as tie
@@ -35,9 +34,7 @@ returns c =
     let y = a .initiator-addr in
     let long : 12 ≡ length (x .bytes ++ y .bytes) =
     simp length-append (omega (arith, six raw, six-2 other, ap length (raw .raw .ensures), ap length (other .raw2 .ensures))) in
-    let header-is : c .header-for .result ≡ headerFor AdvDirectInd (isRandom (x .kind)) (isRandom (y .kind)) (length (x .bytes ++ y .bytes)) =
-    c .header-for .ensures
-    ∙ rw (c .before .is-random2 .ensures, c .before .before .is-random .ensures) (ap (headerFor AdvDirectInd (isRandom (x .kind)) (isRandom (y .kind))) long) in
+    let header-is = c .header-for .ensures ∙ (λ i. headerFor AdvDirectInd (c .before .before .is-random .ensures i) (c .before .is-random2 .ensures i) (long i)) in
     let payload-is : placed .placed2 .result ≡ padded (x .bytes ++ y .bytes) = payload placed ∙ rw (raw .raw .ensures, other .raw2 .ensures) in
     λ i. record { header = header-is i; «payload_buf» = payload-is i }
 

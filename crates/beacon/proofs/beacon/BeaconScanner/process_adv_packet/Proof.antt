@@ -11,7 +11,7 @@ returns c =
     let scan = c .before .before .before .before in
     let found = scan .before .before in
     let a = found .before .before .before .before .args in
-    filtered (a .self) (a .header) (a .payload .now) (a .crc-ok) (a .list .now) (found .heard .result) _ (found .heard .ensures)
+    filtered (a .self) (a .header) (a .payload .now) (a .crc-ok) (a .list .now) (found .unfiltered .result) _ (found .unfiltered .ensures)
     (sym (scan .should-scan .ensures) ∙ c .before .before .passes .given .1 ∙ ap matches.Is (c .if1 .taken))
 
 returns-2 : tie.Need-returns-2
@@ -21,7 +21,7 @@ returns-2 c =
     let found = scan .before .before in
     let a = found .before .before .before .before .args in
     c .unreported .ensures
-    ∙ filtered (a .self) (a .header) (a .payload .now) (a .crc-ok) (a .list .now) (found .heard .result) _ (found .heard .ensures)
+    ∙ filtered (a .self) (a .header) (a .payload .now) (a .crc-ok) (a .list .now) (found .unfiltered .result) _ (found .unfiltered .ensures)
     (sym (scan .should-scan .ensures) ∙ left .before .before .passes .given .1 ∙ ap matches.Is (left .if1 .left))
 
 returns-3 : tie.Need-returns-3
@@ -30,7 +30,7 @@ returns-3 c =
     let found = scan .before .before in
     let a = found .before .before .before .before .args in
     c .unreported2 .ensures
-    ∙ filter-refused (a .self) (a .header) (a .payload .now) (a .crc-ok) (a .list .now) (found .heard .result) _
+    ∙ filter-refused (a .self) (a .header) (a .payload .now) (a .crc-ok) (a .list .now) (found .unfiltered .result) _
     (sym (scan .should-scan .ensures) ∙ c .before .before .e .given .1)
 
 pub process-adv-packet-spec : {M : Type 1} → statement M

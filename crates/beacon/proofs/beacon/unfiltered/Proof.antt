@@ -1,21 +1,21 @@
--- `beacon::heard` meets its contract: the checks in their order. Assumes nothing.
+-- `beacon::unfiltered` meets its contract: the checks in their order. Assumes nothing.
 use mathlib.Core.Bool.{Bool}
 use mathlib.Core.Path.{_≡_, sym, ap, _∙_}
 use borrow.Author.Needs.{needs}
 use Rattle.addresses.specs.Header.{isBeacon, bits, typeOf}
 use Rattle.addresses.specs.declared.header.Header.{Header}
 use Rattle.addresses.specs.declared.header.PduType.{PduType}
-use Rattle.beacon.specs.Scanner.{isType2, heardOf}
+use Rattle.beacon.specs.Scanner.{isType2, unfiltered}
 use Rattle.beacon.proofs.Filtering.{beacon-type}
-use Rattle.beacon.proofs.beacon.heard.Statement.{statement}
-use Rattle.beacon.proofs.beacon.heard.Tie as tie
+use Rattle.beacon.proofs.beacon.unfiltered.Statement.{statement}
+use Rattle.beacon.proofs.beacon.unfiltered.Tie as tie
 
 -- the code's test of the type
 type-2 : (h : Header) {ty : PduType} {b t : Bool} → ty ≡ typeOf h → b ≡ t → b ≡ isBeacon ty → isType2 h ≡ t
 type-2 h is came test = sym (beacon-type (bits 0 4 h)) ∙ sym (ap isBeacon is) ∙ sym test ∙ came
 
 returns : tie.Need-returns
-unfolding heardOf
+unfolding unfiltered
 returns c =
     let type = c .before .before .before in
     let a = type .before .before .before .before .args in
@@ -27,7 +27,7 @@ returns c =
     )
 
 returns-2 : tie.Need-returns-2
-unfolding heardOf
+unfolding unfiltered
 returns-2 c =
     let type = c .before .before in
     let a = type .before .before .before .before .args in
@@ -38,11 +38,11 @@ returns-2 c =
     )
 
 returns-3 : tie.Need-returns-3
-unfolding heardOf
+unfolding unfiltered
 returns-3 c = c .unreported2 .ensures ∙ rw (c .before .if1 .left)
 
-pub heard-spec : {M : Type 1} → statement M
-heard-spec =
+pub unfiltered-spec : {M : Type 1} → statement M
+unfiltered-spec =
     tie.close
     (tie.spec
     (λ c κs. search needs)

@@ -1,11 +1,11 @@
--- `packet_of` meets its contract: each field is what its accessor ensures. Assumes nothing.
+-- `packet_said` meets its contract: each field is what its accessor ensures. Assumes nothing.
 use mathlib.Core.Path.{_≡_, ap, _∙_}
 use Rattle.addresses.specs.Address.{isRandom}
 use Rattle.channels.specs.declared.channel_map.ChannelMap.{ChannelMap}
 use Rattle.decode.specs.Packet.{accuracyNumber, packetSaid}
 use borrow.Author.Needs.{needs}
-use Rattle.decode.proofs.packet.packet_of.Statement.{statement}
-use Rattle.decode.proofs.packet.packet_of.Tie as tie
+use Rattle.decode.proofs.packet.packet_said.Statement.{statement}
+use Rattle.decode.proofs.packet.packet_said.Tie as tie
 
 returns : tie.Need-returns
 unfolding packetSaid
@@ -37,8 +37,8 @@ returns c =
       sca = (c .accuracy-number .ensures ∙ ap accuracyNumber (c .before .sca .ensures)) i;
     }
 
-pub packet-of-spec : {M : Type 1} → statement M
-packet-of-spec =
+pub packet-said-spec : {M : Type 1} → statement M
+packet-said-spec =
     tie.close
     (tie.spec
     (λ c κs. search needs)
