@@ -17,7 +17,7 @@ use Rattle.addresses.specs.declared.header.PduType.the-variants.{AdvInd, AdvDir
 use Rattle.octets.proofs.Places.{enough, too-few}
 use Rattle.octets.specs.declared.error.Error.the-variants.{Eof}
 use Rattle.records.proofs.RoundTrip.{round-trip}
-use Rattle.records.specs.Area.{cut, reads, before, areaOf, readArea, clean, rewritten}
+use Rattle.records.specs.Area.{cut, reads, withFirst, areaOf, readArea, clean, rewritten}
 use Rattle.records.specs.Record.{named, first, flagsRead, dataRead, upTo, recordRead}
 use Rattle.records.specs.declared.area.Area.the-variants as area
 use Rattle.advertising.specs.Builders.{Builds, Builders, Directed, Writing, Examples}
@@ -127,7 +127,7 @@ writing b out =
     }
 
 pub examples : Examples
-unfolding decodeOf byType connectRequest requestOf pduType bufOf withRecords afterReading readArea areaOf reads before cut first recordRead dataRead flagsRead upTo named clean rewritten flatten
+unfolding decodeOf byType connectRequest requestOf pduType bufOf withRecords afterReading readArea areaOf reads withFirst cut first recordRead dataRead flagsRead upTo named clean rewritten flatten
 examples =
     record {
       connectable = refl;

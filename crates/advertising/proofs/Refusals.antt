@@ -17,7 +17,7 @@ use Rattle.addresses.specs.declared.header.PduType.the-variants.{AdvInd, AdvDir
 use Rattle.octets.proofs.Places.{enough, too-few}
 use Rattle.octets.specs.Error.{numberOf}
 use Rattle.octets.specs.declared.error.Error.{Error}
-use Rattle.records.specs.Area.{cut, reads, before, areaOf, readArea}
+use Rattle.records.specs.Area.{cut, reads, withFirst, areaOf, readArea}
 use Rattle.records.specs.Record.{named, first, flagsRead, dataRead, upTo, recordRead}
 use Rattle.records.specs.declared.area.Area.{Area}
 use Rattle.records.specs.declared.area.Area.the-variants as area
@@ -140,7 +140,7 @@ from-bytes s =
     }
 
 pub rows : Rows
-unfolding decodeOf byType undirected directed connectRequest withArea requestOf pduType readArea areaOf reads before cut first recordRead dataRead flagsRead upTo named
+unfolding decodeOf byType undirected directed connectRequest withArea requestOf pduType readArea areaOf reads withFirst cut first recordRead dataRead flagsRead upTo named
 rows =
     record {
       type-0 = refl;
