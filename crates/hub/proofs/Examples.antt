@@ -16,6 +16,7 @@ examples =
       last-whole = refl;
       left-over = refl;
       room = refl;
+      crc-good = refl;
       stuck = refl;
       stuck-beyond = refl;
       none-left = refl;

@@ -7,7 +7,7 @@ use Rattle.channels.specs.declared.phy.AdvertisingChannel.the-variants.{Channel
 use Rattle.addresses.specs.declared.device_address.AddressKind.the-variants.{Public, Random}
 use Rattle.beacon.specs.declared.beacon.BeaconScanner.{BeaconScanner}
 use Rattle.hub.specs.Line.{reportLine, roomFor}
-use Rattle.hub.specs.Log.{scannerAfter, leftOver, lastLine, fresh, isStuck, isReady}
+use Rattle.hub.specs.Log.{isCrcGood, scannerAfter, leftOver, lastLine, fresh, isStuck, isReady}
 use Rattle.hub.specs.declared.Hub.{Hub}
 
 -- a hub that has counted so many items and reports
@@ -29,6 +29,8 @@ pub record Examples : Type 0 where
   pub left-over : map leftOver (0 ∷ 1 ∷ 2 ∷ 65 ∷ []) ≡ 0 ∷ 1 ∷ 1 ∷ 1 ∷ []
   -- the shortest item that is reported has nine octets, and its line 36
   pub room : map roomFor (0 ∷ 1 ∷ 9 ∷ []) ≡ 0 ∷ 4 ∷ 36 ∷ []
+  -- 01 alone is CRC-good
+  pub crc-good : map isCrcGood (0x00 ∷ 0x01 ∷ 0x02 ∷ 0x03 ∷ []) ≡ false ∷ true ∷ false ∷ false ∷ []
   -- nothing follows another first octet, or the last item that counts; an item may begin with 00, 01 and 02
   pub stuck : map (λ (first : ℕ). isStuck 999998 (first ∷ [])) (0x00 ∷ 0x01 ∷ 0x02 ∷ 0x03 ∷ 0xFF ∷ []) ≡ false ∷ false ∷ false ∷ true ∷ true ∷ []
   pub stuck-beyond : map (λ (count : ℕ). isStuck count (0x00 ∷ [])) (0 ∷ 999998 ∷ 999999 ∷ []) ≡ false ∷ false ∷ true ∷ []
