@@ -15,7 +15,7 @@ use Rattle.records.specs.declared.area.Area.the-variants.{Accepted}
 use Rattle.records.specs.Record.{recordRead, first, recordAt}
 use Rattle.records.specs.Area.{cut, records, AcceptedFrom, readArea, clean, rewritten, mayRewrite, rewrittenTo, rewrittenAfter}
 use Rattle.records.specs.Accepted.{Good}
-use Rattle.records.specs.RoundTrip.{Begins, at-the-front, behind-one, FlagsOctet, Restores, Rewriting}
+use Rattle.records.specs.RoundTrip.{Begins, at-the-front, behind-one, FlagsOctet, ReadAt, Restores, Rewriting}
 use Rattle.octets.proofs.Places.{front}
 use Rattle.records.proofs.Cuts.{here, at-here, Step, stepped, ended, counting, area-refused, accepted-more}
 use Rattle.records.proofs.Accepted.{Class, class}
@@ -30,6 +30,7 @@ next s p = p + 1 + getD s p 0
 record Whole (s : List ℕ) (p : ℕ) : Type 0 where
   good : Good (getD s p 0) (take (getD s p 0) (drop (p + 1) s))
   step : Step s p (next s p)
+  read : ReadAt s p
   onward : AcceptedFrom s (next s p)
 
 whole-at : (s : List ℕ) (p : ℕ) → AcceptedFrom s p → p < length s → Whole s p
@@ -49,7 +50,7 @@ whole-at s p from inside = go (here s p) refl
         let ends : p + length (first (drop p s)) ≡ q = step .ends in
         let size : length (first (drop p s)) ≡ suc (length (take n (drop (p + 1) s))) = ap length octets in
         let is : q ≡ p + 1 + n = omega (arith, good .whole) in
-        record { good = good; step = subst (Step s p) is step; onward = subst (AcceptedFrom s) is (accepted-more s p e from) }
+        record { good = good; step = subst (Step s p) is step; read = record { structure = a; reads = at-here s p (omega arith) ∙ e ∙ ap (Record a) is }; onward = subst (AcceptedFrom s) is (accepted-more s p e from) }
     go End e = let none : length s - p ≡ 0 = sym (length-drop p s) ∙ ap length (ended s p e) in absurd (omega arith)
     go (Read.Refused k) e =
         let refused = area-refused s p 0 e in
@@ -189,6 +190,7 @@ module _ (s out : List ℕ) {n : ℕ} (is : readArea s ≡ Accepted n) (room : l
         flags = λ i f. in-front i (flags-inside s from i f) ∙ flags-octet s from i f;
         behind = kept-behind;
         area-again = ap readArea front-is ∙ round-trip s .area-again;
+        found = λ p b. placed s p from b .whole .read;
         record-again = λ p b. ap (λ (l : List ℕ). recordAt l p) front-is ∙ record-same s p (placed s p from b);
       }
 

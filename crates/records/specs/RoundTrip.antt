@@ -81,6 +81,11 @@ pub record FlagsOctet (s : List ℕ) (i : ℕ) : Type 0 where
   pub type : getD s (start + 1) 0 ≡ 0x01
   pub place : i ≡ start + 2
 
+-- a record is read there, up to where the next one begins
+pub record ReadAt (s : List ℕ) (p : ℕ) : Type 0 where
+  pub structure : AdStructure
+  pub reads : recordAt s p ≡ Record structure (p + 1 + getD s p 0)
+
 -- "Records read and rewritten restore their octets, save undefined Flags bits."
 pub record Restores (s out : List ℕ) : Type 0 where
   pub answers : rewrittenTo s out ≡ To (record { at = length s })
@@ -93,6 +98,7 @@ pub record Restores (s out : List ℕ) : Type 0 where
   pub behind : (i : ℕ) → length s ≤ i → getD (rewrittenAfter s out) i 0 ≡ getD out i 0
   -- reading what was written gives the same records at the same places
   pub area-again : readArea (take (length s) (rewrittenAfter s out)) ≡ readArea s
+  pub found : (p : ℕ) → Begins s p → ReadAt s p
   pub record-again : (p : ℕ) → Begins s p → recordAt (take (length s) (rewrittenAfter s out)) p ≡ recordAt s p
 
 -- a refused rewriting leaves `out`
