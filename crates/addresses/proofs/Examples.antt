@@ -56,6 +56,7 @@ examples = record {
   bit-4 = refl;
   bit-5 = refl;
   bit-7 = refl;
+  bits-6-7 = refl;
   bit-8 = refl;
   bit-13 = refl;
   bit-14 = refl;

@@ -90,6 +90,7 @@ pub record Examples : Type 0 where
   pub bit-4 : typeOf (headerOf 0x0010) ≡ AdvInd
   pub bit-5 : txAdd (headerOf 0x0020) ≡ false
   pub bit-7 : rxAdd (headerOf 0x0080) ≡ true
+  pub bits-6-7 : txAdd (headerOf 0x00C0) ≡ true
   pub bit-8 : lengthOf (headerOf 0x0180) ≡ 1
   pub bit-13 : lengthOf (headerOf 0x2000) ≡ 32
   pub bit-14 : lengthOf (headerOf 0x4000) ≡ 0

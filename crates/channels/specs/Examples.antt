@@ -9,7 +9,7 @@ use Rattle.octets.specs.declared.error.Error.the-variants.{EmptyMap, NoSuchChan
 use Rattle.channels.specs.Count.{count, placed}
 use Rattle.channels.specs.Hop.{hopTo, hopped, handed}
 use Rattle.channels.specs.Laws.{cycles, rowMap}
-use Rattle.channels.specs.Map.{marks, fromRaw, allChannels, isUsed, byIndex}
+use Rattle.channels.specs.Map.{marks, channelAt, fromRaw, allChannels, isUsed, byIndex}
 use Rattle.channels.specs.Phy.{whiteningStart, indexOf, firstChannel, ascending, advertisingRf, advertisingFrequency, advertisingWhitening, dataFrequency, dataWhitening, newChannel}
 use Rattle.channels.specs.declared.channel_map.ChannelMap.{ChannelMap}
 use Rattle.channels.specs.declared.channel_map.Used.the-variants as used
@@ -62,10 +62,13 @@ pub record Examples : Type 0 where
   pub place-0 : byIndex (fromRaw rowMap) 0 ≡ found.Channel (dataChannel 1)
   pub place-1 : byIndex (fromRaw rowMap) 1 ≡ found.Channel (dataChannel 3)
   pub place-2 : byIndex (fromRaw rowMap) 2 ≡ found.Refused NoSuchChannel
+  pub no-channel-37 : channelAt (0 ∷ 0 ∷ 0 ∷ 0 ∷ 0x20 ∷ []) 0 ≡ 0
   pub place-0-of-none : byIndex (mapOf 0 0 0 0 0) 0 ≡ found.Refused NoSuchChannel
-  -- what `hop_channel` answers on the way of document 01's row, map 0A 00 00 00 00 and hop 5; the low 5 bits of a hop octet; hop 0
+  -- what `hop_channel` answers on the way of document 01's row, map 0A 00 00 00 00 and hop 5; a marked channel, though 1 mod 2 is the place of 3;
+  -- the low 5 bits of a hop octet; hop 0
   pub first-hop : hopped (fromRaw rowMap) 0 5 ≡ To 5 (dataChannel 3)
   pub second-hop : hopped (fromRaw rowMap) 5 5 ≡ To 10 (dataChannel 1)
+  pub marked-hop : hopped (fromRaw rowMap) 0 1 ≡ To 1 (dataChannel 1)
   pub low-5-bits : hopped (fromRaw rowMap) 0 0b11100101 ≡ To 5 (dataChannel 3)
   pub hop-0 : hopped (fromRaw rowMap) 5 0 ≡ To 5 (dataChannel 3)
   pub over-36 : hopped allChannels 36 31 ≡ To 30 (dataChannel 30)
