@@ -21,7 +21,7 @@ nine-decoded = refl
 
 pub example : Example
 unfolding decodeOf byType undirected withArea connectRequest requestOf pduType readArea areaOf reads cut
-example = record { connect-request = refl; no-receiver = refl; no-lldata = refl; no-records = refl; refused = refl }
+example = record { connect-request = refl; hops = refl; clocks = refl; no-receiver = refl; no-lldata = refl; no-records = refl; refused = refl }
 
 pub accuracies : Accuracies
 accuracies zero h = refl

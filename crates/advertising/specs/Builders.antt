@@ -1,6 +1,7 @@
 -- What each builder builds, by numbers and octets (document 01, advertising.rs).
 --   Builds code flags most build a s   what a builder makes of the address a and the records s
---   Builders        (Builders.builders)   the builders, each by its type's code
+--   Builders a s    (Builders.builders)   the builders, each by its type's code
+--   Directed a b    (Builders.directed)   the builder of two addresses
 --   Writing b out   (Builders.writing)    the payload copied to a buffer
 --   Examples        (Builders.examples)   worked values
 use mathlib.Core.Bool.{Bool, true, false}
@@ -48,7 +49,7 @@ pub record Builders (a : DeviceAddress) (s : List ℕ) : Type 0 where
   pub discoverable : Builds 0 (0x02 ∷ 0x01 ∷ 0x06 ∷ []) 28 discoverablePdu a s
   pub scan-response : Builds 4 [] 31 scanResponsePdu a s
 
--- The directed one: type 1, TxAdd the kind of the first address and RxAdd that of the second; 12 octets, and zeros.
+-- The builder of two addresses: type 1, TxAdd the kind of the first address and RxAdd that of the second; 12 octets, and zeros.
 pub record Directed (a b : DeviceAddress) : Type 0 where
   pub header : builtDirected a b .header .0 ≡ 1 + 64 * kindNumber (a .kind) + 128 * kindNumber (b .kind) + 256 * 12
   pub octets : builtDirected a b .«payload_buf» ≡ (a .bytes ++ b .bytes) ++ replicate 25 0

@@ -132,6 +132,9 @@ pub record Example : Type 0 where
         hop = 1;
         sca = Ppm151To250;
       })
+  -- its last octet: the hop in the low 5 bits, the clock accuracy in the high 3
+  pub hops : map (λ (o : ℕ). row 0x85 0x22 (take 33 counted ++ (o ∷ [])) .pdu .lldata .hop) (0x1F ∷ 0x20 ∷ 0xFF ∷ []) ≡ 31 ∷ 0 ∷ 31 ∷ []
+  pub clocks : map (λ (o : ℕ). row 0x85 0x22 (take 33 counted ++ (o ∷ [])) .pdu .lldata .sca) (0x1F ∷ 0x20 ∷ 0xFF ∷ []) ≡ Ppm251To500 ∷ Ppm151To250 ∷ Ppm0To20 ∷ []
   -- what a type lacks is zero, and so is all of a refused PDU, whose type is none
   pub no-receiver : row 0x02 0x06 (take 6 nine) .pdu .receiver ≡ addressOf (0 ∷ 0 ∷ 0 ∷ 0 ∷ 0 ∷ 0 ∷ []) Public
   pub no-lldata : row 0x02 0x06 (take 6 nine) .pdu .lldata

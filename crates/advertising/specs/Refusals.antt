@@ -1,6 +1,7 @@
 -- Which header and payload are refused, and with which number (document 01: "Order: length, type, fields from the front.").
 --   numberFor n p     == document 01's number for a header of the 16 bits n and the payload p, 0 where they are accepted
 --   needed            == how many octets the fields of types 0 to 6 need
+--   Among c cs        == c is one of cs
 --   Order n p         (Refusals.order)       that number, by the header's bits and the payload's length
 --   readFrom s at     == what is read of header and payload in one slice, from position `at` on
 --   FromBytes s       (Refusals.from-bytes)  that, by the octets of s
