@@ -106,6 +106,7 @@ examples =
       past-out = refl;
       flags-area = refl;
       list-area = refl;
+      each-read = refl;
       no-area = refl;
       cut-short = refl;
       two-flags = refl;

@@ -29,7 +29,7 @@ use Rattle.records.specs.Flags.{limitedDiscoverable, generalDiscoverable
 use Rattle.records.specs.Record.{named, recordAt, knownRead}
 use Rattle.records.specs.Uuids.{uuid16At}
 use Rattle.records.specs.Write.{ownIn, lentCheck, writtenTo, writtenAfter}
-use Rattle.records.specs.Area.{readArea, rewrittenTo, rewrittenAfter}
+use Rattle.records.specs.Area.{records, reads, readArea, rewrittenTo, rewrittenAfter}
 
 abbrev pub refusal : Written → ℕ
 refusal (To next) = 0
@@ -175,6 +175,7 @@ pub record Examples : Type 0 where
   -- areas: document 01's rows read as areas, and rewritten to a buffer that is longer
   pub flags-area : readArea (0x02 ∷ 0x01 ∷ 0x86 ∷ []) ≡ Accepted 1
   pub list-area : readArea (0x01 ∷ 0x03 ∷ []) ≡ Accepted 1
+  pub each-read : reads (records (0x02 ∷ 0x01 ∷ 0x86 ∷ 0x01 ∷ 0x03 ∷ [])) 0 ≡ Record (Flags (record { bits = 0x06 })) 3 ∷ Record (ServiceUuids16 true 5 0) 5 ∷ []
   pub no-area : readArea [] ≡ Accepted 0
   pub cut-short : readArea (0x02 ∷ 0x01 ∷ 0x86 ∷ 0x02 ∷ 0x0A ∷ []) ≡ Area.Refused Eof
   pub two-flags : readArea (0x03 ∷ 0x01 ∷ 0x06 ∷ 0x06 ∷ []) ≡ Area.Refused InvalidLength
