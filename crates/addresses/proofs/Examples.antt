@@ -26,6 +26,7 @@ examples = record {
   listed = refl;
   listed-public = refl;
   listed-second = refl;
+  listed-second-public = refl;
   listed-first = refl;
   other-listed = refl;
   none-listed = refl;

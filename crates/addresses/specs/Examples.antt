@@ -55,6 +55,7 @@ pub record Examples : Type 0 where
   pub listed : matchesOf Whitelist (entry 1) random ≡ Is true
   pub listed-public : matchesOf Whitelist (entry 0) public ≡ Is true
   pub listed-second : matchesOf Whitelist (other ++ entry 1) random ≡ Is true
+  pub listed-second-public : matchesOf Whitelist (other ++ entry 0) public ≡ Is true
   pub listed-first : matchesOf Whitelist (entry 1 ++ other) random ≡ Is true
   pub other-listed : matchesOf Whitelist (entry 0 ++ other) random ≡ Is false
   pub none-listed : matchesOf Whitelist [] random ≡ Is false

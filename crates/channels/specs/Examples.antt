@@ -58,10 +58,12 @@ pub record Examples : Type 0 where
   pub top-bits : mapOf 0x0A 0 0 0 0xE0 ≡ record { raw = rowMap; «num_used_channels» = 2 }
   pub full : mapOf 0xff 0xff 0xff 0xff 0xff ≡ allChannels
   pub all-37 : allChannels .«num_used_channels» ∷ marks (allChannels .raw) ∷ [] ≡ 37 ∷ 37 ∷ []
-  -- places of the map 0A 00 00 00 00 and of the empty one: 8, and never 6
+  -- places of the map 0A 00 00 00 00, of the full one and of the empty one: 8, and never 6
   pub place-0 : byIndex (fromRaw rowMap) 0 ≡ found.Channel (dataChannel 1)
   pub place-1 : byIndex (fromRaw rowMap) 1 ≡ found.Channel (dataChannel 3)
   pub place-2 : byIndex (fromRaw rowMap) 2 ≡ found.Refused NoSuchChannel
+  pub place-36 : byIndex allChannels 36 ≡ found.Channel (dataChannel 36)
+  pub place-37 : byIndex allChannels 37 ≡ found.Refused NoSuchChannel
   pub no-channel-37 : channelAt (0 ∷ 0 ∷ 0 ∷ 0 ∷ 0x20 ∷ []) 0 ≡ 0
   pub place-0-of-none : byIndex (mapOf 0 0 0 0 0) 0 ≡ found.Refused NoSuchChannel
   -- what `hop_channel` answers on the way of document 01's row, map 0A 00 00 00 00 and hop 5; a marked channel, though 1 mod 2 is the place of 3;
