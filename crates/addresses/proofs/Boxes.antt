@@ -10,7 +10,7 @@ use lib.ListN.{getD}
 use lib.Dec.{eqb}
 use borrow.Author.Tests.{eqb-true, ne-eqb, lt-ltb, le-ltb}
 use Rattle.addresses.specs.Header.{headerOf, typeCode, pduType, isBeacon, allowsAdvData}
-use Rattle.addresses.specs.Laws.{boxes, OwnBits, figure, Figure, Codes, Types}
+use Rattle.addresses.specs.Laws.{boxes, OwnBits, figure, HeaderFigure, Codes, Types}
 use Rattle.addresses.specs.declared.header.Header.{Header}
 use Rattle.addresses.specs.declared.header.HeaderMade.the-variants as made
 use Rattle.addresses.specs.declared.header.PduType.{PduType}
@@ -154,7 +154,7 @@ bit-is : (v : Bool) → eqb (cond v 1 0) 1 ≡ v
 bit-is true = refl
 bit-is false = refl
 
-pub figures : (ty low n top : ℕ) (tx rx : Bool) → ty < 16 → low < 4 → n < 64 → Figure ty low tx rx n top
+pub figures : (ty low n top : ℕ) (tx rx : Bool) → ty < 16 → low < 4 → n < 64 → HeaderFigure ty low tx rx n top
 figures ty low n top tx rx a b c =
     let t : ℕ = cond tx 1 0 in
     let r : ℕ = cond rx 1 0 in

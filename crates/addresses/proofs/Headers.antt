@@ -9,14 +9,14 @@ use borrow.Author.Tests.{lt-ltb, le-ltb, le-leb, lt-leb}
 use Rattle.octets.proofs.Places.{part-octets}
 use Rattle.octets.specs.Bytes.{part, le}
 use Rattle.addresses.specs.Header.{headerOf}
-use Rattle.addresses.specs.Laws.{Reading}
+use Rattle.addresses.specs.Laws.{HeaderReading}
 use Rattle.addresses.specs.declared.header.HeaderMade.the-variants as made
 
 -- the number of two octets
 two : (s : List ℕ) (at : ℕ) → at + 2 ≤ length s → le (part 2 s at) ≡ getD s at 0 + 256 * getD s (at + 1) 0
 two s at h = rw (part-octets 1 s at (omega arith)) (omega arith)
 
-pub reading : (s : List ℕ) (at : ℕ) → Reading s at
+pub reading : (s : List ℕ) (at : ℕ) → HeaderReading s at
 reading s at = record {
   parse = λ h. rw (le-ltb (length s) 2 h, two s 0 h);
   parse-short = λ h. rw (lt-ltb (length s) 2 h);

@@ -20,8 +20,8 @@ use Rattle.addresses.specs.declared.header.PduType.the-variants.{AdvInd,
 abbrev pub six : List ℕ
 six = 1 ∷ 2 ∷ 3 ∷ 4 ∷ 5 ∷ 0xC6 ∷ []
 
-abbrev pub entry : ℕ → List ℕ
-entry kind = kind ∷ six
+abbrev pub entryOf : ℕ → List ℕ
+entryOf kind = kind ∷ six
 
 abbrev pub other : List ℕ
 other = 0 ∷ 1 ∷ 2 ∷ 3 ∷ 4 ∷ 5 ∷ 0xC7 ∷ []
@@ -52,19 +52,19 @@ pub record Examples : Type 0 where
   pub other-last : sameAddress (addressOf (1 ∷ 2 ∷ 3 ∷ 4 ∷ 5 ∷ 0xC7 ∷ []) Random) random ≡ false
   pub other-first : sameAddress (addressOf (0 ∷ 2 ∷ 3 ∷ 4 ∷ 5 ∷ 0xC6 ∷ []) Random) random ≡ false
   -- "A whitelist matches if some entry is equal; an empty one never does"
-  pub listed : matchesOf Whitelist (entry 1) random ≡ Is true
-  pub listed-public : matchesOf Whitelist (entry 0) public ≡ Is true
-  pub listed-second : matchesOf Whitelist (other ++ entry 1) random ≡ Is true
-  pub listed-second-public : matchesOf Whitelist (other ++ entry 0) public ≡ Is true
-  pub listed-first : matchesOf Whitelist (entry 1 ++ other) random ≡ Is true
-  pub other-listed : matchesOf Whitelist (entry 0 ++ other) random ≡ Is false
+  pub listed : matchesOf Whitelist (entryOf 1) random ≡ Is true
+  pub listed-public : matchesOf Whitelist (entryOf 0) public ≡ Is true
+  pub listed-second : matchesOf Whitelist (other ++ entryOf 1) random ≡ Is true
+  pub listed-second-public : matchesOf Whitelist (other ++ entryOf 0) public ≡ Is true
+  pub listed-first : matchesOf Whitelist (entryOf 1 ++ other) random ≡ Is true
+  pub other-listed : matchesOf Whitelist (entryOf 0 ++ other) random ≡ Is false
   pub none-listed : matchesOf Whitelist [] random ≡ Is false
   -- 3: a list of 6 or 8 octets; a kind above 1, also behind the entry that matches
   pub list-of-6 : matchesOf Whitelist six random ≡ Refused InvalidValue
-  pub list-of-8 : matchesOf Whitelist (entry 1 ++ 1 ∷ []) random ≡ Refused InvalidValue
-  pub kind-2 : matchesOf Whitelist (entry 2) random ≡ Refused InvalidValue
-  pub kind-2-behind : matchesOf Whitelist (entry 1 ++ entry 2) random ≡ Refused InvalidValue
-  pub all-pass : matchesOf AllowAll (entry 2) random ≡ Is true
+  pub list-of-8 : matchesOf Whitelist (entryOf 1 ++ 1 ∷ []) random ≡ Refused InvalidValue
+  pub kind-2 : matchesOf Whitelist (entryOf 2) random ≡ Refused InvalidValue
+  pub kind-2-behind : matchesOf Whitelist (entryOf 1 ++ entryOf 2) random ≡ Refused InvalidValue
+  pub all-pass : matchesOf AllowAll (entryOf 2) random ≡ Is true
   -- rubble's `AdvFilter::new(scan, connect)`
   pub all-scan : mayScan (advFilterOf AllowAll Whitelist) [] random ≡ Is true
   pub none-connect : mayConnect (advFilterOf AllowAll Whitelist) [] random ≡ Is false

@@ -3,8 +3,8 @@
 --   Listed        Entries.listed        a whitelist, and no filter
 --   Policies      Entries.policies      which filter each request is held to
 --   OwnBits       Boxes.own-bits        the setters of a header of 16 bits
---   Figure        Boxes.figures         the figure of a header, read and set box by box
---   Reading       Headers.reading       two octets as a header; 4 and 1
+--   HeaderFigure  Boxes.figures         the figure of a header, read and set box by box
+--   HeaderReading Headers.reading       two octets as a header; 4 and 1
 --   Codes         Boxes.codes           the types of document 01 by their codes
 --   Types         Boxes.types           which codes are beacons and which have records
 -- Worked values stand in specs/Examples.
@@ -74,7 +74,7 @@ abbrev pub figure : ℕ → ℕ → Bool → Bool → ℕ → ℕ → Header
 figure ty low tx rx n top = headerOf (ty + 2 ^ 4 * low + 2 ^ 6 * cond tx 1 0 + 2 ^ 7 * cond rx 1 0 + 2 ^ 8 * n + 2 ^ 14 * top)
 
 -- Document 01: "Header bits 0-3 type, 6 TxAdd, 7 RxAdd, 8-13 length; other bits are kept", and a length outside 6 to 37 is 7.
-pub record Figure (ty low : ℕ) (tx rx : Bool) (n top : ℕ) : Type 0 where
+pub record HeaderFigure (ty low : ℕ) (tx rx : Bool) (n top : ℕ) : Type 0 where
   pub type : typeOf (figure ty low tx rx n top) ≡ pduType ty
   pub tx-add : txAdd (figure ty low tx rx n top) ≡ tx
   pub rx-add : rxAdd (figure ty low tx rx n top) ≡ rx
@@ -87,7 +87,7 @@ pub record Figure (ty low : ℕ) (tx rx : Bool) (n top : ℕ) : Type 0 where
   pub made-new : newHeader (pduType ty) ≡ figure ty 0 false false 0 0
 
 -- Two octets are a header, the first of them its bits 0 to 7. `parse` of under 2 octets is 4; `from_bytes` at a position that has fewer is 1.
-pub record Reading (s : List ℕ) (at : ℕ) : Type 0 where
+pub record HeaderReading (s : List ℕ) (at : ℕ) : Type 0 where
   pub parse : 2 ≤ length s → parsed s ≡ made.Header (headerOf (getD s 0 0 + 256 * getD s 1 0))
   pub parse-short : length s < 2 → parsed s ≡ made.Refused ShortHeader
   pub from : at + 2 ≤ length s → headerAt s at ≡ read.Header (headerOf (getD s at 0 + 256 * getD s (at + 1) 0)) (record { at = at + 2 })

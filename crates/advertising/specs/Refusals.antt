@@ -3,7 +3,7 @@
 --   needed            == how many octets the fields of types 0 to 6 need
 --   Among c cs        == c is one of cs
 --   Order n p         (Refusals.order)       that number, by the header's bits and the payload's length
---   readFrom s at     == what is read of header and payload in one slice, from position `at` on
+--   pduFrom s at      == what is read of header and payload in one slice, from position `at` on
 --   FromBytes s       (Refusals.from-bytes)  that, by the octets of s
 --   Rows              (Refusals.rows)        worked values beside each limit, and where two conditions hold at once
 use mathlib.Core.List.{List, [], _∷_, _++_, map}
@@ -48,13 +48,13 @@ pub record Order (n : ℕ) (p : List ℕ) : Type 0 where
   -- "for 1, 3 and 5 further octets are accepted"
   pub others : n / 256 % 64 ≡ length p → Among (n % 16) (1 ∷ 3 ∷ 5 ∷ []) → getD needed (n % 16) 0 ≤ length p → numberFor n p ≡ 0
 
-abbrev pub readFrom : List ℕ → ℕ → Decoded
-readFrom s at = decodedAt (headerRead (u16Read s at)) s
+abbrev pub pduFrom : List ℕ → ℕ → Decoded
+pduFrom s at = decodedAt (headerRead (u16Read s at)) s
 
 -- `Pdu::from_bytes`: a reader with fewer than two octets left is 1, where `Header::parse` answers 4; else the payload is all that follows the header.
 pub record FromBytes (s : List ℕ) : Type 0 where
-  pub short : (at : ℕ) → length s < at + 2 → outcomeNumber (readFrom s at .outcome) ≡ 1
-  pub reads : (before : List ℕ) (h0 h1 : ℕ) (payload : List ℕ) → s ≡ before ++ (h0 ∷ h1 ∷ payload) → readFrom s (length before) ≡ decodeOf (headerOf (h0 + 256 * h1)) payload
+  pub short : (at : ℕ) → length s < at + 2 → outcomeNumber (pduFrom s at .outcome) ≡ 1
+  pub reads : (before : List ℕ) (h0 h1 : ℕ) (payload : List ℕ) → s ≡ before ++ (h0 ∷ h1 ∷ payload) → pduFrom s (length before) ≡ decodeOf (headerOf (h0 + 256 * h1)) payload
 
 -- the number of a header of type ty that counts k octets, all zero
 abbrev pub zeros : ℕ → ℕ → ℕ
@@ -62,7 +62,7 @@ zeros ty k = numberFor (ty + 256 * k) (replicate k 0)
 
 -- the number of what is read from position `at` on
 abbrev pub numberFrom : List ℕ → ℕ → ℕ
-numberFrom s at = outcomeNumber (readFrom s at .outcome)
+numberFrom s at = outcomeNumber (pduFrom s at .outcome)
 
 -- Document 01, "Refused calls" and advertising.rs. A zero octet behind the address is a record of length 0, so 2.
 pub record Rows : Type 0 where

@@ -19,8 +19,8 @@ use Rattle.channels.specs.declared.phy.DataChannel.{DataChannel}
 use Rattle.channels.specs.declared.phy.Found.the-variants as found
 
 -- the data channel of an index, and the map of five octets
-abbrev pub dataChannel : ℕ → DataChannel
-dataChannel index = record { index = index }
+abbrev pub channelOf : ℕ → DataChannel
+channelOf index = record { index = index }
 
 abbrev pub mapOf : ℕ → ℕ → ℕ → ℕ → ℕ → ChannelMap
 mapOf a b c d e = fromRaw (a ∷ b ∷ c ∷ d ∷ e ∷ [])
@@ -37,14 +37,14 @@ pub record Examples : Type 0 where
   pub channel-38 : indexOf Channel38 ∷ advertisingRf Channel38 ∷ advertisingFrequency Channel38 ∷ advertisingWhitening Channel38 ∷ [] ≡ 38 ∷ 12 ∷ 2426 ∷ 0b1100110 ∷ []
   pub channel-39 : indexOf Channel39 ∷ advertisingRf Channel39 ∷ advertisingFrequency Channel39 ∷ advertisingWhitening Channel39 ∷ [] ≡ 39 ∷ 39 ∷ 2480 ∷ 0b1100111 ∷ []
   -- the same table: MHz and whitening start of the first and last data channels and of those around RF channel 12
-  pub data-0 : dataFrequency (dataChannel 0) ∷ dataWhitening (dataChannel 0) ∷ [] ≡ 2404 ∷ 0b1000000 ∷ []
-  pub data-10 : dataFrequency (dataChannel 10) ∷ dataWhitening (dataChannel 10) ∷ [] ≡ 2424 ∷ 0b1001010 ∷ []
-  pub data-11 : dataFrequency (dataChannel 11) ∷ dataWhitening (dataChannel 11) ∷ [] ≡ 2428 ∷ 0b1001011 ∷ []
-  pub data-36 : dataFrequency (dataChannel 36) ∷ dataWhitening (dataChannel 36) ∷ [] ≡ 2478 ∷ 0b1100100 ∷ []
+  pub data-0 : dataFrequency (channelOf 0) ∷ dataWhitening (channelOf 0) ∷ [] ≡ 2404 ∷ 0b1000000 ∷ []
+  pub data-10 : dataFrequency (channelOf 10) ∷ dataWhitening (channelOf 10) ∷ [] ≡ 2424 ∷ 0b1001010 ∷ []
+  pub data-11 : dataFrequency (channelOf 11) ∷ dataWhitening (channelOf 11) ∷ [] ≡ 2428 ∷ 0b1001011 ∷ []
+  pub data-36 : dataFrequency (channelOf 36) ∷ dataWhitening (channelOf 36) ∷ [] ≡ 2478 ∷ 0b1100100 ∷ []
   -- the example of 3.2
   pub whitening-23 : whiteningStart 23 ≡ 0b1010111
   -- document 01's limit of data channels
-  pub new-36 : newChannel 36 ≡ found.Channel (dataChannel 36)
+  pub new-36 : newChannel 36 ≡ found.Channel (channelOf 36)
   pub new-37 : newChannel 37 ≡ found.Refused NoSuchChannel
   -- "Bit b of octet k is channel 8k + b": the first and last bits of octets 0 and 1, the last channel, and what stands beside them
   pub bit-0 : isUsed (mapOf 0x01 0 0 0 0) 0 ≡ used.Is true
@@ -59,34 +59,34 @@ pub record Examples : Type 0 where
   pub full : mapOf 0xff 0xff 0xff 0xff 0xff ≡ allChannels
   pub all-37 : allChannels .«num_used_channels» ∷ marks (allChannels .raw) ∷ [] ≡ 37 ∷ 37 ∷ []
   -- places of the map 0A 00 00 00 00, of the full one and of the empty one: 8, and never 6
-  pub place-0 : byIndex (fromRaw rowMap) 0 ≡ found.Channel (dataChannel 1)
-  pub place-1 : byIndex (fromRaw rowMap) 1 ≡ found.Channel (dataChannel 3)
+  pub place-0 : byIndex (fromRaw rowMap) 0 ≡ found.Channel (channelOf 1)
+  pub place-1 : byIndex (fromRaw rowMap) 1 ≡ found.Channel (channelOf 3)
   pub place-2 : byIndex (fromRaw rowMap) 2 ≡ found.Refused NoSuchChannel
-  pub place-36 : byIndex allChannels 36 ≡ found.Channel (dataChannel 36)
+  pub place-36 : byIndex allChannels 36 ≡ found.Channel (channelOf 36)
   pub place-37 : byIndex allChannels 37 ≡ found.Refused NoSuchChannel
   pub no-channel-37 : channelAt (0 ∷ 0 ∷ 0 ∷ 0 ∷ 0x20 ∷ []) 0 ≡ 0
   pub place-0-of-none : byIndex (mapOf 0 0 0 0 0) 0 ≡ found.Refused NoSuchChannel
   -- what `hop_channel` answers on the way of document 01's row, map 0A 00 00 00 00 and hop 5; a marked channel, though 1 mod 2 is the place of 3;
   -- the low 5 bits of a hop octet; hop 0
-  pub first-hop : hopped (fromRaw rowMap) 0 5 ≡ To 5 (dataChannel 3)
-  pub second-hop : hopped (fromRaw rowMap) 5 5 ≡ To 10 (dataChannel 1)
-  pub marked-hop : hopped (fromRaw rowMap) 0 1 ≡ To 1 (dataChannel 1)
-  pub low-5-bits : hopped (fromRaw rowMap) 0 0b11100101 ≡ To 5 (dataChannel 3)
-  pub hop-0 : hopped (fromRaw rowMap) 5 0 ≡ To 5 (dataChannel 3)
-  pub over-36 : hopped allChannels 36 31 ≡ To 30 (dataChannel 30)
+  pub first-hop : hopped (fromRaw rowMap) 0 5 ≡ To 5 (channelOf 3)
+  pub second-hop : hopped (fromRaw rowMap) 5 5 ≡ To 10 (channelOf 1)
+  pub marked-hop : hopped (fromRaw rowMap) 0 1 ≡ To 1 (channelOf 1)
+  pub low-5-bits : hopped (fromRaw rowMap) 0 0b11100101 ≡ To 5 (channelOf 3)
+  pub hop-0 : hopped (fromRaw rowMap) 5 0 ≡ To 5 (channelOf 3)
+  pub over-36 : hopped allChannels 36 31 ≡ To 30 (channelOf 30)
   -- octets with a count that does not agree with them hop elsewhere, or not at all
-  pub disagreeing : hopped (record { raw = rowMap; «num_used_channels» = 1 }) 0 5 ≡ To 5 (dataChannel 1)
+  pub disagreeing : hopped (record { raw = rowMap; «num_used_channels» = 1 }) 0 5 ≡ To 5 (channelOf 1)
   pub disagreeing-none : hopped (record { raw = rowMap; «num_used_channels» = 0 }) 1 0 ≡ Refused EmptyMap
-  pub disagreeing-some : hopped (record { raw = 0 ∷ 0 ∷ 0 ∷ 0 ∷ 0 ∷ []; «num_used_channels» = 1 }) 0 5 ≡ To 5 (dataChannel 0)
+  pub disagreeing-some : hopped (record { raw = 0 ∷ 0 ∷ 0 ∷ 0 ∷ 0 ∷ []; «num_used_channels» = 1 }) 0 5 ≡ To 5 (channelOf 0)
   -- 8 before 6, on both sides of 36
   pub from-37 : hopped (fromRaw rowMap) 37 5 ≡ Refused NoSuchChannel
   pub from-37-over-none : hopped (mapOf 0 0 0 0 0xE0) 37 5 ≡ Refused NoSuchChannel
   pub from-36-over-none : hopped (mapOf 0 0 0 0 0xE0) 36 5 ≡ Refused EmptyMap
   -- a channel that is found is the hop's, a refusal is handed on
-  pub hop-found : hopTo 5 (found.Channel (dataChannel 3)) ≡ To 5 (dataChannel 3)
+  pub hop-found : hopTo 5 (found.Channel (channelOf 3)) ≡ To 5 (channelOf 3)
   pub hop-refused : hopTo 5 (found.Refused EmptyMap) ≡ Refused EmptyMap
   -- the next call goes on from the unmapped channel, not from the channel used, and after a refusal from where it was
-  pub handed-on : handed 5 (To 10 (dataChannel 1)) ≡ 10
+  pub handed-on : handed 5 (To 10 (channelOf 1)) ≡ 10
   pub handed-back : handed 5 (Refused EmptyMap) ≡ 5
   -- of 0 to 4 three are even; the second of them is 2, and there is no fourth
   pub evens : count (λ j. eqb (j % 2) 0) 5 ∷ placed (λ j. eqb (j % 2) 0) 5 1 ∷ placed (λ j. eqb (j % 2) 0) 5 3 ∷ [] ≡ 3 ∷ 2 ∷ 0 ∷ []

@@ -39,8 +39,8 @@ abbrev pub areaResult : Area → Result
 areaResult (area.Accepted n) = records n
 areaResult (area.Refused e) = refused (numberOf e)
 
-abbrev pub areaOf : List ℕ → Result
-areaOf s = areaResult (readArea s)
+abbrev pub areaRow : List ℕ → Result
+areaRow s = areaResult (readArea s)
 
 pub record Table : Type 0 where
   -- 42 09, nine octets: type 2, random sender, one record
@@ -61,9 +61,9 @@ pub record Table : Type 0 where
   -- 01 03: empty complete list
   pub row-8 : recordAt (0x01 ∷ 0x03 ∷ []) 0 ≡ Record (ServiceUuids16 true 2 0) 2
   -- 02 03 0A: 1
-  pub row-9 : areaOf (0x02 ∷ 0x03 ∷ 0x0A ∷ []) ≡ refused 1
+  pub row-9 : areaRow (0x02 ∷ 0x03 ∷ 0x0A ∷ []) ≡ refused 1
   -- 00: 2
-  pub row-10 : areaOf (0x00 ∷ []) ≡ refused 2
+  pub row-10 : areaRow (0x00 ∷ []) ≡ refused 2
   -- map 0A 00 00 00 00, hop 5: channels 3, then 1; in 37 events channel 1 has 20, channel 3 has 17
   pub row-11 : eventChannel rowMap 5 0 ∷ eventChannel rowMap 5 1 ∷ [] ≡ 3 ∷ 1 ∷ []
   pub row-11-counts : uses rowMap 5 0 1 ∷ uses rowMap 5 0 3 ∷ [] ≡ 20 ∷ 17 ∷ []

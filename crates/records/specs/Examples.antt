@@ -1,7 +1,7 @@
 -- Worked values, with where each comes from: the codes of Assigned Numbers 2.3 and of rubble's `Flags`; records of every kind, written and read; and rows in
 -- which two reasons to refuse hold at once, on both sides of each limit (document 01, ad_structure.rs and "Refused calls").
---   refusal w              == the number that a write is refused with, or 0
---   readOn s               == the record that s begins with, read on to the kind that its type names
+--   refusedWith w              == the number that a write is refused with, or 0
+--   readKnown s               == the record that s begins with, read on to the kind that its type names
 --   Codes, Examples        == the values
 use mathlib.Core.Path.{_≡_}
 use mathlib.Core.Bool.{true, false}
@@ -31,9 +31,9 @@ use Rattle.records.specs.Uuids.{uuid16At}
 use Rattle.records.specs.Write.{ownIn, lentCheck, writtenTo, writtenAfter}
 use Rattle.records.specs.Area.{records, reads, readArea, rewrittenTo, rewrittenAfter}
 
-abbrev pub refusal : Written → ℕ
-refusal (To next) = 0
-refusal (Written.Refused e) = numberOf e
+abbrev pub refusedWith : Written → ℕ
+refusedWith (To next) = 0
+refusedWith (Written.Refused e) = numberOf e
 
 -- a record a that is written at the front of n zeros
 abbrev pub putIn : ℕ → AdStructure → List ℕ → List ℕ
@@ -41,19 +41,19 @@ putIn n a s = writtenAfter a s (replicate n 0x00) 0
 
 -- what writing it there is refused with
 abbrev pub refusedIn : ℕ → AdStructure → List ℕ → ℕ
-refusedIn n a s = refusal (writtenTo a s (replicate n 0x00) 0)
+refusedIn n a s = refusedWith (writtenTo a s (replicate n 0x00) 0)
 
 -- an outline of `held` octets of its own
 abbrev pub outlined : ℕ → ℕ → Outline
 outlined own held = record { ty = 0x16; own = own; held = held; start = 0; len = 0; name = false; unit = 1 }
 
-abbrev pub readOnFrom : List ℕ → Read → Parsed
-readOnFrom s (Record a next) = knownRead a s
-readOnFrom s End = Parsed.Refused Eof
-readOnFrom s (Read.Refused e) = Parsed.Refused e
+abbrev pub readKnownFrom : List ℕ → Read → Parsed
+readKnownFrom s (Record a next) = knownRead a s
+readKnownFrom s End = Parsed.Refused Eof
+readKnownFrom s (Read.Refused e) = Parsed.Refused e
 
-abbrev pub readOn : List ℕ → Parsed
-readOn s = readOnFrom s (recordAt s 0)
+abbrev pub readKnown : List ℕ → Parsed
+readKnown s = readKnownFrom s (recordAt s 0)
 
 -- rubble's constants of Flags, one after the other; the octets of a start and of a beacon; all of them, and the three bits without a name
 abbrev pub flagsOctets : List ℕ
@@ -102,24 +102,24 @@ pub record Examples : Type 0 where
   pub complete16-read : recordAt (0x03 ∷ 0x03 ∷ 0x0F ∷ 0x18 ∷ []) 0 ≡ Record (ServiceUuids16 true 2 2) 4
   pub left : recordAt (0x02 ∷ 0x0A ∷ 0x04 ∷ []) 0 ≡ Record (Unknown 0x0A 2 1) 3
   pub name-left : recordAt (0x02 ∷ 0x09 ∷ 0xFF ∷ []) 0 ≡ Record (Unknown 0x09 2 1) 3
-  pub incomplete32-read : readOn (0x05 ∷ 0x04 ∷ 0x0F ∷ 0x18 ∷ 0x00 ∷ 0x00 ∷ []) ≡ Structure (ServiceUuids32 false 2 4)
-  pub complete32-read : readOn (0x05 ∷ 0x05 ∷ 0x0F ∷ 0x18 ∷ 0x00 ∷ 0x00 ∷ []) ≡ Structure (ServiceUuids32 true 2 4)
-  pub incomplete128-read : readOn (0x11 ∷ 0x06 ∷ sixteen) ≡ Structure (ServiceUuids128 false 2 16)
-  pub complete128-read : readOn (0x11 ∷ 0x07 ∷ sixteen) ≡ Structure (ServiceUuids128 true 2 16)
-  pub shortened-read : readOn (0x03 ∷ 0x08 ∷ 0x48 ∷ 0x69 ∷ []) ≡ Structure (ShortenedLocalName 2 2)
-  pub complete-read : readOn (0x03 ∷ 0x09 ∷ 0x48 ∷ 0x69 ∷ []) ≡ Structure (CompleteLocalName 2 2)
-  pub service-read : readOn (0x03 ∷ 0x16 ∷ 0x0F ∷ 0x18 ∷ []) ≡ Structure (ServiceData16 0x180F 4 0)
-  pub company-read : readOn (0x04 ∷ 0xFF ∷ 0x4C ∷ 0x00 ∷ 0x02 ∷ []) ≡ Structure (ManufacturerSpecificData (record { 0 = 0x004C }) 4 1)
-  pub other-read : readOn (0x02 ∷ 0x0A ∷ 0x04 ∷ []) ≡ Structure (Unknown 0x0A 2 1)
+  pub incomplete32-read : readKnown (0x05 ∷ 0x04 ∷ 0x0F ∷ 0x18 ∷ 0x00 ∷ 0x00 ∷ []) ≡ Structure (ServiceUuids32 false 2 4)
+  pub complete32-read : readKnown (0x05 ∷ 0x05 ∷ 0x0F ∷ 0x18 ∷ 0x00 ∷ 0x00 ∷ []) ≡ Structure (ServiceUuids32 true 2 4)
+  pub incomplete128-read : readKnown (0x11 ∷ 0x06 ∷ sixteen) ≡ Structure (ServiceUuids128 false 2 16)
+  pub complete128-read : readKnown (0x11 ∷ 0x07 ∷ sixteen) ≡ Structure (ServiceUuids128 true 2 16)
+  pub shortened-read : readKnown (0x03 ∷ 0x08 ∷ 0x48 ∷ 0x69 ∷ []) ≡ Structure (ShortenedLocalName 2 2)
+  pub complete-read : readKnown (0x03 ∷ 0x09 ∷ 0x48 ∷ 0x69 ∷ []) ≡ Structure (CompleteLocalName 2 2)
+  pub service-read : readKnown (0x03 ∷ 0x16 ∷ 0x0F ∷ 0x18 ∷ []) ≡ Structure (ServiceData16 0x180F 4 0)
+  pub company-read : readKnown (0x04 ∷ 0xFF ∷ 0x4C ∷ 0x00 ∷ 0x02 ∷ []) ≡ Structure (ManufacturerSpecificData (record { 0 = 0x004C }) 4 1)
+  pub other-read : readKnown (0x02 ∷ 0x0A ∷ 0x04 ∷ []) ≡ Structure (Unknown 0x0A 2 1)
   -- reading on refuses a name with 3, a number of one octet and a broken list with 1, and data that are not lent with 1
-  pub bad-shortened : readOn (0x02 ∷ 0x08 ∷ 0xFF ∷ []) ≡ Parsed.Refused InvalidValue
-  pub bad-complete : readOn (0x02 ∷ 0x09 ∷ 0xFF ∷ []) ≡ Parsed.Refused InvalidValue
-  pub short-service : readOn (0x02 ∷ 0x16 ∷ 0x0F ∷ []) ≡ Parsed.Refused Eof
-  pub short-company : readOn (0x02 ∷ 0xFF ∷ 0x4C ∷ []) ≡ Parsed.Refused Eof
-  pub three-of-32 : readOn (0x04 ∷ 0x04 ∷ 0x0F ∷ 0x18 ∷ 0x00 ∷ []) ≡ Parsed.Refused Eof
-  pub six-of-32 : readOn (0x07 ∷ 0x05 ∷ 0x0F ∷ 0x18 ∷ 0x00 ∷ 0x00 ∷ 0x0A ∷ 0x18 ∷ []) ≡ Parsed.Refused Eof
-  pub fifteen-of-128 : readOn (0x10 ∷ 0x06 ∷ fifteen) ≡ Parsed.Refused Eof
-  pub seventeen-of-128 : readOn (0x12 ∷ 0x07 ∷ sixteen ++ 0x00 ∷ []) ≡ Parsed.Refused Eof
+  pub bad-shortened : readKnown (0x02 ∷ 0x08 ∷ 0xFF ∷ []) ≡ Parsed.Refused InvalidValue
+  pub bad-complete : readKnown (0x02 ∷ 0x09 ∷ 0xFF ∷ []) ≡ Parsed.Refused InvalidValue
+  pub short-service : readKnown (0x02 ∷ 0x16 ∷ 0x0F ∷ []) ≡ Parsed.Refused Eof
+  pub short-company : readKnown (0x02 ∷ 0xFF ∷ 0x4C ∷ []) ≡ Parsed.Refused Eof
+  pub three-of-32 : readKnown (0x04 ∷ 0x04 ∷ 0x0F ∷ 0x18 ∷ 0x00 ∷ []) ≡ Parsed.Refused Eof
+  pub six-of-32 : readKnown (0x07 ∷ 0x05 ∷ 0x0F ∷ 0x18 ∷ 0x00 ∷ 0x00 ∷ 0x0A ∷ 0x18 ∷ []) ≡ Parsed.Refused Eof
+  pub fifteen-of-128 : readKnown (0x10 ∷ 0x06 ∷ fifteen) ≡ Parsed.Refused Eof
+  pub seventeen-of-128 : readKnown (0x12 ∷ 0x07 ∷ sixteen ++ 0x00 ∷ []) ≡ Parsed.Refused Eof
   -- type and data of type 01, 02 or 03, which reading does not leave but a caller can make, are read as Flags or a list
   pub flags-on : knownRead (Unknown 0x01 0 1) (0x86 ∷ []) ≡ Structure (Flags (record { bits = 0x06 }))
   pub two-flags-on : knownRead (Unknown 0x01 0 2) (0x06 ∷ 0x06 ∷ []) ≡ Parsed.Refused InvalidLength
@@ -170,8 +170,8 @@ pub record Examples : Type 0 where
   -- at a position
   pub at-two : writtenAfter (Unknown 0x0A 0 1) (0x04 ∷ []) (0xA0 ∷ 0xA1 ∷ 0xA2 ∷ 0xA3 ∷ 0xA4 ∷ 0xA5 ∷ []) 2 ≡ 0xA0 ∷ 0xA1 ∷ 0x02 ∷ 0x0A ∷ 0x04 ∷ 0xA5 ∷ []
   pub at-two-ends : writtenTo (Unknown 0x0A 0 1) (0x04 ∷ []) (replicate 6 0x00) 2 ≡ To (record { at = 5 })
-  pub at-four : refusal (writtenTo (Unknown 0x0A 0 1) (0x04 ∷ []) (replicate 6 0x00) 4) ≡ 1
-  pub past-out : refusal (writtenTo (Unknown 0x0A 0 1) (0x04 ∷ []) (replicate 6 0x00) 7) ≡ 1
+  pub at-four : refusedWith (writtenTo (Unknown 0x0A 0 1) (0x04 ∷ []) (replicate 6 0x00) 4) ≡ 1
+  pub past-out : refusedWith (writtenTo (Unknown 0x0A 0 1) (0x04 ∷ []) (replicate 6 0x00) 7) ≡ 1
   -- areas: document 01's rows read as areas, and rewritten to a buffer that is longer
   pub flags-area : readArea (0x02 ∷ 0x01 ∷ 0x86 ∷ []) ≡ Accepted 1
   pub list-area : readArea (0x01 ∷ 0x03 ∷ []) ≡ Accepted 1
@@ -181,7 +181,7 @@ pub record Examples : Type 0 where
   pub two-flags : readArea (0x03 ∷ 0x01 ∷ 0x06 ∷ 0x06 ∷ []) ≡ Area.Refused InvalidLength
   pub rewritten-area : rewrittenAfter (0x02 ∷ 0x01 ∷ 0x86 ∷ 0x02 ∷ 0x0A ∷ 0x86 ∷ []) (replicate 7 0xAA) ≡ 0x02 ∷ 0x01 ∷ 0x06 ∷ 0x02 ∷ 0x0A ∷ 0x86 ∷ 0xAA ∷ []
   pub rewritten-ends : rewrittenTo (0x02 ∷ 0x01 ∷ 0x86 ∷ 0x02 ∷ 0x0A ∷ 0x86 ∷ []) (replicate 6 0xAA) ≡ To (record { at = 6 })
-  pub no-room : refusal (rewrittenTo (0x02 ∷ 0x01 ∷ 0x86 ∷ []) (0xAA ∷ 0xAA ∷ [])) ≡ 1
+  pub no-room : refusedWith (rewrittenTo (0x02 ∷ 0x01 ∷ 0x86 ∷ []) (0xAA ∷ 0xAA ∷ [])) ≡ 1
   pub no-room-kept : rewrittenAfter (0x02 ∷ 0x01 ∷ 0x86 ∷ []) (0xAA ∷ 0xAA ∷ []) ≡ 0xAA ∷ 0xAA ∷ []
   -- a bad area 2, before too little room 1
-  pub bad-no-room : refusal (rewrittenTo (0x00 ∷ 0x00 ∷ []) (0xAA ∷ [])) ≡ 2
+  pub bad-no-room : refusedWith (rewrittenTo (0x00 ∷ 0x00 ∷ []) (0xAA ∷ [])) ≡ 2
