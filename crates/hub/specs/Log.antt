@@ -37,17 +37,18 @@ use Rattle.hub.specs.declared.TakenIn.{TakenIn}
 use Rattle.hub.specs.declared.TakenIn.the-variants as taken
 use Rattle.hub.specs.declared.Turn.{Turn}
 
--- "beyond 999,999"
+-- reading stops "beyond 999,999"
 abbrev pub mostItems : ℕ
 mostItems = 999999
 
 abbrev pub start : Instant
 start = record { 0 = 0 }
 
--- "01 (CRC good) or 02 (bad) is followed by header and as many octets as it counts"; a tick is no packet
+-- "01 (CRC good) or 02 (bad)"
 abbrev pub isCrcGood : ℕ → Bool
 isCrcGood first = eqb first 1
 
+-- ".. is followed by header and as many octets as it counts"; a tick is no packet
 unfoldable pub heardIn : BeaconScanner → List ℕ → Scanned
 heardIn s [] = unreported report.Nothing (s .channel)
 heardIn s (first ∷ []) = unreported report.Nothing (s .channel)

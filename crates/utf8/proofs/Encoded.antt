@@ -30,26 +30,26 @@ record Encoding (octets : List ℕ) : Type 0 where
 abbrev Encodings : List Range → Type 0
 Encodings row = (octets : List ℕ) → Sequence row octets → Encoding octets
 
--- A row whose sequences have one, two, three or four octets; of the longer ones with the lead octets from l to h, the second ones from m to n, and the
+-- A row whose sequences have one, two, three or four octets: the lead octets from l to h, and of the longer ones the second octets from m to n and the
 -- scalar values from `low` to `high`.
-one : Encodings (0x00 to 0x7F ∷ [])
-one [] sequence = absurd sequence
-one (a ∷ []) sequence =
-    let x = bounds a 0x00 0x7F (sequence .0) in
-    record { value = a; scalar = inl (omega arith); is = simp (le-leb a 0x7F (x .1)) }
-one (a ∷ b ∷ octets) sequence = absurd (sequence .1)
+one : (l h : ℕ) → h ≤ 0x7F → Encodings (l to h ∷ [])
+one l h row [] sequence = absurd sequence
+one l h row (a ∷ []) sequence =
+    let x = bounds a l h (sequence .0) in
+    record { value = a; scalar = inl (omega arith); is = simp (le-leb a 0x7F (omega arith)) }
+one l h row (a ∷ b ∷ octets) sequence = absurd (sequence .1)
 
-two : Encodings (0xC2 to 0xDF ∷ tail ∷ [])
-two [] sequence = absurd sequence
-two (a ∷ []) sequence = absurd (sequence .1)
-two (a ∷ b ∷ []) sequence =
-    let x = bounds a 0xC2 0xDF (sequence .0) in
+two : (l h : ℕ) → (0xC2 ≤ l) × (h ≤ 0xDF) → Encodings (l to h ∷ tail ∷ [])
+two l h row [] sequence = absurd sequence
+two l h row (a ∷ []) sequence = absurd (sequence .1)
+two l h row (a ∷ b ∷ []) sequence =
+    let x = bounds a l h (sequence .0) in
     let y = bounds b 0x80 0xBF (sequence .1 .0) in
     let v : ℕ = a * 64 + b - (0xC0 * 64 + 0x80) in
     let first : 0xC0 + v / 64 ≡ a = omega arith in
     let second : trailing v ≡ b = omega arith in
     record { value = v; scalar = inl (omega arith); is = simp (lt-leb v 0x7F (omega arith), le-leb v 0x7FF (omega arith), first, second) }
-two (a ∷ b ∷ c ∷ octets) sequence = absurd (sequence .1 .1)
+two l h row (a ∷ b ∷ c ∷ octets) sequence = absurd (sequence .1 .1)
 
 abbrev Three : ℕ → ℕ → ℕ → ℕ → ℕ → ℕ → Type 0
 Three l h m n low high =
@@ -115,17 +115,21 @@ each all-told k listed = absurd (omega arith)
 each (row also rows) zero listed = row
 each (row also rows) (suc k) listed = each rows k (omega arith)
 
+-- (with its number the row is known where the numbers are proved)
+of-row : (k : ℕ) → Encodings (getD table k []) → Encodings (getD table k [])
+of-row k encodings = encodings
+
 table-encodings : EachEncodings table
 table-encodings =
-    one
-    also two
-    also three 0xE0 0xE0 0xA0 0xBF 0x800 0xFFF (omega arith) (λ v low high. inl (omega arith))
-    also three 0xE1 0xEC 0x80 0xBF 0x1000 0xCFFF (omega arith) (λ v low high. inl (omega arith))
-    also three 0xED 0xED 0x80 0x9F 0xD000 0xD7FF (omega arith) (λ v low high. inl (omega arith))
-    also three 0xEE 0xEF 0x80 0xBF 0xE000 0xFFFF (omega arith) (λ v low high. inr (omega arith, omega arith))
-    also four 0xF0 0xF0 0x90 0xBF 0x10000 0x3FFFF (omega arith)
-    also four 0xF1 0xF3 0x80 0xBF 0x40000 0xFFFFF (omega arith)
-    also four 0xF4 0xF4 0x80 0x8F 0x100000 0x10FFFF (omega arith)
+    of-row 0 (one _ _ (omega arith))
+    also of-row 1 (two _ _ (omega arith))
+    also of-row 2 (three _ _ _ _ 0x800 0xFFF (omega arith) (λ v low high. inl (omega arith)))
+    also of-row 3 (three _ _ _ _ 0x1000 0xCFFF (omega arith) (λ v low high. inl (omega arith)))
+    also of-row 4 (three _ _ _ _ 0xD000 0xD7FF (omega arith) (λ v low high. inl (omega arith)))
+    also of-row 5 (three _ _ _ _ 0xE000 0xFFFF (omega arith) (λ v low high. inr (omega arith, omega arith)))
+    also of-row 6 (four _ _ _ _ 0x10000 0x3FFFF (omega arith))
+    also of-row 7 (four _ _ _ _ 0x40000 0xFFFFF (omega arith))
+    also of-row 8 (four _ _ _ _ 0x100000 0x10FFFF (omega arith))
     also all-told
 
 and-more : {s : List ℕ} (octets rest : List ℕ) → s ≡ octets ++ rest → Encoding octets → (vs : List ℕ) × Encodes vs rest → (vs : List ℕ) × Encodes vs s
@@ -157,12 +161,12 @@ up-to v high here beyond = go (leb v high) refl
 trails : (v : ℕ) → within (trailing v) tail ≡ true
 trails v = in-range 0x80 0xBF (trailing v) (omega arith) (omega arith)
 
--- of one, two, three or four octets; of the longer ones by the ranges of their lead and second octets
-in-one : (v : ℕ) → v ≤ 0x7F → Sequence (0x00 to 0x7F ∷ []) (encoded v)
-in-one v high = rw (le-leb v 0x7F high) (in-range 0x00 0x7F v (omega arith) high, tt)
+-- of one, two, three or four octets, by the row's ranges
+in-one : {l h : ℕ} (v : ℕ) → v ≤ 0x7F → (l ≤ v) × (v ≤ h) → Sequence (l to h ∷ []) (encoded v)
+in-one {l} {h} v high first = rw (le-leb v 0x7F high) (in-range l h v (first .0) (first .1), tt)
 
-in-two : (v : ℕ) → 0x7F < v → v ≤ 0x7FF → Sequence (0xC2 to 0xDF ∷ tail ∷ []) (encoded v)
-in-two v low high = rw (lt-leb v 0x7F low, le-leb v 0x7FF high) (in-range 0xC2 0xDF (0xC0 + v / 64) (omega arith) (omega arith), (trails v, tt))
+in-two : {l h : ℕ} (v : ℕ) → 0x7F < v → v ≤ 0x7FF → (l ≤ 0xC0 + v / 64) × (0xC0 + v / 64 ≤ h) → Sequence (l to h ∷ tail ∷ []) (encoded v)
+in-two {l} {h} v low high first = rw (lt-leb v 0x7F low, le-leb v 0x7FF high) (in-range l h (0xC0 + v / 64) (first .0) (first .1), (trails v, tt))
 
 in-three : {l h m n : ℕ} (v : ℕ) → 0x7FF < v → v ≤ 0xFFFF → (l ≤ 0xE0 + v / 4096) × (0xE0 + v / 4096 ≤ h) → (m ≤ trailing (v / 64)) × (trailing (v / 64) ≤ n)
     → Sequence (l to h ∷ m to n ∷ tail ∷ []) (encoded v)
@@ -179,8 +183,8 @@ in-four {l} {h} {m} {n} v low first second =
 -- the scalar values up to D7FF, those from E000 on, and all
 lower : (v : ℕ) → v ≤ 0xD7FF → Row v
 lower v high =
-    up-to v 0x7F (λ h. row 0 v (omega arith) (in-one v h)) λ l.
-    up-to v 0x7FF (λ h. row 1 v (omega arith) (in-two v l h)) λ l.
+    up-to v 0x7F (λ h. row 0 v (omega arith) (in-one v h (omega arith))) λ l.
+    up-to v 0x7FF (λ h. row 1 v (omega arith) (in-two v l h (omega arith))) λ l.
     up-to v 0xFFF (λ h. row 2 v (omega arith) (in-three v l (omega arith) (omega arith) (omega arith))) λ l.
     up-to v 0xCFFF (λ h. row 3 v (omega arith) (in-three v (omega arith) (omega arith) (omega arith) (omega arith))) λ l.
     row 4 v (omega arith) (in-three v (omega arith) (omega arith) (omega arith) (omega arith))
