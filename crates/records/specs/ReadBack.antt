@@ -1,7 +1,7 @@
 -- What reading finds of a record that was written at position `at` of out, its lent data lying in s.
---   movedTo start a      == a with its lent data at `start`, and Flags without the bits that have no name
---   AsItself a           == a is of a kind that reading yields: Flags, a list of 16-bit UUIDs, or type and data of a type other than 01, 02 and 03
---   OfKnownType a        == a is of a kind that reading leaves as type and data, and `read_known` reads on to
+--   movedTo start a        == a with its lent data at `start`, and Flags without the bits that have no name
+--   AsItself a             == a is of a kind that reading yields: Flags, a list of 16-bit UUIDs, or type and data of a type other than 01, 02 and 03
+--   OfKnownType a          == a is of a kind that reading leaves as type and data, and `read_known` reads on to
 --   FoundAgain a s out at  == what reading finds
 use mathlib.Core.Path.{_≡_}
 use mathlib.Core.List.{List, [], _∷_}

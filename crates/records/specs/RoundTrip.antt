@@ -3,8 +3,8 @@
 --   NamedOnly rs              == no Flags among these records has a bit without a name
 --   RoundTrip s               == `rewritten s` is s with `clean` of each record in its place, and reads as s does
 --   WrittenAgain s out at     == writing a record of s at position `at`, as it was read there, writes `clean` of its octets
---   ReadOnAgain .. b          == a record b that was read on from type and data is written as these, `clean`
---   Begins s p, FlagsOctet s i   == a record of s begins at position p; octet i of s is the octet of a Flags record
+--   ReadOnAndRewritten s      == what `read_known` finds of type and data is written as these were, `clean`
+--   Begins s p, FlagsOctet s i   == a record of s begins at position p; octet i of s is the octet of a Flags record; `ReadAt s p`: a record is read there
 --   Restores s out            == rewriting the area s to `out` restores its octets, save the bits of Flags that have no name
 --   Rewriting s out           == that it does so for an accepted area with room, and what it refuses
 use mathlib.Core.Path.{_≡_}
