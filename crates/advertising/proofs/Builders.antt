@@ -1,7 +1,7 @@
 -- What each builder builds: `builders`, `directed`; its payload copied to a buffer: `writing`; worked values: `examples`, computed. Assumes nothing.
-use mathlib.Core.Bool.{Bool, true, false, cond}
-use mathlib.Core.List.{List, [], _∷_, _++_, append-nil, flatten}
-use mathlib.Core.Path.{_≡_, refl, sym, ap, _∙_}
+use mathlib.Core.Bool.{Bool, false, cond}
+use mathlib.Core.List.{List, [], _++_, flatten}
+use mathlib.Core.Path.{_≡_, refl, ap, _∙_}
 use Prim.Native.Nat.{ℕ, _+_, _-_, _*_, _/_, _%_, _≤_, _<_}
 use native.Mathlib.Nat.{zero-add}
 use native.Mathlib.Omega.{arith}
@@ -22,8 +22,8 @@ use Rattle.records.specs.Record.{named, first, flagsRead, dataRead, upTo, recor
 use Rattle.records.specs.declared.area.Area.the-variants as area
 use Rattle.advertising.specs.Builders.{Builds, Builders, Directed, Writing, Examples}
 use Rattle.advertising.specs.Pdu.{outcomeNumber, requestOf, connectRequest, byType, decodeOf}
-use Rattle.advertising.specs.PduBuf.{headerFor, bufOf, refusedBuf, afterReading, withRecords, builtOf, builtDirected, flagsRecord, payloadOf}
-use Rattle.advertising.specs.declared.pdu.Outcome.the-variants.{Accepted, Refused}
+use Rattle.advertising.specs.PduBuf.{headerFor, bufOf, refusedBuf, afterReading, withRecords, builtOf, flagsRecord, payloadOf}
+use Rattle.advertising.specs.declared.pdu.Outcome.the-variants.{Accepted}
 use Rattle.advertising.specs.declared.pdu_buf.Built.{Built}
 use Rattle.advertising.specs.declared.pdu_buf.PduBuf.{PduBuf}
 use Rattle.advertising.proofs.Building.{building, enough-space}

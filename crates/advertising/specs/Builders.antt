@@ -4,10 +4,10 @@
 --   Directed a b    (Builders.directed)   the builder of two addresses
 --   Writing b out   (Builders.writing)    the payload copied to a buffer
 --   Examples        (Builders.examples)   worked values
-use mathlib.Core.Bool.{Bool, true, false}
+use mathlib.Core.Bool.{true, false}
 use mathlib.Core.List.{List, [], _∷_, _++_, map}
 use mathlib.Core.Path.{_≡_}
-use Prim.Native.Nat.{ℕ, _+_, _-_, _*_, _%_, _≤_, _<_, _^_}
+use Prim.Native.Nat.{ℕ, _+_, _-_, _*_, _≤_, _<_}
 use lib.ListN.{length, drop, replicate}
 use Rattle.addresses.specs.Address.{kindNumber, addressOf}
 use Rattle.addresses.specs.Header.{pduType}
@@ -22,7 +22,6 @@ use Rattle.records.specs.declared.area.Area.the-variants as area
 use Rattle.advertising.specs.Laws.{nine, row, counted}
 use Rattle.advertising.specs.Pdu.{windowEnd, hasReceiver, dataIn, outcomeNumber}
 use Rattle.advertising.specs.PduBuf.{emptyBuf, connectablePdu, nonconnectablePdu, scannablePdu, beaconPdu, discoverablePdu, scanResponsePdu, builtDirected, payloadOf, payloadTo, payloadAfter}
-use Rattle.advertising.specs.declared.pdu.ConnectRequestData.{ConnectRequestData}
 use Rattle.advertising.specs.declared.pdu.Outcome.the-variants.{Accepted, Refused}
 use Rattle.advertising.specs.declared.pdu_buf.Built.{Built}
 use Rattle.advertising.specs.declared.pdu_buf.PduBuf.{PduBuf}

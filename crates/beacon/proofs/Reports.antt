@@ -1,12 +1,11 @@
 -- A scanner reports a packet exactly if all checks pass: `reports`. Assumes nothing.
-use mathlib.Core.Bool.{Bool, true, false, cond, not, _&&_, _||_}
+use mathlib.Core.Bool.{Bool, true, false, cond, _&&_}
 use mathlib.Core.List.{List}
 use mathlib.Core.Logic.{inl, inr}
 use mathlib.Core.Path.{_≡_, refl, sym, ap, _∙_}
 use Prim.Native.Nat.{ℕ, zero, suc, _+_, _*_, _/_, _%_, _≤_, _<_}
 use native.Mathlib.Omega.{arith}
 use denote.Ref.{RefT, now}
-use lib.Dec.{eqb, ltb}
 use lib.ListN.{length, getD, take, drop}
 use lib.Seq.{take-length}
 use borrow.Author.Tests.{eq-eqb, eqb-true, le-ltb}
@@ -34,7 +33,7 @@ use Rattle.advertising.specs.declared.pdu.Outcome.the-variants as outcome
 use Rattle.advertising.specs.declared.pdu.Pdu.{Pdu}
 use Rattle.beacon.specs.Laws as laws
 use Rattle.beacon.specs.Laws.{Lets, Checks, Reports, Located, BadList, Unfiltered}
-use Rattle.beacon.specs.Scanner.{openScanner, isListFor, isPass, passes, isType2, isBeaconPacket, reportOf, unreported, ofDecoded, unfiltered, scanned, reportNumber}
+use Rattle.beacon.specs.Scanner.{openScanner, isListFor, isPass, passes, isType2, isBeaconPacket, reportOf, unreported, unfiltered, scanned, reportNumber}
 use Rattle.beacon.specs.declared.beacon.BeaconScanner.{BeaconScanner}
 use Rattle.beacon.specs.declared.beacon.Report.the-variants as report
 use Rattle.beacon.specs.declared.beacon.Scanned.{Scanned}
