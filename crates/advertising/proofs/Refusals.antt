@@ -17,7 +17,6 @@ use Rattle.octets.proofs.Places.{enough, too-few}
 use Rattle.octets.specs.Error.{numberOf}
 use Rattle.octets.specs.declared.error.Error.{Error}
 use Rattle.records.specs.Area.{cut, reads, withFirst, areaOf, readArea}
-use Rattle.records.specs.Area.{cut, reads, before, areaOf, readArea}
 use Rattle.records.specs.Record.{named, first, flagsRead, dataRead, upTo, recordRead}
 use Rattle.records.specs.declared.area.Area.{Area}
 use Rattle.records.specs.declared.area.Area.the-variants as area

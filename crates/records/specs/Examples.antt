@@ -111,20 +111,11 @@ pub record Examples : Type 0 where
   pub service-read : readKnown (0x03 ∷ 0x16 ∷ 0x0F ∷ 0x18 ∷ []) ≡ Structure (ServiceData16 0x180F 4 0)
   pub company-read : readKnown (0x04 ∷ 0xFF ∷ 0x4C ∷ 0x00 ∷ 0x02 ∷ []) ≡ Structure (ManufacturerSpecificData (record { 0 = 0x004C }) 4 1)
   pub other-read : readKnown (0x02 ∷ 0x0A ∷ 0x04 ∷ []) ≡ Structure (Unknown 0x0A 2 1)
-  pub incomplete32-read : readOn (0x05 ∷ 0x04 ∷ 0x0F ∷ 0x18 ∷ 0x00 ∷ 0x00 ∷ []) ≡ Structure (ServiceUuids32 false 2 4)
-  pub complete32-read : readOn (0x05 ∷ 0x05 ∷ 0x0F ∷ 0x18 ∷ 0x00 ∷ 0x00 ∷ []) ≡ Structure (ServiceUuids32 true 2 4)
-  pub incomplete128-read : readOn (0x11 ∷ 0x06 ∷ sixteen) ≡ Structure (ServiceUuids128 false 2 16)
-  pub complete128-read : readOn (0x11 ∷ 0x07 ∷ sixteen) ≡ Structure (ServiceUuids128 true 2 16)
-  pub shortened-read : readOn (0x03 ∷ 0x08 ∷ 0x48 ∷ 0x69 ∷ []) ≡ Structure (ShortenedLocalName 2 2)
-  pub complete-read : readOn (0x03 ∷ 0x09 ∷ 0x48 ∷ 0x69 ∷ []) ≡ Structure (CompleteLocalName 2 2)
-  pub service-read : readOn (0x03 ∷ 0x16 ∷ 0x0F ∷ 0x18 ∷ []) ≡ Structure (ServiceData16 0x180F 4 0)
-  pub company-read : readOn (0x04 ∷ 0xFF ∷ 0x4C ∷ 0x00 ∷ 0x02 ∷ []) ≡ Structure (ManufacturerSpecificData (record { 0 = 0x004C }) 4 1)
-  pub other-read : readOn (0x02 ∷ 0x0A ∷ 0x04 ∷ []) ≡ Structure (Unknown 0x0A 2 1)
   -- the types beside those that have a kind
-  pub type-00 : readOn (0x02 ∷ 0x00 ∷ 0x0A ∷ []) ≡ Structure (Unknown 0x00 2 1)
-  pub type-15 : readOn (0x02 ∷ 0x15 ∷ 0x0A ∷ []) ≡ Structure (Unknown 0x15 2 1)
-  pub type-17 : readOn (0x02 ∷ 0x17 ∷ 0x0A ∷ []) ≡ Structure (Unknown 0x17 2 1)
-  pub type-FE : readOn (0x02 ∷ 0xFE ∷ 0x0A ∷ []) ≡ Structure (Unknown 0xFE 2 1)
+  pub type-00 : readKnown (0x02 ∷ 0x00 ∷ 0x0A ∷ []) ≡ Structure (Unknown 0x00 2 1)
+  pub type-15 : readKnown (0x02 ∷ 0x15 ∷ 0x0A ∷ []) ≡ Structure (Unknown 0x15 2 1)
+  pub type-17 : readKnown (0x02 ∷ 0x17 ∷ 0x0A ∷ []) ≡ Structure (Unknown 0x17 2 1)
+  pub type-FE : readKnown (0x02 ∷ 0xFE ∷ 0x0A ∷ []) ≡ Structure (Unknown 0xFE 2 1)
   -- reading on refuses a name with 3, a number of one octet and a broken list with 1, and data that are not lent with 1
   pub bad-shortened : readKnown (0x02 ∷ 0x08 ∷ 0xFF ∷ []) ≡ Parsed.Refused InvalidValue
   pub bad-complete : readKnown (0x02 ∷ 0x09 ∷ 0xFF ∷ []) ≡ Parsed.Refused InvalidValue
