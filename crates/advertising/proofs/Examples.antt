@@ -1,4 +1,4 @@
--- A connect request field by field, the accuracies by their codes, and what document 01's nine octets decode to. Computed. Assumes nothing.
+-- A connect request field by field, the accuracies by their codes, the end of the transmit window, and what document 01's nine octets decode to. Computed. Assumes nothing.
 use mathlib.Core.List.{[], _∷_}
 use mathlib.Core.Path.{_≡_, refl}
 use Prim.Native.Nat.{zero, suc}
@@ -9,7 +9,7 @@ use Rattle.addresses.specs.declared.device_address.AddressKind.the-variants.{Ra
 use Rattle.addresses.specs.declared.header.PduType.the-variants.{AdvNonconnInd}
 use Rattle.records.specs.Area.{cut, reads, withFirst, areaOf, readArea}
 use Rattle.records.specs.Record.{named, first, flagsRead, dataRead, upTo, recordRead}
-use Rattle.advertising.specs.Laws.{row, nine, Example, Accuracies}
+use Rattle.advertising.specs.Laws.{row, nine, Example, Accuracies, WindowEnd}
 use Rattle.advertising.specs.Pdu.{requestOf, noRequest, noAddress, decodedAs, withArea, undirected, connectRequest, byType, decodeOf}
 use Rattle.advertising.specs.declared.pdu.Outcome.the-variants.{Accepted}
 
@@ -33,3 +33,6 @@ accuracies (suc (suc (suc (suc (suc zero))))) h = refl
 accuracies (suc (suc (suc (suc (suc (suc zero)))))) h = refl
 accuracies (suc (suc (suc (suc (suc (suc (suc zero))))))) h = refl
 accuracies (suc (suc (suc (suc (suc (suc (suc (suc n)))))))) h = absurd (omega arith)
+
+pub window-end : WindowEnd
+window-end d = omega arith

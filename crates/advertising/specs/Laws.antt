@@ -4,11 +4,12 @@
 --   Building      Building.building      what is read of a PDU that was built
 --   Example       Examples.example       a connect request, field by field, and what a type lacks
 --   Accuracies    Examples.accuracies    the sleep clock accuracies by their codes
+--   WindowEnd     Examples.window-end    the end of the transmit window
 use mathlib.Core.Bool.{true, false}
 use mathlib.Core.List.{List, [], _∷_, _++_, map, flatten}
 use mathlib.Core.Logic.{_⊎_}
 use mathlib.Core.Path.{_≡_}
-use Prim.Native.Nat.{ℕ, _+_, _*_, _/_, _%_, _≤_, _<_}
+use Prim.Native.Nat.{ℕ, _+_, _*_, _/_, _%_, _≤_, _<_, _^_}
 use lib.ListN.{length, getD, take, drop}
 use denote.Ref.{RefT, now}
 use Rattle.addresses.specs.Address.{kindOf, isRandom, addressOf}
@@ -24,9 +25,10 @@ use Rattle.octets.specs.declared.error.Error.{Error}
 use Rattle.octets.specs.declared.error.Error.the-variants.{Eof}
 use Rattle.records.specs.Area.{readArea, rewritten}
 use Rattle.records.specs.declared.area.Area.the-variants as area
-use Rattle.advertising.specs.Pdu.{undirectedFigure, directedFigure, connectFigure, accuracyOf, noRequest, noAddress, noData, dataIn, dataPlace, decodedAs, decodeOf}
+use Rattle.advertising.specs.Pdu.{undirectedFigure, directedFigure, connectFigure, accuracyOf, windowEnd, noRequest, noAddress, noData, dataIn, dataPlace, decodedAs, decodeOf}
 use Rattle.advertising.specs.PduBuf.{headerFor, refusedBuf, builtOf, builtDirected, flagsRecord, payloadOf}
 use Rattle.advertising.specs.declared.pdu.AdvData.{AdvData}
+use Rattle.advertising.specs.declared.pdu.ConnectRequestData.{ConnectRequestData}
 use Rattle.advertising.specs.declared.pdu.Decoded.{Decoded}
 use Rattle.advertising.specs.declared.pdu.Outcome.the-variants.{Accepted}
 use Rattle.advertising.specs.declared.pdu.SleepClockAccuracy.{SleepClockAccuracy}
@@ -167,6 +169,10 @@ worstOf Ppm0To20 = 20
 -- The eight codes go from the worst clock to the best (the Core, Vol 6 Part B, 2.3.3.1).
 abbrev pub Accuracies : Type 0
 Accuracies = (code : ℕ) → code < 8 → worstOf (accuracyOf code) ≡ getD (500 ∷ 250 ∷ 150 ∷ 100 ∷ 75 ∷ 50 ∷ 30 ∷ 20 ∷ []) code 0
+
+-- The transmit window ends at WinOffset, WinSize and 1,250 µs after a CONNECT_IND (the Core, Vol 6 Part B, 4.5.3), modulo 2^32.
+abbrev pub WindowEnd : Type 0
+WindowEnd = (d : ConnectRequestData) → windowEnd d ≡ (d .«win_offset» + d .«win_size» + 1250) % 2 ^ 32
 
 -- The record area of a PDU that was read is the part of its payload behind the six octets of the address, in its own place.
 pub record RecordArea (h : Header) (p : RefT (List ℕ)) : Type 0 where
