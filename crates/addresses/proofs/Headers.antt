@@ -23,4 +23,5 @@ reading s at = record {
   from = λ h. rw (le-leb (at + 2) (length s) h, two s at h);
   from-short = λ h. rw (lt-leb (at + 2) (length s) h);
   back = λ h small. ap (λ (n : ℕ). made.Header (headerOf n)) (omega arith);
+  no-more = λ h. refl;
 }

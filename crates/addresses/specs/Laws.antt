@@ -94,6 +94,7 @@ pub record HeaderReading (s : List ℕ) (at : ℕ) : Type 0 where
   pub from-short : length s < at + 2 → headerAt s at ≡ read.Refused Eof
   -- and the octets of a header are parsed as that header
   pub back : (h : Header) → h .0 < 2 ^ 16 → parsed (headerOctets h) ≡ made.Header h
+  pub no-more : (h : Header) → length (headerOctets h) ≡ 2
 
 -- Document 01: 0 ADV_IND, 1 ADV_DIRECT_IND, 2 ADV_NONCONN_IND, 3 SCAN_REQ, 4 SCAN_RSP, 5 CONNECT_IND, 6 ADV_SCAN_IND; other codes have no
 -- name. The code of the type of any code is that code.

@@ -6,7 +6,7 @@ use mathlib.Core.List.{List, [], _∷_, _++_}
 use Prim.Native.Nat.{ℕ, zero, suc, _+_, _≤_}
 use native.Mathlib.Omega.{arith}
 use native.Mathlib.Nat.{eq-or-lt-of-le}
-use lib.ListN.{length, take, drop, length-append}
+use lib.ListN.{length, take, drop, length-append, take-append-drop}
 use lib.Seq.{take-append-seam, drop-at, length-take-le}
 use lib.Dec.{ltb, eqb}
 use borrow.Author.Tests.{ne-eqb, le-ltb, eqb-true, eqb-false, ltb-false}
@@ -75,5 +75,14 @@ stops n s =
     (λ no-item. inr (λ item more is split. some-octet item is (sym (size-whole item more is) ∙ ap wholeSize (sym split) ∙ no-item)))
     (ends n s)
 
+no-size : (s : List ℕ) → ((item rest : List ℕ) → IsItem item → s ≡ item ++ rest → ⊥) → wholeSize s ≡ 0
+no-size s none-there =
+    ⊎-elim
+    (λ no-item. no-item)
+    (λ item.
+    let some : length (take (wholeSize s) s) ≡ 0 → ⊥ = λ e. item (sym (length-take-le (wholeSize s) s (whole-fits s)) ∙ e) in
+    absurd (none-there (take (wholeSize s) s) (drop (wholeSize s) s) (is-item (take (wholeSize s) s) (item-whole s item) some) (sym (take-append-drop (wholeSize s) s))))
+    (at-front s)
+
 pub falls : (n : ℕ) (s : List ℕ) → Falls n s
-falls n s = record { each = each n s; found = found n; stops = stops n s }
+falls n s = record { each = each n s; found = found n; size = size-whole; no-size = no-size s; stops = stops n s }

@@ -48,6 +48,9 @@ pub record Falls (n : ℕ) (s : List ℕ) : Type 0 where
   -- what is found are items, and an item at the front is found
   pub each : AllItems (items n s)
   pub found : (item rest : List ℕ) → IsItem item → items (suc n) (item ++ rest) ≡ item ∷ items n rest
+  -- what `whole_size` answers: how long the item at the front is, or 0 where none stands
+  pub size : (item rest : List ℕ) → IsItem item → wholeSize (item ++ rest) ≡ length item
+  pub no-size : ((item rest : List ℕ) → IsItem item → s ≡ item ++ rest → ⊥) → wholeSize s ≡ 0
   -- reading ends after n items, or where no item stands
   pub stops : (length (items n s) ≡ n) ⊎ ((item more : List ℕ) → IsItem item → behind (items n s) s ≡ item ++ more → ⊥)
 

@@ -6,13 +6,14 @@ use Prim.Native.Nat.{ℕ, _+_, _-_, _≤_, _<_}
 use native.Mathlib.Omega.{arith}
 use lib.ListN.{length, take, length-take, length-replicate}
 use lib.Seq.{take-all}
-use Rattle.octets.specs.Laws.{Enough, TooFew, Truncates}
+use borrow.Author.Tests.{le-leb, lt-leb}
+use Rattle.octets.specs.Laws.{Enough, TooFew, Truncates, Left}
 use Rattle.octets.proofs.Places as places
 
 pub enough : (n : ℕ) (s : List ℕ) (at : ℕ) → at + n ≤ length s → Enough n s at
 enough n s at h =
     let is = places.enough n s at h in
-    record { passed = rw is; slice = rw is; array = rw (length-replicate, is); write = rw is }
+    record { passed = rw is; slice = rw is; array = rw (length-replicate, is); write = rw is; after = λ xs size. rw (size, is) }
 
 pub too-few : (n : ℕ) (s : List ℕ) (at : ℕ) → length s < at + n → TooFew n s at
 too-few n s at h =
@@ -43,3 +44,7 @@ truncates xs out at =
           let is = places.too-few 0 out at (omega arith) in
           (rw (none-left, is), rw (none-left, is));
     }
+
+pub left : (s : List ℕ) (at : ℕ) → Left s at
+left s at =
+    record { some = λ h. omega arith; past = λ h. omega arith; spent = λ h. le-leb (length s) at h; unspent = λ h. lt-leb (length s) at h }

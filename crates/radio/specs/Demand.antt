@@ -1,5 +1,13 @@
 -- Demand 3: what holds of every list of calls from a fresh device in standby. `demand-3` of proofs/Demand.antt proves it of every own address of six
 -- octets and every list; `Words` of specs/Laws.antt says what its words mean, and specs/Trace.antt has `Call`, `Entry` and `trace`.
+--
+--     an Entry of the trace  | mode, number, call                         | result, octets                                        |
+--                            | what the list says: the mode before, the   | what the call of the device returned, and what stands |
+--                            | table's refusal or 0, and the call itself  | in its lent buffers afterwards                        |
+--
+-- `AtEach P (trace ..)` says P of each entry with the entries after it; `gather role after` is those of them that belong to a run (of accepted ticks, of
+-- accepted events, of packets), up to its end. Words of the crates below have their laws there: `marked`, `marks`, `channelAt`, `eventChannel` and `cycles`
+-- in channels, `later` and `le` in octets, `rewritten` in records, `headerFor` in advertising.
 --   numberIn a                == the number that an answer refuses with; 0 where it refuses nothing
 --   isFirstEvent a            == the answer is a connection's first event
 --   Each P k es               == P holds of each entry and its place, counted from k
@@ -58,7 +66,7 @@ abbrev pub Each : (ℕ → Entry → Type 0) → ℕ → List Entry → Type 0
 Each P k [] = Unit {0}
 Each P k (e ∷ es) = P k e × Each P (suc k) es
 
--- a call's lent buffers with a payload written at the front of the transmit buffer, and its other octets kept
+-- a call's lent buffers with a payload written at the front of the transmit buffer, and its other octets kept; only a start and a tick have one
 abbrev pub transmitted : List ℕ → Call → List (List ℕ)
 transmitted payload (start time interval records tx) = records ∷ (payload ++ drop (length payload) tx) ∷ []
 transmitted payload (tick tx) = (payload ++ drop (length payload) tx) ∷ []
@@ -67,7 +75,7 @@ transmitted payload event = []
 transmitted payload stop = []
 
 -- Tick k of what a start set up, counted from 0, the start's own: it answers the header of an ADV_IND of the own kind and of the payload's length, the
--- channel after k + 1 cycles from the first, and the start's time and k + 1 intervals; it writes the own address, Flags and the records.
+-- channel after k + 1 cycles from the first, and the start's time and k + 1 intervals; it writes the own address (6 octets), Flags (3) and the records.
 pub record Tick (own : DeviceAddress) (time : Instant) (interval : ℕ) (records : List ℕ) (k : ℕ) (e : Entry) : Type 0 where
   pub answer : e .result .answer
       ≡ Sent (headerFor AdvInd (isRandom (own .kind)) false (9 + length records)) (cycles (suc k) firstChannel) (instant (later (time .0) (suc k * interval)))
