@@ -20,7 +20,7 @@ use Rattle.records.specs.declared.ad_structure.Parsed.the-variants.{Stru
 use Rattle.records.specs.declared.ad_structure.Read.{Read}
 use Rattle.records.specs.declared.ad_structure.Read.the-variants.{End}
 use Rattle.records.specs.Record.{named, flagsRead, uuidsRead, nameRead, pairRead, dataRead, kindRead, upTo, recordRead, first, recordAt, lentRead, knownRead}
-use Rattle.records.specs.Layout.{ListKind, incomplete16, complete16, incomplete32, complete32, incomplete128, complete128, NameKind, shortened, complete, NumberKind, service, company}
+use Rattle.records.specs.Layout.{ListKind, incomplete16, complete16, incomplete32, complete32, incomplete128, complete128, NameKind, shortenedName, completeName, NumberKind, serviceData, companyData}
 use Rattle.records.specs.ReadAs.{Whole, ReadAs, OfNoKind, readOn, ReadOnAs}
 
 -- the first octet of a part, and the number that two of them are
@@ -107,13 +107,13 @@ module _ (s : List ℕ) (start len : ℕ) (inside : start + len ≤ length s) wh
 
   name-on : (ty : ℕ) (kind : ℕ → ℕ → AdStructure) → NameKind ty kind → isUtf8 (part len s start) ≡ true → readOn s ty start len ≡ Structure (kind start len)
   unfolding kindRead nameRead
-  name-on ty kind shortened good = on 0x08 ∙ rw (good, long)
-  name-on ty kind complete good = on 0x09 ∙ rw (good, long)
+  name-on ty kind shortenedName good = on 0x08 ∙ rw (good, long)
+  name-on ty kind completeName good = on 0x09 ∙ rw (good, long)
 
   bad-on : (ty : ℕ) (kind : ℕ → ℕ → AdStructure) → NameKind ty kind → isUtf8 (part len s start) ≡ false → readOn s ty start len ≡ Parsed.Refused InvalidValue
   unfolding kindRead nameRead
-  bad-on ty kind shortened bad = on 0x08 ∙ rw bad
-  bad-on ty kind complete bad = on 0x09 ∙ rw bad
+  bad-on ty kind shortenedName bad = on 0x08 ∙ rw bad
+  bad-on ty kind completeName bad = on 0x09 ∙ rw bad
 
   pair : 2 ≤ len → le (part 2 (part len s start) 0) ≡ getD s start 0 + 256 * getD s (start + 1) 0
   pair two =
@@ -122,13 +122,13 @@ module _ (s : List ℕ) (start len : ℕ) (inside : start + len ≤ length s) wh
 
   number-on : (ty : ℕ) (kind : ℕ → ℕ → ℕ → AdStructure) → NumberKind ty kind → 2 ≤ len → readOn s ty start len ≡ Structure (kind (getD s start 0 + 256 * getD s (start + 1) 0) (start + 2) (len - 2))
   unfolding kindRead pairRead
-  number-on ty kind service two = on 0x16 ∙ rw (long, le-ltb len 2 two, pair two)
-  number-on ty kind company two = on 0xFF ∙ rw (long, le-ltb len 2 two, pair two)
+  number-on ty kind serviceData two = on 0x16 ∙ rw (long, le-ltb len 2 two, pair two)
+  number-on ty kind companyData two = on 0xFF ∙ rw (long, le-ltb len 2 two, pair two)
 
   short-on : (ty : ℕ) (kind : ℕ → ℕ → ℕ → AdStructure) → NumberKind ty kind → len < 2 → readOn s ty start len ≡ Parsed.Refused Eof
   unfolding kindRead pairRead
-  short-on ty kind service few = on 0x16 ∙ rw (long, lt-ltb len 2 few)
-  short-on ty kind company few = on 0xFF ∙ rw (long, lt-ltb len 2 few)
+  short-on ty kind serviceData few = on 0x16 ∙ rw (long, lt-ltb len 2 few)
+  short-on ty kind companyData few = on 0xFF ∙ rw (long, lt-ltb len 2 few)
 
   other-on : (ty : ℕ) → OfNoKind ty → readOn s ty start len ≡ Structure (ad.Unknown ty start len)
   unfolding kindRead dataRead
@@ -145,10 +145,10 @@ module _ (s : List ℕ) (start len : ℕ) (inside : start + len ≤ length s) wh
         ne-eqb ty 5 (list _ _ _ complete32),
         ne-eqb ty 6 (list _ _ _ incomplete128),
         ne-eqb ty 7 (list _ _ _ complete128),
-        ne-eqb ty 8 (name _ _ shortened),
-        ne-eqb ty 9 (name _ _ complete),
-        ne-eqb ty 0x16 (number _ _ service),
-        ne-eqb ty 0xFF (number _ _ company),
+        ne-eqb ty 8 (name _ _ shortenedName),
+        ne-eqb ty 9 (name _ _ completeName),
+        ne-eqb ty 0x16 (number _ _ serviceData),
+        ne-eqb ty 0xFF (number _ _ companyData),
         long,
       )
 

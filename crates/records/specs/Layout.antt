@@ -22,12 +22,12 @@ pub data ListKind : ℕ → ℕ → (ℕ → ℕ → AdStructure) → Type 0 whe
   complete128 : ListKind 0x07 16 (ad.ServiceUuids128 true)
 
 pub data NameKind : ℕ → (ℕ → ℕ → AdStructure) → Type 0 where
-  shortened : NameKind 0x08 ad.ShortenedLocalName
-  complete : NameKind 0x09 ad.CompleteLocalName
+  shortenedName : NameKind 0x08 ad.ShortenedLocalName
+  completeName : NameKind 0x09 ad.CompleteLocalName
 
 pub data NumberKind : ℕ → (ℕ → ℕ → ℕ → AdStructure) → Type 0 where
-  service : NumberKind 0x16 ad.ServiceData16
-  company : NumberKind 0xFF (λ number. ad.ManufacturerSpecificData (record { 0 = number }))
+  serviceData : NumberKind 0x16 ad.ServiceData16
+  companyData : NumberKind 0xFF (λ number. ad.ManufacturerSpecificData (record { 0 = number }))
 
 pub data Layout : AdStructure → ℕ → List ℕ → ℕ → ℕ → Type 0 where
   flags : {f : Flags} → Layout (ad.Flags f) 0x01 (f .bits % 32 ∷ []) 0 0
