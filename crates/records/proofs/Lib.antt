@@ -9,6 +9,8 @@ pub mod Restored
 pub mod ReadOn
 pub mod Space
 pub mod ReadBack
+pub mod ReadAs
+pub mod LaidOut
 pub mod Order
 pub mod Outlines
 pub mod Flags

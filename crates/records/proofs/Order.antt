@@ -21,6 +21,7 @@ use Rattle.records.specs.declared.ad_structure.Checked.the-variants.{Fin
 use Rattle.records.specs.Record.{recordOf}
 use Rattle.records.specs.Write.{startOf, lenOf, checkOf, dataOf, mayWrite, octetsOf, writtenTo, writtenAfter}
 use Rattle.records.specs.Order.{IsName, uuidOctets, dataOctets, Lends, lentOctets, Sound, NotWritten, Put, Ordered}
+use Rattle.records.proofs.LaidOut.{lies, standing}
 
 -- the check of each kind
 fine : (a : AdStructure) (s : List ℕ) → Sound a s → checkOf a (lentOctets a s) ≡ Fine
@@ -110,6 +111,7 @@ module _ (a : AdStructure) (s out : List ℕ) (at : ℕ) where
         record {
           answers = rw (may h l, ends);
           as-long = rw after (keeps .as-long);
+          octets = λ laid. rw after (standing s out at laid (ok .lends) h);
           before = λ i low. rw after (sym (getD-take at (written xs out at) i 0 low) ∙ ap (λ (l : List ℕ). getD l i 0) (keeps .before) ∙ getD-take at out i 0 low);
           behind = λ i past. rw after (behind-octet (written xs out at) out i (at + length xs) (keeps .behind) (omega (arith, ends)));
         }
@@ -118,6 +120,7 @@ pub ordered : (a : AdStructure) (s out : List ℕ) (at : ℕ) → Ordered a s ou
 unfolding mayWrite
 ordered a s out at =
     record {
+      places = lies;
       not-lent = λ h. not-written a s out at (rw (too-few (lenOf a) s (startOf a) (omega arith)));
       bad-name = λ lends is bad. not-written a s out at (rw (enough (lenOf a) s (startOf a) lends, name-refused a s is bad));
       bad-list = λ lends odd. not-written a s out at (rw (enough (lenOf a) s (startOf a) lends, list-refused a s lends odd));

@@ -1,13 +1,13 @@
 -- The UUIDs of a list, one by one: `one-by-one`; and that a UUID takes an octet at least.
 -- Assumes nothing.
-use mathlib.Core.Path.{_≡_, refl}
+use mathlib.Core.Path.{_≡_, refl, sym}
 use mathlib.Core.Bool.{Bool, true, false, cond}
 use mathlib.Core.List.{List, [], _∷_}
 use Prim.Native.Nat.{ℕ, _+_, _≤_, _<_}
 use native.Mathlib.Omega.{arith}
 use lib.ListN.{length, drop, drop-of-length-le}
 use lib.Dec.{eqb}
-use borrow.Author.Tests.{eqb-true, leb-true, leb-false}
+use borrow.Author.Tests.{eqb-true, eqb-false, leb-true, leb-false}
 use Rattle.octets.specs.declared.error.Error.the-variants.{Eof}
 use Rattle.octets.specs.declared.bytes.U16Read.the-variants as u16read
 use Rattle.octets.specs.Bytes.{has, part, le}
@@ -38,6 +38,6 @@ one-by-one d at = go (eqb (length d) at) (has 2 d at) refl refl
   where
     go : (end two : Bool) → eqb (length d) at ≡ end → has 2 d at ≡ two
         → Next d at (cond end next16.End (next16From (uuid16From (cond two (u16read.Value (le (part 2 d at)) (record { at = at + 2 })) (u16read.Refused Eof)))))
-    go true two e t = none-left d at (eqb-true (length d) at e)
+    go true two e t = (sym (eqb-true (length d) at e), none-left d at (eqb-true (length d) at e))
     go false true e t = (first-uuid d at (leb-true (at + 2) (length d) t), refl)
-    go false false e t = (refl, leb-false (at + 2) (length d) t)
+    go false false e t = (refl, leb-false (at + 2) (length d) t, λ end. eqb-false (length d) at e (sym end))

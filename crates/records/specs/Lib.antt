@@ -2,6 +2,8 @@ pub mod Types
 pub mod Record
 pub mod Uuids
 pub mod Write
+pub mod Layout
+pub mod ReadAs
 pub mod Order
 pub mod Outlines
 pub mod Area

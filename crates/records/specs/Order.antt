@@ -19,6 +19,7 @@ use Rattle.octets.specs.Bytes.{part}
 use Rattle.utf8.specs.Utf8.{isUtf8}
 use Rattle.records.specs.declared.ad_structure.AdStructure.{AdStructure}
 use Rattle.records.specs.declared.ad_structure.AdStructure.the-variants.{Flags, ServiceUuids16, ServiceUuids32, ServiceUuids128, ServiceData16, CompleteLocalName, ShortenedLocalName, ManufacturerSpecificData, Unknown}
+use Rattle.records.specs.Layout.{Layout, LaidOut}
 use Rattle.records.specs.Write.{startOf, lenOf, writtenTo, writtenAfter}
 
 abbrev pub IsName : AdStructure → Type 0
@@ -69,14 +70,17 @@ pub record NotWritten (a : AdStructure) (s out : List ℕ) (at : ℕ) (e : Error
   pub answers : writtenTo a s out at ≡ Written.Refused e
   pub kept : writtenAfter a s out at ≡ out
 
--- length and type are an octet each; all octets before and behind the record are kept
+-- length and type are an octet each; the record stands there octet by octet, and all octets before and behind it are kept
 pub record Put (a : AdStructure) (s out : List ℕ) (at : ℕ) : Type 0 where
   pub answers : writtenTo a s out at ≡ To (record { at = at + 2 + dataOctets a })
   pub as-long : length (writtenAfter a s out at) ≡ length out
+  pub octets : {ty start len : ℕ} {own : List ℕ} → Layout a ty own start len → LaidOut ty own start len s at (writtenAfter a s out at)
   pub before : (i : ℕ) → i < at → getD (writtenAfter a s out at) i 0 ≡ getD out i 0
   pub behind : (i : ℕ) → at + 2 + dataOctets a ≤ i → getD (writtenAfter a s out at) i 0 ≡ getD out i 0
 
 pub record Ordered (a : AdStructure) (s out : List ℕ) (at : ℕ) : Type 0 where
+  -- the lent data lie where the record says
+  pub places : {ty start len : ℕ} {own : List ℕ} → Layout a ty own start len → (startOf a ≡ start) × (lenOf a ≡ len)
   pub not-lent : (Lends a s → ⊥) → NotWritten a s out at Eof
   -- whatever the space and the length
   pub bad-name : Lends a s → IsName a → isUtf8 (lentOctets a s) ≡ false → NotWritten a s out at InvalidValue

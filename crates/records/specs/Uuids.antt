@@ -28,11 +28,11 @@ uuids [] = []
 uuids (x ∷ []) = []
 uuids (x ∷ y ∷ rest) = le (x ∷ y ∷ []) ∷ uuids rest
 
--- by what was answered: a UUID, the end, or a refusal
+-- by what was answered: a UUID, or the end, which is that of d; or a refusal, which is 1 where one octet is left, or the position is past the end
 abbrev pub Next : List ℕ → ℕ → NextUuid16 → Type 0
 Next d at (next16.Uuid uuid next) = (uuids (drop at d) ≡ uuid .0 ∷ uuids (drop next d)) × (next ≡ at + 2)
-Next d at next16.End = uuids (drop at d) ≡ []
-Next d at (next16.Refused e) = (e ≡ Eof) × (length d < at + 2)
+Next d at next16.End = (at ≡ length d) × (uuids (drop at d) ≡ [])
+Next d at (next16.Refused e) = (e ≡ Eof) × (length d < at + 2) × (at ≡ length d → ⊥)
 
 abbrev pub OneByOne : List ℕ → ℕ → Type 0
 OneByOne d at = Next d at (uuid16At d at)
