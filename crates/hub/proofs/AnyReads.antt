@@ -29,7 +29,7 @@ unfolding afterAll printedAll
 printedAll-append h [] b = refl
 printedAll-append h (item ∷ a) b = simp (printedAll-append (after h item) a b, append-assoc)
 
-counted : (h : Hub) (its : List (List ℕ)) → afterAll h its .items ≡ h .items + length its
+pub counted : (h : Hub) (its : List (List ℕ)) → afterAll h its .items ≡ h .items + length its
 unfolding afterAll after
 counted h [] = omega arith
 counted h (item ∷ its) = counted (after h item) its ∙ omega arith

@@ -20,7 +20,7 @@ use Rattle.hub.specs.Line.{lineSize, roomFor, line, reportsIn}
 use Rattle.hub.specs.Log.{isCrcGood, heardIn}
 use Rattle.hub.proofs.Pieces.{line-length}
 
-is-beacon : (r : Report) → isReport r ≡ true → r ≡ report.Beacon
+pub is-beacon : (r : Report) → isReport r ≡ true → r ≡ report.Beacon
 is-beacon report.Beacon e = refl
 is-beacon report.Nothing e = let z : _≡_ {A = ℕ} 0 1 = cc in absurd (omega arith)
 is-beacon (report.Refused r) e = let z : _≡_ {A = ℕ} 0 1 = cc in absurd (omega arith)

@@ -1,16 +1,22 @@
 -- Document 01's sample holds of the definitions: `sample`. Assumes nothing.
 use mathlib.Core.Path.{_≡_, refl, ap, _∙_}
-use mathlib.Core.List.{List, [], _∷_, flatten}
-use Prim.Native.Nat.{ℕ, _-_}
+use mathlib.Core.List.{List, [], _∷_, _++_, flatten, append-assoc}
+use mathlib.Core.Logic.{inl, inr}
+use Prim.Native.Nat.{ℕ, suc, _+_, _-_}
 use native.Mathlib.Omega.{arith}
-use Rattle.advertising.proofs.Examples.{nine-decoded}
+use lib.ListN.{length}
+use Rattle.addresses.specs.Header.{pduType}
+use Rattle.advertising.specs.Pdu.{decodeOf, byType, undirected, withArea}
 use Rattle.beacon.specs.Scanner.{scanned}
 use Rattle.columns.specs.Column.{leading, column}
+use Rattle.items.proofs.Falling.{falls}
 use Rattle.items.proofs.Items.{one-whole, none-whole}
-use Rattle.items.specs.Item.{sizeOf, wholeSize, items, behind}
+use Rattle.items.specs.Item.{sizeOf, wholeSize, items, behind, tick, packet, AllItems}
+use Rattle.records.specs.Area.{cut, reads, withFirst, areaOf, readArea}
+use Rattle.records.specs.Record.{named, first, flagsRead, dataRead, upTo, recordRead}
 use Rattle.hub.specs.Line.{reportLine, line, reportsIn}
 use Rattle.hub.specs.Log.{mostItems, heardIn, scannerAfter, after, printed, afterAll, printedAll, lastLine, logOf}
-use Rattle.hub.specs.Sample.{beacon, badBeacon, longPacket, Sample}
+use Rattle.hub.specs.Sample.{beacon, badBeacon, longPacket, sixItems, Sample}
 
 -- step by step: computing `items` would unfold it 999,999 times
 both : items mostItems (0x00 ∷ beacon) ≡ (0x00 ∷ []) ∷ beacon ∷ []
@@ -49,15 +55,31 @@ cut-item : items mostItems (0x01 ∷ 0x42 ∷ []) ≡ []
 unfolding sizeOf wholeSize
 cut-item = none-whole mostItems (0x01 ∷ 0x42 ∷ []) refl
 
+-- items, one behind the other
+each-found : (its : List (List ℕ)) (n : ℕ) (rest : List ℕ) → AllItems its → items (length its + n) (flatten its ++ rest) ≡ its ++ items n rest
+unfolding flatten
+each-found [] n rest all = ap (λ (k : ℕ). items k rest) (omega arith)
+each-found (item ∷ its) n rest all =
+    let one-more : length (item ∷ its) + n ≡ suc (length its + n) = omega arith in
+    rw (one-more, append-assoc) (falls (length its + n) [] .found item (flatten its ++ rest) (all .0) ∙ ap (λ (l : List (List ℕ)). item ∷ l) (each-found its n rest (all .1)))
+
+six : items mostItems (flatten sixItems ++ (0x03 ∷ [])) ≡ sixItems
+unfolding sizeOf wholeSize
+six =
+    each-found sixItems (mostItems - 6) (0x03 ∷ [])
+    (tick, (packet _ _ _ _ (inr refl) refl, (packet _ _ _ _ (inl refl) refl, (packet _ _ _ _ (inl refl) refl, (packet _ _ _ _ (inl refl) refl, (packet _ _ _ _ (inl refl) refl, tt))))))
+    ∙ ap (λ (l : List (List ℕ)). sixItems ++ l) (none-whole (mostItems - 6) (0x03 ∷ []) refl)
+
 pub sample : Sample
-unfolding leading column behind flatten scanned heardIn scannerAfter reportLine line reportsIn after printed afterAll printedAll lastLine logOf
+unfolding leading column behind flatten scanned heardIn scannerAfter reportLine line reportsIn after printed afterAll printedAll lastLine logOf decodeOf byType undirected withArea pduType readArea areaOf reads withFirst cut first recordRead dataRead flagsRead upTo named
 sample =
     record {
-      sample = rw (both, nine-decoded);
+      sample = rw both;
       empty = rw no-items;
       crc-bad = rw bad-item;
       six-bits = rw long-item;
       two-above = rw above-item;
       broken = rw broken-item;
       cut-short = rw cut-item;
+      six-items = rw six;
     }

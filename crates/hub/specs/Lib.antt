@@ -1,5 +1,6 @@
 pub mod Line
 pub mod Log
 pub mod Reads
+pub mod Reported
 pub mod Sample
 pub mod Examples

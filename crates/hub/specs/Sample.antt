@@ -1,7 +1,7 @@
 -- Document 01's sample of hublog, an empty input, and inputs that the sample leaves open (`Samples.sample`); as many items as count, and one more
 -- (`Ticks.limit`).
 use mathlib.Core.Path.{_≡_}
-use mathlib.Core.List.{List, [], _∷_}
+use mathlib.Core.List.{List, [], _∷_, _++_, flatten}
 use Prim.Native.Nat.{ℕ}
 use lib.ListN.{replicate}
 use Rattle.advertising.specs.Laws.{nine}
@@ -27,6 +27,17 @@ oneItem = 32 ∷ 32 ∷ 32 ∷ 32 ∷ 32 ∷ 49 ∷ 32 ∷ 32 ∷ 32 ∷ 32 ∷ 
 abbrev pub brokenAtOnce : List ℕ
 brokenAtOnce = 32 ∷ 32 ∷ 32 ∷ 32 ∷ 32 ∷ 48 ∷ 32 ∷ 32 ∷ 32 ∷ 32 ∷ 32 ∷ 48 ∷ 32 ∷ 49 ∷ 10 ∷ []
 
+-- a tick, a CRC-bad packet, a beacon without records, one with two, a packet of type 0, and a beacon of a public sender
+abbrev pub sixItems : List (List ℕ)
+sixItems =
+    (0x00 ∷ [])
+    ∷ badBeacon
+    ∷ (0x01 ∷ 0x42 ∷ 0x06 ∷ 0x0A ∷ 0x0B ∷ 0x0C ∷ 0x0D ∷ 0x0E ∷ 0xCF ∷ [])
+    ∷ (0x01 ∷ 0x42 ∷ 0x0C ∷ (nine ++ (0x02 ∷ 0x0A ∷ 0x04 ∷ [])))
+    ∷ (0x01 ∷ 0x40 ∷ 0x06 ∷ 0x0A ∷ 0x0B ∷ 0x0C ∷ 0x0D ∷ 0x0E ∷ 0xCF ∷ [])
+    ∷ (0x01 ∷ 0x02 ∷ 0x09 ∷ nine)
+    ∷ []
+
 pub record Sample : Type 0 where
   -- a tick and that packet print "     2 1   1   2   3   4   5 198  1" and "     2     1 0"
   pub sample :
@@ -45,6 +56,14 @@ pub record Sample : Type 0 where
   -- another first octet, and an item that is cut short
   pub broken : logOf (0x03 ∷ []) ≡ brokenAtOnce
   pub cut-short : logOf (0x01 ∷ 0x42 ∷ []) ≡ brokenAtOnce
+  -- six items, of which the third, the fourth and the sixth are reported, and an octet that begins none: "     3 1  10  11  12  13  14 207  0",
+  -- "     4 1   1   2   3   4   5 198  2", "     6 0   1   2   3   4   5 198  1" and "     6     3 1"
+  pub six-items :
+      logOf (flatten sixItems ++ (0x03 ∷ []))
+      ≡ 32 ∷ 32 ∷ 32 ∷ 32 ∷ 32 ∷ 51 ∷ 32 ∷ 49 ∷ 32 ∷ 32 ∷ 49 ∷ 48 ∷ 32 ∷ 32 ∷ 49 ∷ 49 ∷ 32 ∷ 32 ∷ 49 ∷ 50 ∷ 32 ∷ 32 ∷ 49 ∷ 51 ∷ 32 ∷ 32 ∷ 49 ∷ 52 ∷ 32 ∷ 50 ∷ 48 ∷ 55 ∷ 32 ∷ 32 ∷ 48 ∷ 10
+      ∷ 32 ∷ 32 ∷ 32 ∷ 32 ∷ 32 ∷ 52 ∷ 32 ∷ 49 ∷ 32 ∷ 32 ∷ 32 ∷ 49 ∷ 32 ∷ 32 ∷ 32 ∷ 50 ∷ 32 ∷ 32 ∷ 32 ∷ 51 ∷ 32 ∷ 32 ∷ 32 ∷ 52 ∷ 32 ∷ 32 ∷ 32 ∷ 53 ∷ 32 ∷ 49 ∷ 57 ∷ 56 ∷ 32 ∷ 32 ∷ 50 ∷ 10
+      ∷ 32 ∷ 32 ∷ 32 ∷ 32 ∷ 32 ∷ 54 ∷ 32 ∷ 48 ∷ 32 ∷ 32 ∷ 32 ∷ 49 ∷ 32 ∷ 32 ∷ 32 ∷ 50 ∷ 32 ∷ 32 ∷ 32 ∷ 51 ∷ 32 ∷ 32 ∷ 32 ∷ 52 ∷ 32 ∷ 32 ∷ 32 ∷ 53 ∷ 32 ∷ 49 ∷ 57 ∷ 56 ∷ 32 ∷ 32 ∷ 49 ∷ 10
+      ∷ 32 ∷ 32 ∷ 32 ∷ 32 ∷ 32 ∷ 54 ∷ 32 ∷ 32 ∷ 32 ∷ 32 ∷ 32 ∷ 51 ∷ 32 ∷ 49 ∷ 10 ∷ []
 
 -- "beyond 999,999": so many ticks are all counted; of one more, the last is left over
 pub record Limit (ticks : ℕ) : Type 0 where

@@ -1,0 +1,180 @@
+-- What the definitions print is what document 01 says of the octets: `reported`, `continued`, `rowed`. Assumes nothing.
+use mathlib.Core.Path.{_≡_, refl, sym, ap, subst, _∙_}
+use mathlib.Core.Bool.{Bool, true, false, cond, true≢false}
+use mathlib.Core.List.{List, [], _∷_, _++_, append-assoc, append-nil, flatten}
+use Prim.Native.Nat.{ℕ, zero, suc, _+_, _*_, _/_, _%_, _<_, _≤_}
+use native.Mathlib.Omega.{arith}
+use lib.ListN.{length, take, drop}
+use lib.Seq.{drop-length}
+use lib.Dec.{eqb, eqb·suc-zero}
+use borrow.Author.Tests.{eqb-true}
+use Rattle.octets.specs.Bytes.{le}
+use Rattle.records.specs.Area.{readArea}
+use Rattle.records.specs.declared.area.Area.the-variants as area
+use Rattle.addresses.specs.Address.{kindOf, addressOf}
+use Rattle.addresses.specs.Header.{bits, headerOf, txAdd}
+use Rattle.addresses.specs.declared.filter.AddressFilter.the-variants.{AllowAll}
+use Rattle.addresses.specs.declared.header.Header.{Header}
+use Rattle.beacon.proofs.Reports.{reports, holds-decoded, type-is}
+use Rattle.beacon.specs.Laws as laws
+use Rattle.beacon.specs.Scanner.{timerUpdated, scanned, isReport}
+use Rattle.beacon.specs.declared.beacon.BeaconScanner.{BeaconScanner}
+use Rattle.beacon.specs.declared.beacon.Report.{Report}
+use Rattle.beacon.specs.declared.beacon.Report.the-variants as report
+use Rattle.beacon.specs.declared.beacon.Scanned.{Scanned}
+use Rattle.items.proofs.Items.{cut}
+use Rattle.items.specs.Item.{items, behind}
+use Rattle.hub.specs.Line.{reportLine, line, reportsIn}
+use Rattle.hub.specs.Log.{mostItems, start, isCrcGood, heardIn, scannerAfter, after, printed, afterAll, printedAll, leftOver, lastLine, fresh, itemsFor, logOf}
+use Rattle.hub.specs.Reported as spec
+use Rattle.hub.specs.Reported.{reportRow, IsReported, Prints, Lines, Reported, Continued, Rowed}
+use Rattle.hub.specs.declared.Hub.{Hub}
+use Rattle.hub.proofs.AnyReads.{counted}
+use Rattle.hub.proofs.Reports.{is-beacon}
+
+pub rowed : (h : Hub) (n : ℕ) → Rowed h n
+unfolding reportLine lastLine flatten
+rowed h n =
+    record {
+      public = λ k a b c d e f. simp (append-assoc, append-nil);
+      random = λ k a b c d e f. simp (append-assoc, append-nil);
+      none-over = refl;
+      some-over = rw (eqb·suc-zero n) refl;
+    }
+
+-- a header's bit 6 as the kind of an address
+line-is : (k bit a b c d e f n : ℕ) → bit < 2 → reportLine k (addressOf (a ∷ b ∷ c ∷ d ∷ e ∷ f ∷ []) (kindOf (eqb bit 1))) n ≡ reportRow k bit a b c d e f n
+line-is k zero a b c d e f n low = rowed fresh n .public k a b c d e f
+line-is k (suc zero) a b c d e f n low = rowed fresh n .random k a b c d e f
+line-is k (suc (suc bit)) a b c d e f n low = absurd (omega arith)
+
+-- a packet that is reported prints its line
+beacon-prints : (k first h0 h1 : ℕ) (p : List ℕ) (n : ℕ) → 6 ≤ length p → first ≡ 1 → IsReported h0 h1 p → readArea (drop 6 p) ≡ area.Accepted n
+    → Prints k (first ∷ h0 ∷ h1 ∷ p) (reportLine k (addressOf (take 6 p) (kindOf (txAdd (headerOf (h0 + 256 * h1))))) n) 1
+beacon-prints k first h0 h1 [] n long crc is good = absurd (omega arith)
+beacon-prints k first h0 h1 (a ∷ []) n long crc is good = absurd (omega arith)
+beacon-prints k first h0 h1 (a ∷ b ∷ []) n long crc is good = absurd (omega arith)
+beacon-prints k first h0 h1 (a ∷ b ∷ c ∷ []) n long crc is good = absurd (omega arith)
+beacon-prints k first h0 h1 (a ∷ b ∷ c ∷ d ∷ []) n long crc is good = absurd (omega arith)
+beacon-prints k first h0 h1 (a ∷ b ∷ c ∷ d ∷ e ∷ []) n long crc is good = absurd (omega arith)
+beacon-prints k first h0 h1 (a ∷ b ∷ c ∷ d ∷ e ∷ f ∷ records) n long crc is good =
+    let bit : bits 6 1 (headerOf (h0 + 256 * h1)) ≡ h0 / 64 % 2 = omega arith in
+    rw (crc, bit, line-is k (h0 / 64 % 2) a b c d e f n (omega arith)) (spec.report h0 h1 a b c d e f records n is good)
+
+-- a scanner that lets all senders pass, and a packet
+module _ (s : BeaconScanner) (all-pass : s .filter .scan ≡ AllowAll) (k first h0 h1 : ℕ) (p : List ℕ) where
+  header : Header
+  header = headerOf (h0 + 256 * h1)
+
+  heard : Scanned
+  heard = scanned s header p (isCrcGood first) []
+
+  is-reported : heard .report ≡ report.Beacon → (first ≡ 1) × IsReported h0 h1 p
+  unfolding heard header
+  is-reported e =
+      let checks = reports s header p (isCrcGood first) [] .sound e in
+      (eqb-true first 1 (checks .crc), record { type-2 = omega (arith, checks .type-2); decoding = checks .decoding })
+
+  reported-is : first ≡ 1 → IsReported h0 h1 p → heard .report ≡ report.Beacon
+  unfolding heard header
+  reported-is good is =
+      ap (λ (x : Scanned). x .report)
+      (reports s header p (isCrcGood first) [] .complete
+      (record { crc = rw good refl; type-2 = omega (arith, is .type-2); decoding = is .decoding; filter = rw all-pass laws.all }))
+
+  not-reported : isReport (heard .report) ≡ false → (g0 g1 : ℕ) (q : List ℕ) → first ∷ h0 ∷ h1 ∷ p ≡ 0x01 ∷ g0 ∷ g1 ∷ q → IsReported g0 g1 q → ⊥
+  not-reported e g0 g1 q same is =
+      let good : first ≡ 1 = cc in
+      let low : h0 ≡ g0 = cc in
+      let high : h1 ≡ g1 = cc in
+      let payload : p ≡ q = cc in
+      let said : heard .report ≡ report.Beacon = reported-is good (record { type-2 = rw low (is .type-2); decoding = rw (low, high, payload) (is .decoding) }) in
+      true≢false (sym (ap isReport said) ∙ e)
+
+  prints : Prints k (first ∷ h0 ∷ h1 ∷ p) (line k heard) (reportsIn heard)
+  unfolding line reportsIn heard header
+  prints = go (isReport (heard .report)) refl
+    where
+      go : (b : Bool) → isReport (heard .report) ≡ b → Prints k (first ∷ h0 ∷ h1 ∷ p) (line k heard) (reportsIn heard)
+      go true is-one =
+          let e = is-beacon (heard .report) is-one in
+          let said = reports s header p (isCrcGood first) [] in
+          let is = is-reported e in
+          let long : 6 ≤ length p = omega (arith, holds-decoded header p (type-is (bits 0 4 header) (said .sound e .type-2)) (said .sound e .decoding) .size) in
+          rw (is-one, said .sender e) (beacon-prints k first h0 h1 p (heard .«adv_data» .count) long (is .0) (is .1) (said .number-of-records e))
+      go false e = rw e (spec.other (first ∷ h0 ∷ h1 ∷ p) (not-reported e))
+
+-- any item
+item-prints : (s : BeaconScanner) → s .filter .scan ≡ AllowAll → (k : ℕ) (item : List ℕ) → Prints k item (line k (heardIn s item)) (reportsIn (heardIn s item))
+unfolding line reportsIn heardIn heard header
+item-prints s all-pass k [] = spec.other [] (λ h0 h1 p same is. absurd (omega (arith, ap length same)))
+item-prints s all-pass k (a ∷ []) = spec.other (a ∷ []) (λ h0 h1 p same is. absurd (omega (arith, ap length same)))
+item-prints s all-pass k (a ∷ b ∷ []) = spec.other (a ∷ b ∷ []) (λ h0 h1 p same is. absurd (omega (arith, ap length same)))
+item-prints s all-pass k (first ∷ h0 ∷ h1 ∷ p) =
+    let number : le (h0 ∷ h1 ∷ []) ≡ h0 + 256 * h1 = omega arith in
+    subst (λ (x : ℕ). Prints k (first ∷ h0 ∷ h1 ∷ p) (line k (scanned s (headerOf x) p (isCrcGood first) [])) (reportsIn (scanned s (headerOf x) p (isCrcGood first) [])))
+    (sym number) (prints s all-pass k first h0 h1 p)
+
+-- the filter stays
+still-all : (s : BeaconScanner) (item : List ℕ) → s .filter .scan ≡ AllowAll → scannerAfter s item .filter .scan ≡ AllowAll
+unfolding scannerAfter
+still-all s [] all-pass = all-pass
+still-all s (first ∷ rest) all-pass = go (eqb first 0)
+  where
+    go : (b : Bool) → cond b (timerUpdated s start .scanner) s .filter .scan ≡ AllowAll
+    go true = all-pass
+    go false = all-pass
+
+-- many items
+record Told (h : Hub) (its : List (List ℕ)) : Type 0 where
+  number : ℕ
+  lines : Lines (h .items + 1) its (printedAll h its) number
+  sum : afterAll h its .reports ≡ h .reports + number
+  all-pass : afterAll h its .scanner .filter .scan ≡ AllowAll
+
+told : (h : Hub) (its : List (List ℕ)) → h .scanner .filter .scan ≡ AllowAll → Told h its
+unfolding afterAll printedAll after printed
+told h [] all-pass = record { number = 0; lines = spec.end (h .items + 1); sum = omega arith; all-pass = all-pass }
+told h (item ∷ its) all-pass =
+    let later = told (after h item) its (still-all (h .scanner) item all-pass) in
+    record {
+      number = reportsIn (heardIn (h .scanner) item) + later .number;
+      lines = spec.next (h .items + 1) item its (printed h item) (printedAll (after h item) its) (reportsIn (heardIn (h .scanner) item)) (later .number)
+          (item-prints (h .scanner) all-pass (h .items + 1) item) (later .lines);
+      sum = later .sum ∙ omega arith;
+      all-pass = later .all-pass;
+    }
+
+pub continued : (h : Hub) (s : List ℕ) (passing : h .scanner .filter .scan ≡ AllowAll) → Continued h s passing
+continued h s passing =
+    let all = told h (itemsFor h s) passing in
+    record { reports = all .number; lines = all .lines; item-count = counted h (itemsFor h s); report-count = all .sum; all-pass = all .all-pass }
+
+-- no octets are left over where the items are all of them, and else some are
+none-over : (its : List (List ℕ)) (s : List ℕ) → flatten its ≡ s → leftOver (length (behind its s)) ≡ 0
+unfolding behind
+none-over its s all = rw (all, drop-length s)
+
+some-over : (its : List (List ℕ)) (s : List ℕ) → flatten its ++ behind its s ≡ s → (flatten its ≡ s → ⊥) → leftOver (length (behind its s)) ≡ 1
+some-over its s tiles some = go (behind its s) tiles
+  where
+    go : (rest : List ℕ) → flatten its ++ rest ≡ s → leftOver (length rest) ≡ 1
+    go [] e = absurd (some (sym (append-nil (flatten its)) ∙ e))
+    go (x ∷ rest) e = rw (eqb·suc-zero (length rest)) refl
+
+pub reported : (s : List ℕ) → Reported s
+unfolding logOf lastLine
+reported s =
+    let its : List (List ℕ) = items mostItems s in
+    let all = told fresh its refl in
+    let size : afterAll fresh its .items ≡ length its = counted fresh its ∙ omega arith in
+    let sum : afterAll fresh its .reports ≡ all .number = all .sum ∙ omega arith in
+    record {
+      lines = printedAll fresh its;
+      reports = all .number;
+      flag = leftOver (length (behind its s));
+      printed = all .lines;
+      log = rw (size, sum) refl;
+      all-read = none-over its s;
+      stopped = some-over its s (cut mostItems s .tiles);
+    }
