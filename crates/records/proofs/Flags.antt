@@ -1,13 +1,14 @@
--- The bits of Flags that have a name are kept, and the others are cleared: `named-bits`; each query goes by its own bit: `queries`.
+-- The bits of Flags that have a name are kept, and the others are cleared: `named-bits`; each is asked for by itself: `queries`.
 -- Assumes nothing.
 use mathlib.Core.Path.{_≡_, ap}
-use Prim.Native.Nat.{ℕ, zero, suc, _+_, _*_, _/_, _%_, _^_, _≤_, _<_}
+use mathlib.Core.Bool.{Bool, true, false, not}
+use Prim.Native.Nat.{ℕ, zero, suc, _/_, _%_, _^_, _≤_, _<_}
 use native.Mathlib.Nat.{div-eq-of-lt}
 use native.Mathlib.Omega.{arith}
 use lib.Pow.{pow-mono}
+use lib.Dec.{eqb}
 use Rattle.records.specs.Record.{named, bit}
-use borrow.Author.Tests.{eq-eqb, ne-eqb}
-use Rattle.records.specs.Flags.{NamedBits, Queries}
+use Rattle.records.specs.Flags.{NamedBits, digit, withBits, Queries}
 
 kept : (x b : ℕ) → b < 5 → bit b (x % 32) ≡ bit b x
 kept x zero h = omega arith
@@ -27,12 +28,32 @@ pub named-bits : (x : ℕ) → NamedBits x
 unfolding named
 named-bits x = record { kept = kept x; cleared = cleared x }
 
-pub queries : (high : ℕ) → Queries high
-queries high =
+digit-small : (b : Bool) → digit b ≤ 1
+digit-small true = omega arith
+digit-small false = omega arith
+
+digit-one : (b : Bool) {k : ℕ} → k ≡ digit b → eqb k 1 ≡ b
+digit-one true is = rw is
+digit-one false is = rw is
+
+digit-zero : (b : Bool) {k : ℕ} → k ≡ digit b → eqb k 0 ≡ not b
+digit-zero true is = rw is
+digit-zero false is = rw is
+
+pub queries : (l g n c h : Bool) (above : ℕ) → Queries l g n c h above
+unfolding named
+queries l g n c h above =
+    let x : ℕ = withBits l g n c h above in
+    let l-small : digit l ≤ 1 = digit-small l in
+    let g-small : digit g ≤ 1 = digit-small g in
+    let n-small : digit n ≤ 1 = digit-small n in
+    let c-small : digit c ≤ 1 = digit-small c in
+    let h-small : digit h ≤ 1 = digit-small h in
     record {
-      limited = (eq-eqb ((2 * high + 1) / 1 % 2) 1 (omega arith), ne-eqb (2 * high / 1 % 2) 1 (λ e. omega arith));
-      general = λ low l. (eq-eqb ((4 * high + 2 + low) / 2 % 2) 1 (omega arith), ne-eqb ((4 * high + low) / 2 % 2) 1 (λ e. omega arith));
-      classic = λ low l. (ne-eqb ((8 * high + 4 + low) / 4 % 2) 0 (λ e. omega arith), eq-eqb ((8 * high + low) / 4 % 2) 0 (omega arith));
-      controller = λ low l. (eq-eqb ((16 * high + 8 + low) / 8 % 2) 1 (omega arith), ne-eqb ((16 * high + low) / 8 % 2) 1 (λ e. omega arith));
-      host = λ low l. (eq-eqb ((32 * high + 16 + low) / 16 % 2) 1 (omega arith), ne-eqb ((32 * high + low) / 16 % 2) 1 (λ e. omega arith));
+      limited = digit-one l {k = x / 1 % 2} (omega arith);
+      general = digit-one g {k = x / 2 % 2} (omega arith);
+      classic = digit-zero n {k = x / 4 % 2} (omega arith);
+      controller = digit-one c {k = x / 8 % 2} (omega arith);
+      host = digit-one h {k = x / 16 % 2} (omega arith);
+      kept = omega arith;
     }

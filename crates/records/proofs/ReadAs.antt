@@ -21,7 +21,7 @@ use Rattle.records.specs.declared.ad_structure.Read.{Read}
 use Rattle.records.specs.declared.ad_structure.Read.the-variants.{End}
 use Rattle.records.specs.Record.{named, flagsRead, uuidsRead, nameRead, pairRead, dataRead, kindRead, upTo, recordRead, first, recordAt, lentRead, knownRead}
 use Rattle.records.specs.Layout.{ListKind, incomplete16, complete16, incomplete32, complete32, incomplete128, complete128, NameKind, shortenedName, completeName, NumberKind, serviceData, companyData}
-use Rattle.records.specs.ReadAs.{Whole, ReadAs, OfNoKind, readOn, ReadOnAs}
+use Rattle.records.specs.ReadAs.{Whole, ReadAs, OfNoKind, readFurther, ReadOnAs}
 
 -- the first octet of a part, and the number that two of them are
 part-first : (n : ℕ) (s : List ℕ) (start : ℕ) → 0 < n → getD (part n s start) 0 0 ≡ getD s start 0
@@ -83,11 +83,11 @@ module _ (s : List ℕ) (start len : ℕ) (inside : start + len ≤ length s) wh
   long = parts s .as-long len start inside
 
   -- data that are lent are read by their type
-  on : (ty : ℕ) → readOn s ty start len ≡ kindRead ty (part len s start) start
+  on : (ty : ℕ) → readFurther s ty start len ≡ kindRead ty (part len s start) start
   unfolding knownRead lentRead
   on ty = rw (enough len s start inside)
 
-  list-on : (ty size : ℕ) (kind : ℕ → ℕ → AdStructure) → ListKind ty size kind → len % size ≡ 0 → readOn s ty start len ≡ Structure (kind start len)
+  list-on : (ty size : ℕ) (kind : ℕ → ℕ → AdStructure) → ListKind ty size kind → len % size ≡ 0 → readFurther s ty start len ≡ Structure (kind start len)
   unfolding kindRead dataRead uuidsRead
   list-on ty size kind incomplete16 whole = on 0x02 ∙ rw (long, whole)
   list-on ty size kind complete16 whole = on 0x03 ∙ rw (long, whole)
@@ -96,7 +96,7 @@ module _ (s : List ℕ) (start len : ℕ) (inside : start + len ≤ length s) wh
   list-on ty size kind incomplete128 whole = on 0x06 ∙ rw (long, whole)
   list-on ty size kind complete128 whole = on 0x07 ∙ rw (long, whole)
 
-  broken-on : (ty size : ℕ) (kind : ℕ → ℕ → AdStructure) → ListKind ty size kind → (len % size ≡ 0 → ⊥) → readOn s ty start len ≡ Parsed.Refused Eof
+  broken-on : (ty size : ℕ) (kind : ℕ → ℕ → AdStructure) → ListKind ty size kind → (len % size ≡ 0 → ⊥) → readFurther s ty start len ≡ Parsed.Refused Eof
   unfolding kindRead dataRead uuidsRead
   broken-on ty size kind incomplete16 half = on 0x02 ∙ rw (long, ne-eqb (len % 2) 0 half)
   broken-on ty size kind complete16 half = on 0x03 ∙ rw (long, ne-eqb (len % 2) 0 half)
@@ -105,12 +105,12 @@ module _ (s : List ℕ) (start len : ℕ) (inside : start + len ≤ length s) wh
   broken-on ty size kind incomplete128 half = on 0x06 ∙ rw (long, ne-eqb (len % 16) 0 half)
   broken-on ty size kind complete128 half = on 0x07 ∙ rw (long, ne-eqb (len % 16) 0 half)
 
-  name-on : (ty : ℕ) (kind : ℕ → ℕ → AdStructure) → NameKind ty kind → isUtf8 (part len s start) ≡ true → readOn s ty start len ≡ Structure (kind start len)
+  name-on : (ty : ℕ) (kind : ℕ → ℕ → AdStructure) → NameKind ty kind → isUtf8 (part len s start) ≡ true → readFurther s ty start len ≡ Structure (kind start len)
   unfolding kindRead nameRead
   name-on ty kind shortenedName good = on 0x08 ∙ rw (good, long)
   name-on ty kind completeName good = on 0x09 ∙ rw (good, long)
 
-  bad-on : (ty : ℕ) (kind : ℕ → ℕ → AdStructure) → NameKind ty kind → isUtf8 (part len s start) ≡ false → readOn s ty start len ≡ Parsed.Refused InvalidValue
+  bad-on : (ty : ℕ) (kind : ℕ → ℕ → AdStructure) → NameKind ty kind → isUtf8 (part len s start) ≡ false → readFurther s ty start len ≡ Parsed.Refused InvalidValue
   unfolding kindRead nameRead
   bad-on ty kind shortenedName bad = on 0x08 ∙ rw bad
   bad-on ty kind completeName bad = on 0x09 ∙ rw bad
@@ -120,17 +120,17 @@ module _ (s : List ℕ) (start len : ℕ) (inside : start + len ≤ length s) wh
       let all : start + 0 ≡ start = omega arith in
       rw (parts s .of-part 2 len start 0 two, all, part-octets 1 s start (omega arith)) (omega arith)
 
-  number-on : (ty : ℕ) (kind : ℕ → ℕ → ℕ → AdStructure) → NumberKind ty kind → 2 ≤ len → readOn s ty start len ≡ Structure (kind (getD s start 0 + 256 * getD s (start + 1) 0) (start + 2) (len - 2))
+  number-on : (ty : ℕ) (kind : ℕ → ℕ → ℕ → AdStructure) → NumberKind ty kind → 2 ≤ len → readFurther s ty start len ≡ Structure (kind (getD s start 0 + 256 * getD s (start + 1) 0) (start + 2) (len - 2))
   unfolding kindRead pairRead
   number-on ty kind serviceData two = on 0x16 ∙ rw (long, le-ltb len 2 two, pair two)
   number-on ty kind companyData two = on 0xFF ∙ rw (long, le-ltb len 2 two, pair two)
 
-  short-on : (ty : ℕ) (kind : ℕ → ℕ → ℕ → AdStructure) → NumberKind ty kind → len < 2 → readOn s ty start len ≡ Parsed.Refused Eof
+  short-on : (ty : ℕ) (kind : ℕ → ℕ → ℕ → AdStructure) → NumberKind ty kind → len < 2 → readFurther s ty start len ≡ Parsed.Refused Eof
   unfolding kindRead pairRead
   short-on ty kind serviceData few = on 0x16 ∙ rw (long, lt-ltb len 2 few)
   short-on ty kind companyData few = on 0xFF ∙ rw (long, lt-ltb len 2 few)
 
-  other-on : (ty : ℕ) → OfNoKind ty → readOn s ty start len ≡ Structure (ad.Unknown ty start len)
+  other-on : (ty : ℕ) → OfNoKind ty → readFurther s ty start len ≡ Structure (ad.Unknown ty start len)
   unfolding kindRead dataRead
   other-on ty none =
       let list : (t size : ℕ) (kind : ℕ → ℕ → AdStructure) → ListKind t size kind → ty ≡ t → ⊥ = λ t size kind is e. none .not-list size kind (rw e is) in

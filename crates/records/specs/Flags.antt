@@ -2,9 +2,10 @@
 --   limitedDiscoverable, generalDiscoverable, supportsClassic, bothByController, bothByHost   == what bits 0 to 4 say
 --   discoverableFlags, broadcastFlags   == the octet of a start, and that of a beacon
 --   NamedBits x                         == `named x` keeps these five bits of x, and no other
---   Queries high                        == each query goes by its own bit, whatever the bits above and below it are
+--   withBits l g n c h above            == the octet whose bits 0 to 4 are these, and `above` those above them
+--   Queries l g n c h above             == each query of it answers by its own bit, whatever the others are
 use mathlib.Core.Path.{_≡_}
-use mathlib.Core.Bool.{Bool, true, false}
+use mathlib.Core.Bool.{Bool, cond, not}
 use Prim.Native.Nat.{ℕ, _+_, _*_, _<_, _≤_}
 use lib.Dec.{eqb}
 use Rattle.records.specs.Record.{named, bit}
@@ -38,10 +39,16 @@ pub record NamedBits (x : ℕ) : Type 0 where
   pub kept : (b : ℕ) → b < 5 → bit b (named x) ≡ bit b x
   pub cleared : (b : ℕ) → 5 ≤ b → bit b (named x) ≡ 0
 
--- LE_LIMITED_DISCOVERABLE is 1, LE_GENERAL_DISCOVERABLE 2, BR_EDR_NOT_SUPPORTED 4, SIMUL_LE_BR_CONTROLLER 8 and SIMUL_LE_BR_HOST 16, as in rubble
-pub record Queries (high : ℕ) : Type 0 where
-  pub limited : (limitedDiscoverable (2 * high + 1) ≡ true) × (limitedDiscoverable (2 * high) ≡ false)
-  pub general : (low : ℕ) → low < 2 → (generalDiscoverable (4 * high + 2 + low) ≡ true) × (generalDiscoverable (4 * high + low) ≡ false)
-  pub classic : (low : ℕ) → low < 4 → (supportsClassic (8 * high + 4 + low) ≡ false) × (supportsClassic (8 * high + low) ≡ true)
-  pub controller : (low : ℕ) → low < 8 → (bothByController (16 * high + 8 + low) ≡ true) × (bothByController (16 * high + low) ≡ false)
-  pub host : (low : ℕ) → low < 16 → (bothByHost (32 * high + 16 + low) ≡ true) × (bothByHost (32 * high + low) ≡ false)
+abbrev pub digit : Bool → ℕ
+digit b = cond b 1 0
+
+abbrev pub withBits : Bool → Bool → Bool → Bool → Bool → ℕ → ℕ
+withBits l g n c h above = digit l + 2 * digit g + 4 * digit n + 8 * digit c + 16 * digit h + 32 * above
+
+pub record Queries (l g n c h : Bool) (above : ℕ) : Type 0 where
+  pub limited : limitedDiscoverable (withBits l g n c h above) ≡ l
+  pub general : generalDiscoverable (withBits l g n c h above) ≡ g
+  pub classic : supportsClassic (withBits l g n c h above) ≡ not n
+  pub controller : bothByController (withBits l g n c h above) ≡ c
+  pub host : bothByHost (withBits l g n c h above) ≡ h
+  pub kept : named (withBits l g n c h above) ≡ withBits l g n c h 0

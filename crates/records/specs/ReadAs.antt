@@ -46,21 +46,21 @@ pub record OfNoKind (ty : ℕ) : Type 0 where
   pub not-name : (kind : ℕ → ℕ → AdStructure) → NameKind ty kind → ⊥
   pub not-number : (kind : ℕ → ℕ → ℕ → AdStructure) → NumberKind ty kind → ⊥
 
-abbrev pub readOn : List ℕ → ℕ → ℕ → ℕ → Parsed
-readOn s ty start len = knownRead (Unknown ty start len) s
+abbrev pub readFurther : List ℕ → ℕ → ℕ → ℕ → Parsed
+readFurther s ty start len = knownRead (Unknown ty start len) s
 
 -- "name not UTF-8" 3; "a field .. needs more octets than there are" 1; "otherwise type and data"
 pub record ReadLent (s : List ℕ) (ty start len : ℕ) : Type 0 where
-  pub flags : ty ≡ 0x01 → len ≡ 1 → readOn s ty start len ≡ Structure (Flags (record { bits = getD s start 0 % 32 }))
-  pub wrong-flags : ty ≡ 0x01 → (len ≡ 1 → ⊥) → readOn s ty start len ≡ Parsed.Refused InvalidLength
-  pub list : (size : ℕ) (kind : ℕ → ℕ → AdStructure) → ListKind ty size kind → len % size ≡ 0 → readOn s ty start len ≡ Structure (kind start len)
-  pub broken-list : (size : ℕ) (kind : ℕ → ℕ → AdStructure) → ListKind ty size kind → (len % size ≡ 0 → ⊥) → readOn s ty start len ≡ Parsed.Refused Eof
-  pub name : (kind : ℕ → ℕ → AdStructure) → NameKind ty kind → isUtf8 (part len s start) ≡ true → readOn s ty start len ≡ Structure (kind start len)
-  pub bad-name : (kind : ℕ → ℕ → AdStructure) → NameKind ty kind → isUtf8 (part len s start) ≡ false → readOn s ty start len ≡ Parsed.Refused InvalidValue
-  pub number : (kind : ℕ → ℕ → ℕ → AdStructure) → NumberKind ty kind → 2 ≤ len → readOn s ty start len ≡ Structure (kind (getD s start 0 + 256 * getD s (start + 1) 0) (start + 2) (len - 2))
-  pub short-number : (kind : ℕ → ℕ → ℕ → AdStructure) → NumberKind ty kind → len < 2 → readOn s ty start len ≡ Parsed.Refused Eof
-  pub other : OfNoKind ty → readOn s ty start len ≡ Structure (Unknown ty start len)
+  pub flags : ty ≡ 0x01 → len ≡ 1 → readFurther s ty start len ≡ Structure (Flags (record { bits = getD s start 0 % 32 }))
+  pub wrong-flags : ty ≡ 0x01 → (len ≡ 1 → ⊥) → readFurther s ty start len ≡ Parsed.Refused InvalidLength
+  pub list : (size : ℕ) (kind : ℕ → ℕ → AdStructure) → ListKind ty size kind → len % size ≡ 0 → readFurther s ty start len ≡ Structure (kind start len)
+  pub broken-list : (size : ℕ) (kind : ℕ → ℕ → AdStructure) → ListKind ty size kind → (len % size ≡ 0 → ⊥) → readFurther s ty start len ≡ Parsed.Refused Eof
+  pub name : (kind : ℕ → ℕ → AdStructure) → NameKind ty kind → isUtf8 (part len s start) ≡ true → readFurther s ty start len ≡ Structure (kind start len)
+  pub bad-name : (kind : ℕ → ℕ → AdStructure) → NameKind ty kind → isUtf8 (part len s start) ≡ false → readFurther s ty start len ≡ Parsed.Refused InvalidValue
+  pub number : (kind : ℕ → ℕ → ℕ → AdStructure) → NumberKind ty kind → 2 ≤ len → readFurther s ty start len ≡ Structure (kind (getD s start 0 + 256 * getD s (start + 1) 0) (start + 2) (len - 2))
+  pub short-number : (kind : ℕ → ℕ → ℕ → AdStructure) → NumberKind ty kind → len < 2 → readFurther s ty start len ≡ Parsed.Refused Eof
+  pub other : OfNoKind ty → readFurther s ty start len ≡ Structure (Unknown ty start len)
 
 pub record ReadOnAs (s : List ℕ) (ty start len : ℕ) : Type 0 where
-  pub not-lent : length s < start + len → readOn s ty start len ≡ Parsed.Refused Eof
+  pub not-lent : length s < start + len → readFurther s ty start len ≡ Parsed.Refused Eof
   pub lent : start + len ≤ length s → ReadLent s ty start len
