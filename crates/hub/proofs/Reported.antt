@@ -1,14 +1,17 @@
--- What the definitions print is what document 01 says of the octets: `reported`, `continued`, `rowed`. Assumes nothing.
+-- What the definitions print is what document 01 says of the octets: `reported`, `continued`, `rowed`, `stopping`. Assumes nothing.
 use mathlib.Core.Path.{_≡_, refl, sym, ap, subst, _∙_}
 use mathlib.Core.Bool.{Bool, true, false, cond, true≢false}
 use mathlib.Core.List.{List, [], _∷_, _++_, append-assoc, append-nil, flatten}
-use Prim.Native.Nat.{ℕ, zero, suc, _+_, _*_, _/_, _%_, _<_, _≤_}
+use mathlib.Core.Logic.{⊎-elim}
+use Prim.Native.Nat.{ℕ, zero, suc, _+_, _-_, _*_, _/_, _%_, _<_, _≤_}
 use native.Mathlib.Omega.{arith}
 use lib.ListN.{length, take, drop}
 use lib.Seq.{drop-length}
-use lib.Dec.{eqb, eqb·suc-zero}
-use borrow.Author.Tests.{eqb-true}
+use lib.Dec.{leb, eqb, eqb·suc-zero}
+use borrow.Author.Tests.{eqb-true, ne-eqb, le-leb, lt-ltb, le-ltb, lt-leb}
 use Rattle.octets.specs.Bytes.{le}
+use Rattle.channels.proofs.Cycles.{cycles-add}
+use Rattle.channels.specs.Laws.{cycles}
 use Rattle.records.specs.Area.{readArea}
 use Rattle.records.specs.declared.area.Area.the-variants as area
 use Rattle.addresses.specs.Address.{kindOf, addressOf}
@@ -22,12 +25,13 @@ use Rattle.beacon.specs.declared.beacon.BeaconScanner.{BeaconScanner}
 use Rattle.beacon.specs.declared.beacon.Report.{Report}
 use Rattle.beacon.specs.declared.beacon.Report.the-variants as report
 use Rattle.beacon.specs.declared.beacon.Scanned.{Scanned}
+use Rattle.items.proofs.Falling.{falls}
 use Rattle.items.proofs.Items.{cut}
-use Rattle.items.specs.Item.{items, behind}
+use Rattle.items.specs.Item.{items, behind, IsItem, tick, packet, AllItems}
 use Rattle.hub.specs.Line.{reportLine, line, reportsIn}
-use Rattle.hub.specs.Log.{mostItems, start, isCrcGood, heardIn, scannerAfter, after, printed, afterAll, printedAll, leftOver, lastLine, fresh, itemsFor, logOf}
+use Rattle.hub.specs.Log.{mostItems, start, isCrcGood, heardIn, scannerAfter, after, printed, afterAll, printedAll, leftOver, lastLine, fresh, itemsFor, logOf, isStuck}
 use Rattle.hub.specs.Reported as spec
-use Rattle.hub.specs.Reported.{reportRow, IsReported, Prints, Lines, Reported, Continued, Rowed}
+use Rattle.hub.specs.Reported.{reportRow, IsReported, Prints, Lines, Ticks, Reported, Continued, Rowed, Stopping}
 use Rattle.hub.specs.declared.Hub.{Hub}
 use Rattle.hub.proofs.AnyReads.{counted}
 use Rattle.hub.proofs.Reports.{is-beacon}
@@ -145,10 +149,64 @@ told h (item ∷ its) all-pass =
       all-pass = later .all-pass;
     }
 
+-- a scanner after items moves on with each tick
+record Moved (h : Hub) (its : List (List ℕ)) : Type 0 where
+  ticks : ℕ
+  ticked : Ticks its ticks
+  channel : afterAll h its .scanner .channel ≡ cycles ticks (h .scanner .channel)
+
+moved : (h : Hub) (its : List (List ℕ)) → AllItems its → Moved h its
+unfolding afterAll after scannerAfter cycles
+moved h [] all = record { ticks = 0; ticked = spec.no-items; channel = refl }
+moved h (item ∷ its) all = go item (all .0) (moved (after h item) its (all .1))
+  where
+    go : (item : List ℕ) → IsItem item → Moved (after h item) its → Moved h (item ∷ its)
+    go item tick later =
+        record { ticks = 1 + later .ticks; ticked = spec.tick its (later .ticks) (later .ticked); channel = later .channel ∙ sym (cycles-add 1 (later .ticks) (h .scanner .channel)) }
+    go item (packet first h0 h1 payload which long) later =
+        let some : first ≡ 0 → ⊥ = λ none-there. ⊎-elim (λ good. omega arith) (λ bad. omega arith) which in
+        record {
+          ticks = later .ticks;
+          ticked = spec.packet first (h0 ∷ h1 ∷ payload) its (later .ticks) which (later .ticked);
+          channel = later .channel ∙ rw (ne-eqb first 0 some) refl;
+        }
+
 pub continued : (h : Hub) (s : List ℕ) (passing : h .scanner .filter .scan ≡ AllowAll) → Continued h s passing
 continued h s passing =
     let all = told h (itemsFor h s) passing in
-    record { reports = all .number; lines = all .lines; item-count = counted h (itemsFor h s); report-count = all .sum; all-pass = all .all-pass }
+    let scanning = moved h (itemsFor h s) (falls (mostItems - h .items) s .each) in
+    record {
+      reports = all .number;
+      lines = all .lines;
+      item-count = counted h (itemsFor h s);
+      report-count = all .sum;
+      all-pass = all .all-pass;
+      ticks = scanning .ticks;
+      ticked = scanning .ticked;
+      channel = scanning .channel;
+    }
+
+pub stopping : (count first : ℕ) (rest : List ℕ) → Stopping count first rest
+unfolding isStuck
+stopping count first rest =
+    record {
+      beyond = λ most. rw (le-leb mostItems count most);
+      another = λ no-tick not-good not-bad. rw (lt-ltb 2 first (above first no-tick not-good not-bad)) (either (leb mostItems count));
+      cut-short = λ more which.
+          let low : first ≤ 2 = ⊎-elim (λ is. omega arith) (λ is. ⊎-elim (λ good. omega arith) (λ bad. omega arith) is) which in
+          rw (lt-leb mostItems count more, le-ltb 2 first low);
+      none-left = refl;
+    }
+  where
+    above : (n : ℕ) → (n ≡ 0 → ⊥) → (n ≡ 1 → ⊥) → (n ≡ 2 → ⊥) → 2 < n
+    above zero a b c = absurd (a refl)
+    above (suc zero) a b c = absurd (b refl)
+    above (suc (suc zero)) a b c = absurd (c refl)
+    above (suc (suc (suc n))) a b c = omega arith
+
+    either : (b : Bool) → cond b true true ≡ true
+    either true = refl
+    either false = refl
 
 -- no octets are left over where the items are all of them, and else some are
 none-over : (its : List (List ℕ)) (s : List ℕ) → flatten its ≡ s → leftOver (length (behind its s)) ≡ 0

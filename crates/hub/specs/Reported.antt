@@ -4,13 +4,18 @@
 --   IsReported h0 h1 payload    == a CRC-good packet with this header and payload is reported
 --   Prints k item line n        == what item number k prints, and how many reports that is
 --   Lines k its lines n         == the same of items that are numbered from k on
+--   Ticks its n                 == n of the items are ticks
 --   Reported s                  == the log of the input s (Reported.reported)
 --   Continued h s passing       == the lines and counts of octets s that a hub h takes in which lets all senders pass (Reported.continued)
 --   Rowed h n                   == the lines by themselves, whatever their numbers (Reported.rowed)
+--   Stopping count first rest   == which octets left over stop reading (Reported.stopping)
 use mathlib.Core.Path.{_≡_}
+use mathlib.Core.Logic.{_⊎_}
+use mathlib.Core.Bool.{true, false}
 use mathlib.Core.List.{List, [], _∷_, _++_, flatten}
-use Prim.Native.Nat.{ℕ, suc, _+_, _*_, _/_, _%_}
+use Prim.Native.Nat.{ℕ, suc, _+_, _*_, _/_, _%_, _<_, _≤_}
 use lib.ListN.{length}
+use Rattle.channels.specs.Laws.{cycles}
 use Rattle.records.specs.Area.{readArea}
 use Rattle.records.specs.declared.area.Area.the-variants as area
 use Rattle.addresses.specs.Address.{addressOf}
@@ -22,7 +27,7 @@ use Rattle.advertising.specs.declared.pdu.Outcome.the-variants as outcome
 use Rattle.columns.specs.Column.{column}
 use Rattle.items.specs.Item.{items}
 use Rattle.hub.specs.Line.{reportLine}
-use Rattle.hub.specs.Log.{mostItems, itemsFor, linesOf, hubOf, lastLine, logOf}
+use Rattle.hub.specs.Log.{mostItems, itemsFor, linesOf, hubOf, lastLine, logOf, isStuck}
 use Rattle.hub.specs.declared.Hub.{Hub}
 
 -- "A report prints item number (6 columns, from 1), kind (2), six octets in order (4 each), records (3)"
@@ -56,6 +61,12 @@ pub data Lines : ℕ → List (List ℕ) → List ℕ → ℕ → Type 0 where
       → Lines (k + 1) its lines more
       → Lines k (item ∷ its) (line ++ lines) (n + more)
 
+-- "00 is a tick"; a packet begins with 01 or 02
+pub data Ticks : List (List ℕ) → ℕ → Type 0 where
+  no-items : Ticks [] 0
+  tick : (its : List (List ℕ)) (n : ℕ) → Ticks its n → Ticks ((0x00 ∷ []) ∷ its) (1 + n)
+  packet : (first : ℕ) (rest : List ℕ) (its : List (List ℕ)) (n : ℕ) → (first ≡ 0x01) ⊎ (first ≡ 0x02) → Ticks its n → Ticks ((first ∷ rest) ∷ its) n
+
 -- A line for each report, in order, and the last line, with "0, or 1 where reading stopped at a broken item (another first octet, or cut short) or
 -- beyond 999,999": where the items are not all the octets. Which octets are items is the law `Falls` of items.
 pub record Reported (s : List ℕ) : Type 0 where
@@ -74,6 +85,10 @@ pub record Continued (h : Hub) (s : List ℕ) (passing : h .scanner .filter .sca
   pub item-count : hubOf h s .items ≡ h .items + length (itemsFor h s)
   pub report-count : hubOf h s .reports ≡ h .reports + reports
   pub all-pass : hubOf h s .scanner .filter .scan ≡ AllowAll
+  -- each tick moves the scanner on, and nothing else does
+  pub ticks : ℕ
+  pub ticked : Ticks (itemsFor h s) ticks
+  pub channel : hubOf h s .scanner .channel ≡ cycles ticks (h .scanner .channel)
 
 -- kind 0 is public and 1 random; the flag is 0 where no octets are left over
 pub record Rowed (h : Hub) (n : ℕ) : Type 0 where
@@ -81,3 +96,10 @@ pub record Rowed (h : Hub) (n : ℕ) : Type 0 where
   pub random : (k a b c d e f : ℕ) → reportLine k (addressOf (a ∷ b ∷ c ∷ d ∷ e ∷ f ∷ []) Random) n ≡ reportRow k 1 a b c d e f n
   pub none-over : lastLine h 0 ≡ lastRow (h .items) (h .reports) 0
   pub some-over : lastLine h (suc n) ≡ lastRow (h .items) (h .reports) 1
+
+-- Reading stops, whatever follows, "beyond 999,999" and at "another first octet"; an item that is cut short may still be made whole.
+pub record Stopping (count first : ℕ) (rest : List ℕ) : Type 0 where
+  pub beyond : 999999 ≤ count → isStuck count (first ∷ rest) ≡ true
+  pub another : (first ≡ 0x00 → ⊥) → (first ≡ 0x01 → ⊥) → (first ≡ 0x02 → ⊥) → isStuck count (first ∷ rest) ≡ true
+  pub cut-short : count < 999999 → (first ≡ 0x00) ⊎ ((first ≡ 0x01) ⊎ (first ≡ 0x02)) → isStuck count (first ∷ rest) ≡ false
+  pub none-left : isStuck count [] ≡ false
