@@ -31,7 +31,7 @@ use Rattle.items.specs.Item.{items, behind, IsItem, tick, packet, AllItems}
 use Rattle.hub.specs.Line.{reportLine, line, reportsIn}
 use Rattle.hub.specs.Log.{mostItems, start, isCrcGood, heardIn, scannerAfter, after, printed, afterAll, printedAll, leftOver, lastLine, fresh, itemsFor, logOf, isStuck}
 use Rattle.hub.specs.Reported as spec
-use Rattle.hub.specs.Reported.{reportRow, IsReported, Prints, Lines, Ticks, Reported, Continued, Rowed, Stopping}
+use Rattle.hub.specs.Reported.{reportRow, IsReported, Prints, Lines, TickCount, Reported, Continued, Rowed, Stopping}
 use Rattle.hub.specs.declared.Hub.{Hub}
 use Rattle.hub.proofs.AnyReads.{counted}
 use Rattle.hub.proofs.Reports.{is-beacon}
@@ -152,7 +152,7 @@ told h (item ∷ its) all-pass =
 -- a scanner after items moves on with each tick
 record Moved (h : Hub) (its : List (List ℕ)) : Type 0 where
   ticks : ℕ
-  ticked : Ticks its ticks
+  ticked : TickCount its ticks
   channel : afterAll h its .scanner .channel ≡ cycles ticks (h .scanner .channel)
 
 moved : (h : Hub) (its : List (List ℕ)) → AllItems its → Moved h its

@@ -4,7 +4,7 @@
 --   IsReported h0 h1 payload    == a CRC-good packet with this header and payload is reported
 --   Prints k item line n        == what item number k prints, and how many reports that is
 --   Lines k its lines n         == the same of items that are numbered from k on
---   Ticks its n                 == n of the items are ticks
+--   TickCount its n             == n of the items are ticks
 --   Reported s                  == the log of the input s (Reported.reported)
 --   Continued h s passing       == the lines and counts of octets s that a hub h takes in which lets all senders pass (Reported.continued)
 --   Rowed h n                   == the lines by themselves, whatever their numbers (Reported.rowed)
@@ -62,10 +62,10 @@ pub data Lines : ℕ → List (List ℕ) → List ℕ → ℕ → Type 0 where
       → Lines k (item ∷ its) (line ++ lines) (n + more)
 
 -- "00 is a tick"; a packet begins with 01 or 02
-pub data Ticks : List (List ℕ) → ℕ → Type 0 where
-  no-items : Ticks [] 0
-  tick : (its : List (List ℕ)) (n : ℕ) → Ticks its n → Ticks ((0x00 ∷ []) ∷ its) (1 + n)
-  packet : (first : ℕ) (rest : List ℕ) (its : List (List ℕ)) (n : ℕ) → (first ≡ 0x01) ⊎ (first ≡ 0x02) → Ticks its n → Ticks ((first ∷ rest) ∷ its) n
+pub data TickCount : List (List ℕ) → ℕ → Type 0 where
+  no-items : TickCount [] 0
+  tick : (its : List (List ℕ)) (n : ℕ) → TickCount its n → TickCount ((0x00 ∷ []) ∷ its) (1 + n)
+  packet : (first : ℕ) (rest : List ℕ) (its : List (List ℕ)) (n : ℕ) → (first ≡ 0x01) ⊎ (first ≡ 0x02) → TickCount its n → TickCount ((first ∷ rest) ∷ its) n
 
 -- A line for each report, in order, and the last line, with "0, or 1 where reading stopped at a broken item (another first octet, or cut short) or
 -- beyond 999,999": where the items are not all the octets. Which octets are items is the law `Falls` of items.
@@ -87,7 +87,7 @@ pub record Continued (h : Hub) (s : List ℕ) (passing : h .scanner .filter .sca
   pub all-pass : hubOf h s .scanner .filter .scan ≡ AllowAll
   -- each tick moves the scanner on, and nothing else does
   pub ticks : ℕ
-  pub ticked : Ticks (itemsFor h s) ticks
+  pub ticked : TickCount (itemsFor h s) ticks
   pub channel : hubOf h s .scanner .channel ≡ cycles ticks (h .scanner .channel)
 
 -- kind 0 is public and 1 random; the flag is 0 where no octets are left over
