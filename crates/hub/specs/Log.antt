@@ -8,7 +8,7 @@
 --   afterAll h its, printedAll h its        == the same of many items
 --   lastLine h n                == the last line, where n octets are left over
 --   fresh                       == a hub that has heard nothing
---   logOf s                     == THE LOG of the input s
+--   logOf s                     == THE LOG of the input s; specs/Reported says what is in it, in document 01's words
 --   itemsFor, linesOf, hubOf, restOf h s    == of octets s that a hub h takes in: the whole items, their lines, the hub after them, what is left over
 --   isStuck n s                 == after n items, no octets that follow s make an item of it
 --   turnOf h s                  == what taking in s answers
