@@ -21,10 +21,13 @@ turned h buf filled is counted fits =
     rw is (turn .counted counted, omega (arith, turn .kept, length-take filled buf))
 
 returns : tie.Need-returns
-returns c = at-end (c .stopped .result) (c .stopped .ensures) (c .before .before .before .before .before .before .before .before .pre .0) (c .before .before .before .before .before .before .before .before .pre .1 .0)
+returns c = at-end (c .unread .result .turn) (c .unread .ensures) (c .before .before .before .before .before .before .before .before .pre .0) (c .before .before .before .before .before .before .before .before .pre .1 .0)
 
 returns-2 : tie.Need-returns-2
-returns-2 c = turned _ _ _ (c .before .before .before .before .log-read .ensures .0) (c .before .before .before .before .before .before .before .before .before .before .before .before .before .before .pre .0) (c .before .before .before .before .before .before .before .before .before .before .read-more .ensures .0 .1)
+returns-2 c = at-end (c .no-turn .result) (c .no-turn .ensures) (c .before .before .before .before .before .before .before .before .before .pre .0) (c .before .before .before .before .before .before .before .before .before .pre .1 .0)
+
+returns-3 : tie.Need-returns-3
+returns-3 c = turned _ _ _ (c .before .before .before .before .log-read .ensures .0) (c .before .before .before .before .before .before .before .before .before .before .before .before .before .before .before .pre .0) (c .before .before .before .before .before .before .before .before .before .before .before .read-more .ensures .0 .1)
 
 pub next-turn-spec : {M : Type 1} → statement M
 next-turn-spec =
@@ -36,5 +39,8 @@ next-turn-spec =
     returns
     (λ c κs. search needs)
     (λ c. search needs)
+    returns-2
+    (λ c κs. search needs)
     (λ c. search needs)
-    returns-2)
+    (λ c. search needs)
+    returns-3)
