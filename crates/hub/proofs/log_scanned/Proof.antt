@@ -64,7 +64,7 @@ log-scanned-spec =
     (λ c. search needs)
     (λ c. search needs)
     (λ c. search needs)
-    (λ c. let told = c .before .before in told .before .before .before .before .before .pre .1 .0 (heard told) .0)
+    (λ c. let told = c .before .before in omega (arith, told .before .before .before .before .before .pre .1 .0 (heard told) .0))
     put-line-requires
     (λ c. search needs)
     (λ c. search needs)
