@@ -68,3 +68,14 @@ module _ {out₀ : List ℕ} {at : ℕ} {done out : List ℕ} {next : ℕ} (w : 
 
   pub then-octet : (x : ℕ) → next < length out₀ → Wrote out₀ at (done ++ (x ∷ [])) (set out next x) (next + 1)
   then-octet x more = then-piece (x ∷ []) {size = 1} refl (refl, set-written x out next (rw as-long more))
+
+-- a piece and two columns behind it
+pub pair-behind : (out : List ℕ) (at : ℕ) (piece whole : List ℕ) {size : ℕ} (x : ℕ) {out₁ out₂ : List ℕ} {n₁ n₂ : ℕ} → at + (size + 2) ≤ length out → length piece ≡ size
+    → (n₁ ≡ at + size) × (out₁ ≡ written piece out at)
+    → (n₂ ≡ n₁ + 2) × (out₂ ≡ written (column 2 x) out₁ n₁)
+    → piece ++ column 2 x ≡ whole
+    → (n₂ ≡ at + (size + 2)) × (out₂ ≡ written whole out at)
+pair-behind out at piece whole x fits long e₁ e₂ is =
+    let w₁ = then-piece (nothing-yet out at) (omega arith) piece long e₁ in
+    let w₂ = then-column w₁ (omega (arith, e₁ .0)) 2 x e₂ in
+    (omega (arith, e₁ .0, e₂ .0), w₂ .contents ∙ ap (λ (l : List ℕ). written l out at) is)

@@ -7,9 +7,13 @@
 --   line number s                       == the line of what a scanner answers, or none
 --   reportsIn s                         == how many reports that is
 --   lineSize, lastSize, roomFor n       == octets of a report's line, of the last line, and of the lines of n octets of items
-use Prim.Native.Nat.{ℕ, _*_}
-use mathlib.Core.Bool.{cond}
+--   SentIn s item                       == where the sender of a report stands in its item
+use mathlib.Core.Path.{_≡_}
+use Prim.Native.Nat.{ℕ, _*_, _≤_}
+use mathlib.Core.Bool.{true, cond}
 use mathlib.Core.List.{List, [], _∷_, _++_, map, flatten}
+use lib.ListN.{length}
+use Rattle.octets.specs.Bytes.{part}
 use Rattle.addresses.specs.Address.{kindNumber}
 use Rattle.addresses.specs.declared.device_address.DeviceAddress.{DeviceAddress}
 use Rattle.beacon.specs.Scanner.{isReport}
@@ -35,3 +39,7 @@ lastSize = 15
 -- a line is an item's that has at least nine octets
 abbrev pub roomFor : ℕ → ℕ
 roomFor n = 4 * n
+
+-- behind the item's first octet and the header
+abbrev pub SentIn : Scanned → List ℕ → Type 0
+SentIn s item = isReport (s .report) ≡ true → (9 ≤ length item) × (part 6 item 3 ≡ s .sender .bytes)

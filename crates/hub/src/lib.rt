@@ -5,8 +5,9 @@ ghost use Prim.Native.Nat.{_+_, _-_, _*_, _≤_};
 ghost use lib.ListN.{length, take, drop};
 ghost use Rattle.octets.specs.Bytes.{written};
 ghost use Rattle.addresses.specs.Address.{kindNumber};
-ghost use Rattle.columns.specs.Column.{column};
-ghost use Rattle.hub.specs.Line.{reportLine, line, reportsIn, lineSize, lastSize, roomFor};
+ghost use Rattle.columns.specs.Column.{leading, column};
+ghost use Rattle.columns.specs.Table.{octetColumns};
+ghost use Rattle.hub.specs.Line.{reportLine, line, reportsIn, lineSize, lastSize, roomFor, SentIn};
 ghost use Rattle.hub.specs.Log.{start, heardIn, scannerAfter, leftOver, lastLine, fresh, isStuck, loggedOf, turnOf, RunCounts, isReady, takenIn, restIn, linesIn, restAfter, linesAfter};
 use addresses::device_address::DeviceAddress;
 use addresses::header::Header;
@@ -75,43 +76,121 @@ fn wide(octet: u8) -> usize
     octet as usize
 }
 
+// Writes an octet to the next `width` columns, at most four: they are copied from the table of all octets.
+fn put_octet(table: &[u8], octet: u8, width: usize, out: &mut [u8], at: usize) -> usize
+    requires { ⌜ (now table ≡ octetColumns) × ((width ≤ 4) × (at + width ≤ length (now out))) ⌝ }
+    ensures { λ r. ⌜ (r ≡ at + width) × (now (out .exit) ≡ written (column width octet) (now (out .entry)) at) ⌝ }
+{
+    let from = 4 * wide(octet) + 4 - width;
+    let mut i = 0;
+    while i < width {
+        out[at + i] = table[from + i];
+        i += 1;
+    }
+    at + width
+}
+
 // Writes each octet to the next four columns.
-fn put_octets(octets: &[u8], out: &mut [u8], at: usize) -> usize
-    requires { ⌜ at + 4 * length (now octets) ≤ length (now out) ⌝ }
+fn put_octets(table: &[u8], octets: &[u8], out: &mut [u8], at: usize) -> usize
+    requires { ⌜ (now table ≡ octetColumns) × (at + 4 * length (now octets) ≤ length (now out)) ⌝ }
     ensures { λ r. ⌜ (r ≡ at + 4 * length (now (octets .entry))) × (now (out .exit) ≡ written (flatten (map (column 4) (now (octets .entry)))) (now (out .entry)) at) ⌝ }
 {
     let mut i = 0;
     let mut next = at;
     while i < octets.len() {
-        next = put_next(wide(octets[i]), 4, out, next);
+        next = put_octet(table, octets[i], 4, out, next);
         i += 1;
     }
     next
 }
 
+// An octet whose last two columns are those of n.
+fn last_two(n: usize) -> u8
+    ensures { λ r. ⌜ column 2 r ≡ column 2 n ⌝ }
+{
+    if n < 100 {
+        n as u8
+    } else {
+        (100 + n % 100) as u8
+    }
+}
+
+// Writes n to the next four columns, or spaces if it is 0.
+fn put_four(table: &[u8], n: usize, out: &mut [u8], at: usize) -> usize
+    requires { ⌜ (now table ≡ octetColumns) × (at + 4 ≤ length (now out)) ⌝ }
+    ensures { λ r. ⌜ (r ≡ at + 4) × (now (out .exit) ≡ written (leading 4 n) (now (out .entry)) at) ⌝ }
+{
+    if n == 0 {
+        out[at] = b' ';
+        out[at + 1] = b' ';
+        out[at + 2] = b' ';
+        out[at + 3] = b' ';
+        return at + 4;
+    }
+    if n < 256 {
+        return put_octet(table, n as u8, 4, out, at);
+    }
+    let next = put_octet(table, last_two(n / 100), 2, out, at);
+    put_octet(table, last_two(n), 2, out, next)
+}
+
+// Writes n to the next six columns.
+fn put_number(table: &[u8], n: usize, out: &mut [u8], at: usize) -> usize
+    requires { ⌜ (now table ≡ octetColumns) × (at + 6 ≤ length (now out)) ⌝ }
+    ensures { λ r. ⌜ (r ≡ at + 6) × (now (out .exit) ≡ written (column 6 n) (now (out .entry)) at) ⌝ }
+{
+    let next = put_four(table, n / 100, out, at);
+    put_octet(table, last_two(n), 2, out, next)
+}
+
+// Writes n to the next three columns.
+fn put_count(table: &[u8], n: usize, out: &mut [u8], at: usize) -> usize
+    requires { ⌜ (now table ≡ octetColumns) × (at + 3 ≤ length (now out)) ⌝ }
+    ensures { λ r. ⌜ (r ≡ at + 3) × (now (out .exit) ≡ written (column 3 n) (now (out .entry)) at) ⌝ }
+{
+    if n < 256 {
+        return put_octet(table, n as u8, 3, out, at);
+    }
+    put_next(n, 3, out, at)
+}
+
 // The kind of an address as it is printed: 0 public, 1 random.
-fn kind_number(address: DeviceAddress) -> usize
+fn kind_number(address: DeviceAddress) -> u8
     ensures { λ r. ⌜ r ≡ kindNumber (address .kind) ⌝ }
 {
     if address.is_random() { 1 } else { 0 }
 }
 
-// Writes a report's line, from `at` on.
-fn put_line(number: usize, sender: DeviceAddress, records: usize, out: &mut [u8], at: usize)
-    requires { ⌜ at + lineSize ≤ length (now out) ⌝ }
+// Writes a report's line, from `at` on. The octets are the sender's, where they stand in its packet.
+fn put_line(
+    table: &[u8],
+    number: usize,
+    sender: DeviceAddress,
+    octets: &[u8],
+    records: usize,
+    out: &mut [u8],
+    at: usize,
+)
+    requires { ⌜ (now table ≡ octetColumns) × ((now octets ≡ sender .bytes) × ((length (now octets) ≡ 6) × (at + lineSize ≤ length (now out)))) ⌝ }
     ensures { λ _. ⌜ now (out .exit) ≡ written (reportLine number sender records) (now (out .entry)) at ⌝ }
 {
-    let octets = sender.raw();
-    let mut next = put_next(number, 6, out, at);
-    next = put_next(kind_number(sender), 2, out, next);
-    next = put_octets(&octets, out, next);
-    next = put_next(records, 3, out, next);
+    let mut next = put_number(table, number, out, at);
+    next = put_octet(table, kind_number(sender), 2, out, next);
+    next = put_octets(table, octets, out, next);
+    next = put_count(table, records, out, next);
     out[next] = b'\n';
 }
 
-// Writes the line of what the scanner answered, if it has one, from `at` on, and answers how many reports that is.
-fn log_scanned(number: usize, scanned: Scanned, out: &mut [u8], at: usize) -> usize
-    requires { ⌜ at + lineSize * reportsIn scanned ≤ length (now out) ⌝ }
+// Writes the line of what the scanner answered to an item, if it has one, from `at` on, and answers how many reports that is.
+fn log_scanned(
+    table: &[u8],
+    number: usize,
+    scanned: Scanned,
+    item: &[u8],
+    out: &mut [u8],
+    at: usize,
+) -> usize
+    requires { ⌜ (now table ≡ octetColumns) × (SentIn scanned (now item) × (at + lineSize * reportsIn scanned ≤ length (now out))) ⌝ }
     ensures { λ r. ⌜ (r ≡ reportsIn scanned) × (now (out .exit) ≡ written (line number scanned) (now (out .entry)) at) ⌝ }
 {
     let report = scanned.report;
@@ -119,7 +198,7 @@ fn log_scanned(number: usize, scanned: Scanned, out: &mut [u8], at: usize) -> us
         Report::Beacon => {
             let sender = scanned.sender;
             let place = scanned.adv_data;
-            put_line(number, sender, place.count, out, at);
+            put_line(table, number, sender, &item[3..9], place.count, out, at);
             1
         }
         Report::Nothing => 0,
@@ -128,8 +207,15 @@ fn log_scanned(number: usize, scanned: Scanned, out: &mut [u8], at: usize) -> us
 }
 
 // Has the scanner hear an item. A tick is no packet.
-fn log_item(number: usize, scanner: BeaconScanner, item: &[u8], out: &mut [u8], at: usize) -> usize
-    requires { ⌜ at + roomFor (length (now item)) ≤ length (now out) ⌝ }
+fn log_item(
+    table: &[u8],
+    number: usize,
+    scanner: BeaconScanner,
+    item: &[u8],
+    out: &mut [u8],
+    at: usize,
+) -> usize
+    requires { ⌜ (now table ≡ octetColumns) × (at + roomFor (length (now item)) ≤ length (now out)) ⌝ }
     ensures { λ r. ⌜ (r ≡ reportsIn (heardIn scanner (now (item .entry)))) × (now (out .exit) ≡ written (line number (heardIn scanner (now (item .entry)))) (now (out .entry)) at) ⌝ }
 {
     if item.len() < 3 {
@@ -143,7 +229,7 @@ fn log_item(number: usize, scanner: BeaconScanner, item: &[u8], out: &mut [u8], 
                 item[0] == items::CRC_GOOD,
                 &item[..0],
             );
-            log_scanned(number, scanned, out, at)
+            log_scanned(table, number, scanned, item, out, at)
         }
         HeaderMade::Refused(_) => 0,
     }
@@ -171,8 +257,8 @@ fn listen(scanner: BeaconScanner, item: &[u8]) -> BeaconScanner
 }
 
 // Logs the whole items at the front of s.
-fn log_items(hub: Hub, s: &[u8], out: &mut [u8]) -> Logged
-    requires { ⌜ RunCounts hub × (roomFor (length (now s)) ≤ length (now out)) ⌝ }
+fn log_items(table: &[u8], hub: Hub, s: &[u8], out: &mut [u8]) -> Logged
+    requires { ⌜ (now table ≡ octetColumns) × (RunCounts hub × (roomFor (length (now s)) ≤ length (now out))) ⌝ }
     ensures { λ r. ⌜ (r ≡ loggedOf hub (now (s .entry))) × (now (out .exit) ≡ linesIn hub (now (s .entry)) (now (out .entry))) ⌝ }
 {
     let mut items = hub.items;
@@ -188,7 +274,7 @@ fn log_items(hub: Hub, s: &[u8], out: &mut [u8]) -> Logged
         let next = at + size;
         items += 1;
         let item = &s[at..next];
-        let heard = log_item(items, scanner, item, out, written);
+        let heard = log_item(table, items, scanner, item, out, written);
         reports += heard;
         scanner = listen(scanner, item);
         written += LINE * heard;
@@ -235,7 +321,8 @@ fn take_turn(hub: Hub, buf: &mut [u8], filled: usize, out: &mut [u8]) -> Turn
     requires { ⌜ RunCounts hub × ((filled ≤ length (now buf)) × (roomFor filled ≤ length (now out))) ⌝ }
     ensures { λ r. ⌜ (r ≡ turnOf hub (take filled (now (buf .entry)))) × ((now (buf .exit) ≡ restIn hub (now (buf .entry)) filled) × (now (out .exit) ≡ linesIn hub (take filled (now (buf .entry))) (now (out .entry)))) ⌝ }
 {
-    let logged = log_items(hub, &buf[..filled], out);
+    let table = columns::octets();
+    let logged = log_items(&table, hub, &buf[..filled], out);
     let after = logged.hub;
     let taken = logged.taken;
     let is_stopped = is_stuck(after.items, &buf[taken..filled]);

@@ -15,10 +15,10 @@ use Rattle.addresses.specs.declared.header.HeaderMade.the-variants as made
 use Rattle.beacon.specs.Scanner.{scanned}
 use Rattle.beacon.specs.declared.beacon.BeaconScanner.{BeaconScanner}
 use Rattle.beacon.specs.declared.beacon.Scanned.{Scanned}
-use Rattle.hub.specs.Line.{line, reportsIn}
+use Rattle.hub.specs.Line.{line, reportsIn, SentIn}
 use Rattle.hub.specs.Log.{isCrcGood, heardIn}
 use Rattle.hub.proofs.Pieces.{nothing-yet}
-use Rattle.hub.proofs.Reports.{line-room}
+use Rattle.hub.proofs.Reports.{heard-sent, line-room}
 use Rattle.hub.proofs.log_item.Statement.{statement}
 use Rattle.hub.proofs.log_item.Tie as tie
 
@@ -50,7 +50,7 @@ no-refusal (a ∷ b ∷ []) e long of is = omega arith
 no-refusal (a ∷ b ∷ d ∷ payload) e long of is = let z : _≡_ {A = ℕ} 0 1 = cc in omega arith
 
 -- what the scanner answers is what the item gives
-answered : (c : tie.After-process-adv-packet) → let a = c .before .before .before .before .before .before .before .before .before .before .before .before .args in heardIn (a .scanner) (a .item .now) ≡ c .«process-adv-packet» .result
+answered : (c : tie.After-process-adv-packet) → let a = c .before .before .before .before .before .before .before .before .before .before .before .before .before .args in heardIn (a .scanner) (a .item .now) ≡ c .«process-adv-packet» .result
 answered c =
     let at-header = c .before .before .before .before .before in
     let at-test = at-header .before .before .before .before in
@@ -58,10 +58,11 @@ answered c =
 
 log-scanned-requires : tie.Need-log-scanned-requires
 log-scanned-requires c κs =
-    let start = c .before .before .before .before .before .before .before .before .before .before .before .before .before in
-    let room = line-room (start .args .scanner) (start .args .item .now) in
-    let same : reportsIn (heardIn (start .args .scanner) (start .args .item .now)) ≡ reportsIn (c .before .«process-adv-packet» .result) = ap reportsIn (answered (c .before)) in
-    omega (arith, room, same, start .pre)
+    let start = c .before .before .before .before .before .before .before .before .before .before .before .before .before .before in
+    let a = start .args in
+    let room = line-room (a .scanner) (a .item .now) in
+    let same : reportsIn (heardIn (a .scanner) (a .item .now)) ≡ reportsIn (c .before .«process-adv-packet» .result) = ap reportsIn (answered (c .before)) in
+    (start .pre .0, (subst (λ (x : Scanned). SentIn x (a .item .now)) (answered (c .before)) (heard-sent (a .scanner) (a .item .now)), omega (arith, room, same, start .pre .1)))
 
 carried : (number : ℕ) (out : List ℕ) (at : ℕ) {x y : Scanned} {r : ℕ} {out′ : List ℕ} → x ≡ y → (r ≡ reportsIn y) × (out′ ≡ written (line number y) out at)
     → (r ≡ reportsIn x) × (out′ ≡ written (line number x) out at)
@@ -69,17 +70,17 @@ carried number out at {r = r} {out′ = out′} is e = subst (λ (z : Scanned). 
 
 returns-2 : tie.Need-returns-2
 returns-2 c =
-    let a = c .before .before .before .before .before .before .before .before .before .before .before .before .before .before .before .before .args in
+    let a = c .before .before .before .before .before .before .before .before .before .before .before .before .before .before .before .before .before .args in
     carried (a .number) (a .out .now) (a .at) (answered (c .before .before .before .before)) (c .before .before .log-scanned .ensures)
 
 returns-3 : tie.Need-returns-3
-returns-3 c = absurd (no-refusal (c .before .before .before .before .before .before .before .args .item .now) _ (c .before .before .before .before .if1 .left) (c .before .before .parse .ensures) (c .enum-told .given .1))
+returns-3 c = absurd (no-refusal (c .before .before .before .before .before .before .before .before .args .item .now) _ (c .before .before .before .before .if1 .left) (c .before .before .parse .ensures) (c .enum-told .given .1))
 
 pub log-item-spec : {M : Type 1} → statement M
 log-item-spec =
     tie.close
     (tie.spec
-    (λ c. let a = c .before .before .before .args in short (a .number) (a .scanner) (a .item .now) (a .out .now) (a .at) (c .if1 .taken))
+    (λ c. let a = c .before .before .before .before .args in short (a .number) (a .scanner) (a .item .now) (a .out .now) (a .at) (c .if1 .taken))
     (λ c. search needs)
     (λ c. search needs)
     (λ c. search needs)

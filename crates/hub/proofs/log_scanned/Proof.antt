@@ -1,6 +1,6 @@
 -- `hub::log_scanned` meets its contract. Assumes nothing.
 use mathlib.Core.Path.{_≡_, refl, sym, ap, _∙_}
-use mathlib.Core.Bool.{Bool, false, cond}
+use mathlib.Core.Bool.{Bool, true, false, cond}
 use mathlib.Core.List.{List, []}
 use Prim.Native.Nat.{ℕ}
 use native.Mathlib.Omega.{arith}
@@ -12,6 +12,7 @@ use Rattle.beacon.specs.declared.beacon.Scanned.{Scanned}
 use Rattle.beacon.specs.Scanner.{isReport}
 use Rattle.hub.specs.Line.{reportLine, line, reportsIn}
 use Rattle.hub.proofs.Pieces.{nothing-yet}
+use Rattle.hub.proofs.Reports.{sent-long}
 use Rattle.hub.proofs.log_scanned.Statement.{statement}
 use Rattle.hub.proofs.log_scanned.Tie as tie
 
@@ -29,24 +30,31 @@ module _ (number : ℕ) (s : Scanned) (out : List ℕ) (at : ℕ) where
   unfolding line reportsIn
   unheard is = (rw is refl, nothing-yet out at .contents ∙ ap (λ (b : Bool). written (cond b (reportLine number (s .sender) (s .«adv_data» .count)) []) out at) (sym is))
 
+-- that the item is a report's
+heard : (c : tie.After-enum-told) → isReport (c .before .before .before .before .before .args .scanned .report) ≡ true
+heard c = ap isReport (c .enum-told .given .1)
+
 put-line-requires : tie.Need-put-line-requires
 put-line-requires c κs =
-    let start = c .before .before .before .before .before .before in
-    omega (arith, one (start .args .number) (start .args .scanned) (start .args .out .now) (start .args .at) (c .before .before .before .enum-told .given .1), start .pre)
+    let told = c .before .before .before .before in
+    let start = told .before .before .before .before .before in
+    let sent = start .pre .1 .0 in
+    (start .pre .0, (sent (heard told) .1, (sent-long (start .args .item .now) (sent (heard told) .0), omega (arith, one (start .args .number) (start .args .scanned) (start .args .out .now) (start .args .at) (told .enum-told .given .1), start .pre .1 .1))))
 
 returns : tie.Need-returns
 returns c =
-    let a = c .before .before .before .before .before .before .before .before .before .args in
-    reported (a .number) (a .scanned) (a .out .now) (a .at) (c .before .before .before .before .before .before .enum-told .given .1) (c .before .before .put-line .ensures)
+    let told = c .before .before .before .before .before .before .before in
+    let a = told .before .before .before .before .before .args in
+    reported (a .number) (a .scanned) (a .out .now) (a .at) (told .enum-told .given .1) (c .before .before .put-line .ensures)
 
 returns-2 : tie.Need-returns-2
 returns-2 c =
-    let a = c .before .before .before .args in
+    let a = c .before .before .before .before .before .args in
     unheard (a .number) (a .scanned) (a .out .now) (a .at) (ap isReport (c .enum-told2 .given .1))
 
 returns-3 : tie.Need-returns-3
 returns-3 c =
-    let a = c .before .before .before .args in
+    let a = c .before .before .before .before .before .args in
     unheard (a .number) (a .scanned) (a .out .now) (a .at) (ap isReport (c .enum-told3 .given .1))
 
 pub log-scanned-spec : {M : Type 1} → statement M
@@ -54,6 +62,9 @@ log-scanned-spec =
     tie.close
     (tie.spec
     (λ c. search needs)
+    (λ c. search needs)
+    (λ c. search needs)
+    (λ c. let told = c .before .before in omega (arith, told .before .before .before .before .before .pre .1 .0 (heard told) .0))
     put-line-requires
     (λ c. search needs)
     (λ c. search needs)

@@ -32,27 +32,30 @@ all-columns sender number records out at {kind} {octets} fits six is-octets is-k
     let w₅ = then-octet w₄ (omega (arith, e₁ .0, e₂ .0, e₃ .0, e₄ .0, six)) 10 (omega (arith, e₁ .0, e₂ .0, e₃ .0, e₄ .0, six)) in
     (omega (arith, e₁ .0, e₂ .0, e₃ .0, e₄ .0, six), w₅ .contents ∙ simp (append-assoc, is-octets, is-kind))
 
-six : (c : tie.After-raw) → length (c .raw .result) ≡ 6
-six c = search needs
-
 returns : tie.Need-returns
 returns c =
     let octets = c .before .before .before .before .before .before in
-    let kind = octets .before .before .before .before .before in
+    let kind = octets .before .before .before .before in
     let number = kind .before .before .before .before .before in
-    let raw = number .before .before in
-    let a = raw .before .before .args in
-    all-columns (a .sender) (a .number) (a .records) (a .out .now) (a .at) (raw .before .before .pre) (six raw) (raw .raw .ensures)
-    (kind .before .before .kind-number .ensures) (number .put-next .ensures) (kind .put-next2 .ensures) (octets .put-octets .ensures)
-    (c .before .before .put-next3 .ensures) .1
+    let start = number .before .before .before .before .before in
+    let a = start .args in
+    all-columns (a .sender) (a .number) (a .records) (a .out .now) (a .at) (start .pre .1 .1 .1) (start .pre .1 .1 .0) (start .pre .1 .0)
+    (kind .before .before .kind-number .ensures) (number .put-number .ensures) (kind .put-octet .ensures) (octets .put-octets .ensures)
+    (c .before .before .put-count .ensures) .1
 
 same-length : tie.Need-same-length
 same-length c =
-    let raw = c .before .before .before .before .before .before .before .before .before .before .before .before .before .before .before .before .before .before in
-    let a = raw .before .before .args in
+    let start = c .before .before .before .before .before .before .before .before .before .before .before .before .before .before .before .before .before .before .before .before in
+    let a = start .args in
     let long : length (reportLine (a .number) (a .sender) (a .records)) ≡ lineSize =
-    line-length (a .number) (a .sender) (a .records) (ap length (sym (raw .raw .ensures)) ∙ six raw) in
-    ap length (returns c) ∙ written-keeps (reportLine (a .number) (a .sender) (a .records)) (a .out .now) (a .at) (omega (arith, long, raw .before .before .pre)) .as-long
+    line-length (a .number) (a .sender) (a .records) (ap length (sym (start .pre .1 .0)) ∙ start .pre .1 .1 .0) in
+    ap length (returns c) ∙ written-keeps (reportLine (a .number) (a .sender) (a .records)) (a .out .now) (a .at) (omega (arith, long, start .pre .1 .1 .1)) .as-long
+
+put-count-requires : tie.Need-put-count-requires
+put-count-requires c κs =
+    let start = c .before .before .before .before .before .before .before .before .before .before .before .before .before .before .before .before .before in
+    let six : length (start .args .octets .now) ≡ 6 = start .pre .1 .1 .0 in
+    (start .pre .0, search needs)
 
 pub put-line-spec : {M : Type 1} → statement M
 put-line-spec =
@@ -62,9 +65,7 @@ put-line-spec =
     (λ c κs. search needs)
     (λ c κs. search needs)
     (λ c κs. search needs)
-    (λ c. search needs)
-    (λ c κs. search needs)
-    (λ c κs. search needs)
+    put-count-requires
     (λ c. search needs)
     same-length
     returns)

@@ -33,43 +33,44 @@ module _ {octets out₀ : List ℕ} {at : ℕ} {out : List ℕ} {i next : ℕ} (
   same-length : length out ≡ length out₀
   same-length = as-long (p .wrote) within
 
-  advance : {out′ : List ℕ} {n next′ : ℕ} → i < length octets → n ≡ getD octets i 0 → (next′ ≡ next + 4) × (out′ ≡ written (column 4 n) out next)
+  advance : {out′ : List ℕ} {next′ : ℕ} → i < length octets → (next′ ≡ next + 4) × (out′ ≡ written (column 4 (getD octets i 0)) out next)
       → Progress octets out₀ at out′ (i + 1) next′
-  advance {n = n} more is e =
-      let done : columns (take (i + 1) octets) ≡ columns (take i octets) ++ column 4 n = rw (add-one, take-suc octets i 0 more, columns-snoc, ← is) in
-      record { inside = omega arith; place = omega (arith, p .place, e .0); wrote = rw done (then-column (p .wrote) within 4 n e) }
+  advance more e =
+      let done : columns (take (i + 1) octets) ≡ columns (take i octets) ++ column 4 (getD octets i 0) = rw (add-one, take-suc octets i 0 more, columns-snoc) in
+      record { inside = omega arith; place = omega (arith, p .place, e .0); wrote = rw done (then-column (p .wrote) within 4 (getD octets i 0) e) }
 
   finished : length octets ≤ i → (next ≡ at + 4 * length octets) × (out ≡ written (columns octets) out₀ at)
   finished end =
       (omega (arith, p .inside, p .place), p .wrote .contents ∙ ap (λ (l : List ℕ). written (columns l) out₀ at) (take-all i octets end))
 
 abbrev Inv-loop : tie.InvT-loop
-Inv-loop octets out₀ at i₀ next₀ out i next = Progress octets out₀ at out i next
+Inv-loop table octets out₀ at i₀ next₀ out i next = Progress octets out₀ at out i next
 
 abbrev μ-loop : tie.MeasureT-loop
-μ-loop octets out₀ at i₀ next₀ out i next = length octets - i
+μ-loop table octets out₀ at i₀ next₀ out i next = length octets - i
 
 loop-holds : tie.Need-loop-holds Inv-loop μ-loop
 unfolding columns flatten
 loop-holds c = record { inside = omega arith; place = omega arith; wrote = nothing-yet _ _ }
 
-abbrev same : (c : tie.At-loop Inv-loop μ-loop) → length (c .loop .out) ≡ length (c .before .before .before .args .out .now)
-same c = same-length (c .loop .inv) (c .before .before .before .pre)
+abbrev same : (c : tie.At-loop Inv-loop μ-loop) → length (c .loop .out) ≡ length (c .before .before .before .before .args .out .now)
+same c = same-length (c .loop .inv) (c .before .before .before .before .pre .1)
 
 loop-again : tie.Need-loop-again Inv-loop μ-loop
 loop-again c =
     let at-call = c .before .before in
-    let at-test = at-call .before .before .before .before in
-    advance (at-test .before .loop .inv) (at-test .before .before .before .before .pre) (at-test .loop-test .taken) (at-call .before .before .wide .ensures) (at-call .put-next .ensures)
+    let at-test = at-call .before .before .before in
+    advance (at-test .before .loop .inv) (at-test .before .before .before .before .before .pre .1) (at-test .loop-test .taken) (at-call .put-octet .ensures)
 
 returns : tie.Need-returns Inv-loop μ-loop
 unfolding columns
-returns c = finished (c .before .loop .inv) (c .before .before .before .before .pre) (c .loop-test .left)
+returns c = finished (c .before .loop .inv) (c .before .before .before .before .before .pre .1) (c .loop-test .left)
 
-put-next-requires : tie.Need-put-next-requires Inv-loop μ-loop
-put-next-requires c κs =
-    let at-loop = c .before .before .before .before in
-    omega (arith, same at-loop, at-loop .loop .inv .inside, at-loop .loop .inv .place, at-loop .before .before .before .pre)
+put-octet-requires : tie.Need-put-octet-requires Inv-loop μ-loop
+put-octet-requires c κs =
+    let at-loop = c .before .before .before in
+    let start = at-loop .before .before .before .before in
+    (start .pre .0, (omega arith, omega (arith, same at-loop, at-loop .loop .inv .inside, at-loop .loop .inv .place, start .pre .1)))
 
 pub put-octets-spec : {M : Type 1} → statement M
 put-octets-spec =
@@ -79,8 +80,7 @@ put-octets-spec =
     μ-loop
     loop-holds
     (λ c. search needs)
-    (λ c κs. search needs)
-    put-next-requires
+    put-octet-requires
     (λ c. search needs)
     (λ c. search needs)
     loop-again

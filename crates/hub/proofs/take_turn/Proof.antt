@@ -43,16 +43,16 @@ module _ (h : Hub) (buf : List ℕ) (filled : ℕ) (g : Logged) (inside : filled
   moved : {buf′ : List ℕ} → buf′ ≡ left ++ drop (filled - g .taken) buf → buf′ ≡ restIn h buf filled
   moved is-buf = is-buf ∙ (λ i. left-over i ++ drop (left-long i) buf)
 
-short : (c : tie.After-log-items) → c .log-items .result .taken ≤ c .before .before .before .before .before .args .filled
+short : (c : tie.After-log-items) → c .log-items .result .taken ≤ c .before .before .before .before .before .before .before .args .filled
 short c =
-    let start = c .before .before .before .before .before in
+    let start = c .before .before .before .before .before .before .before in
     taken-short (start .args .hub) (start .args .buf .now) (start .args .filled) (c .log-items .result) (start .pre .1 .0) (c .log-items .ensures .0)
 
 returns : tie.Need-returns
 unfolding left
 returns c =
     let logged = c .before .before .before .before .before .before .before .before .before .before in
-    let start = logged .before .before .before .before .before in
+    let start = logged .before .before .before .before .before .before .before in
     let a = start .args in
     let e = logged .log-items .ensures in
     (answer (a .hub) (a .buf .now) (a .filled) (logged .log-items .result) (start .pre .1 .0) (e .0) (c .before .before .before .before .is-stuck .ensures), (moved (a .hub) (a .buf .now) (a .filled) (logged .log-items .result) (start .pre .1 .0) (e .0) (c .before .before .keep .ensures), e .1))
@@ -61,14 +61,16 @@ pub take-turn-spec : {M : Type 1} → statement M
 take-turn-spec =
     tie.close
     (tie.spec
+    (λ c κs. search needs)
     (λ c. search needs)
-    (λ c. let start = c .before .before .before in sym (simp length-take (omega (arith, start .pre .1 .0))))
-    (λ c κs. let start = c .before .before .before .before in (start .pre .0, simp length-take (omega (arith, start .pre .1))))
+    (λ c. search needs)
+    (λ c. let start = c .before .before .before .before .before in sym (simp length-take (omega (arith, start .pre .1 .0))))
+    (λ c κs. let start = c .before .before .before .before .before .before in (c .before .before .before .octets .ensures, (start .pre .0, simp length-take (omega (arith, start .pre .1)))))
     (λ c. short (c .before .before .before))
     (λ c. omega (arith, short (c .before .before .before .before)))
     (λ c. search needs)
     (λ c κs. search needs)
-    (λ c κs. (short (c .before .before .before .before .before .before .before), c .before .before .before .before .before .before .before .before .before .before .before .before .pre .1 .0))
+    (λ c κs. (short (c .before .before .before .before .before .before .before), c .before .before .before .before .before .before .before .before .before .before .before .before .before .before .pre .1 .0))
     (λ c. short (c .before .before .before .before .before .before .before .before .before .before))
     (λ c. search needs)
     (λ c. search needs)
