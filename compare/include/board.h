@@ -102,92 +102,6 @@ BoardFrame board_build(uint8_t which, const uint8_t own[6], bool random, const u
 /* Builds an ADV_DIRECT_IND. */
 BoardFrame board_build_directed(const uint8_t own[6], bool random, const uint8_t other[6], bool other_random);
 
-/* --- libexports.a: records --- */
-
-/* first: the number of records in an area. */
-BoardGot board_area(const uint8_t *s, size_t s_len);
-
-/* A record. kind: 0 the end of the area, 1 Flags, 2, 3 and 4 lists of UUIDs of 16, 32 and 128 bits, 5 service data, 6 a complete name, 7 a
- * shortened one, 8 data of a manufacturer, 9 any other. value: the bits of Flags, a UUID, a company or a type. */
-typedef struct BoardStructure {
-    uint8_t number;
-    uint8_t kind;
-    bool complete;
-    uint16_t value;
-    size_t start;
-    size_t len;
-    size_t next;
-} BoardStructure;
-
-/* The record at a position; board_known reads it on to the kind that its type names. */
-BoardStructure board_record(const uint8_t *s, size_t s_len, size_t at);
-BoardStructure board_known(const uint8_t *s, size_t s_len, size_t at);
-
-/* Writes a record whose data lies in s; first: the position behind it. */
-BoardGot board_write(uint8_t kind, bool complete, uint16_t value, size_t start, size_t len, const uint8_t *s, size_t s_len, size_t at, uint8_t *out, size_t out_len);
-
-/* Reads an area and writes its records; first: the position behind them. */
-BoardGot board_rewrite(const uint8_t *s, size_t s_len, uint8_t *out, size_t out_len);
-
-/* first: the UUID of 16 bits at a position of a list, second: the position behind it, or the same position at the end. */
-BoardGot board_uuid_at(const uint8_t *data, size_t data_len, size_t at);
-
-typedef struct BoardFlagsSaid {
-    uint8_t bits;
-    bool classic;
-    bool limited;
-    bool general;
-    bool controller;
-    bool host;
-} BoardFlagsSaid;
-
-/* What the octet of a Flags record says. */
-BoardFlagsSaid board_flags(uint8_t octet);
-
-/* --- libexports.a: UTF-8, UUIDs, instants, channels, maps, hops --- */
-
-bool board_utf8(const uint8_t *s, size_t s_len);
-
-typedef struct BoardUuid {
-    uint8_t octets[16];
-} BoardUuid;
-
-/* The full UUID of a short one, most significant octet first. */
-BoardUuid board_uuid16(uint16_t value);
-BoardUuid board_uuid32(uint32_t value);
-
-/* An instant so many microseconds later, and the microseconds from an earlier instant to another: modulo 2^32. */
-uint32_t board_later(uint32_t time, uint32_t micros);
-uint32_t board_since(uint32_t time, uint32_t earlier);
-
-typedef struct BoardChannel {
-    uint8_t number;
-    uint8_t index;
-    uint8_t rf_channel;
-    uint8_t whitening_iv;
-    uint16_t freq;
-} BoardChannel;
-
-/* The advertising channel after up to 3 steps from 37 on, and the data channel of an index. */
-BoardChannel board_advertising_channel(uint8_t times);
-BoardChannel board_data_channel(uint8_t index);
-
-typedef struct BoardMap {
-    uint8_t raw[5];
-    uint8_t count;
-} BoardMap;
-
-/* A channel map and its count; the one that marks all. */
-BoardMap board_map(const uint8_t raw[5]);
-BoardMap board_all_channels(void);
-
-/* first: 1 where a map marks a channel; the n-th channel that it marks. */
-BoardGot board_is_used(const uint8_t raw[5], uint8_t channel);
-BoardGot board_by_index(const uint8_t raw[5], uint8_t n);
-
-/* first: the next unmapped channel, second: the channel to use. */
-BoardGot board_hop(const uint8_t raw[5], uint8_t unmapped, uint8_t hop);
-
 /* --- libexports.a: a beacon, a scanner, a device --- */
 
 /* What is transmitted, and on which channels. */
@@ -256,6 +170,92 @@ typedef struct BoardSaid {
  * kind: 0 start, 1 tick, 2 packet, 3 event, otherwise stop; buffer: 1 where a start or a tick writes to `second`. Both buffers go through all
  * calls of the list. */
 BoardSaid board_call(const uint8_t own[6], bool random, const uint8_t *calls, size_t calls_len, const uint8_t *call, size_t call_len, uint8_t *first, size_t first_len, uint8_t *second, size_t second_len);
+
+/* --- libbasics.a: records --- */
+
+/* first: the number of records in an area. */
+BoardGot board_area(const uint8_t *s, size_t s_len);
+
+/* A record. kind: 0 the end of the area, 1 Flags, 2, 3 and 4 lists of UUIDs of 16, 32 and 128 bits, 5 service data, 6 a complete name, 7 a
+ * shortened one, 8 data of a manufacturer, 9 any other. value: the bits of Flags, a UUID, a company or a type. */
+typedef struct BoardStructure {
+    uint8_t number;
+    uint8_t kind;
+    bool complete;
+    uint16_t value;
+    size_t start;
+    size_t len;
+    size_t next;
+} BoardStructure;
+
+/* The record at a position; board_known reads it on to the kind that its type names. */
+BoardStructure board_record(const uint8_t *s, size_t s_len, size_t at);
+BoardStructure board_known(const uint8_t *s, size_t s_len, size_t at);
+
+/* Writes a record whose data lies in s; first: the position behind it. */
+BoardGot board_write(uint8_t kind, bool complete, uint16_t value, size_t start, size_t len, const uint8_t *s, size_t s_len, size_t at, uint8_t *out, size_t out_len);
+
+/* Reads an area and writes its records; first: the position behind them. */
+BoardGot board_rewrite(const uint8_t *s, size_t s_len, uint8_t *out, size_t out_len);
+
+/* first: the UUID of 16 bits at a position of a list, second: the position behind it, or the same position at the end. */
+BoardGot board_uuid_at(const uint8_t *data, size_t data_len, size_t at);
+
+typedef struct BoardFlagsSaid {
+    uint8_t bits;
+    bool classic;
+    bool limited;
+    bool general;
+    bool controller;
+    bool host;
+} BoardFlagsSaid;
+
+/* What the octet of a Flags record says. */
+BoardFlagsSaid board_flags(uint8_t octet);
+
+/* --- libbasics.a: UTF-8, UUIDs, instants, channels, maps, hops --- */
+
+bool board_utf8(const uint8_t *s, size_t s_len);
+
+typedef struct BoardUuid {
+    uint8_t octets[16];
+} BoardUuid;
+
+/* The full UUID of a short one, most significant octet first. */
+BoardUuid board_uuid16(uint16_t value);
+BoardUuid board_uuid32(uint32_t value);
+
+/* An instant so many microseconds later, and the microseconds from an earlier instant to another: modulo 2^32. */
+uint32_t board_later(uint32_t time, uint32_t micros);
+uint32_t board_since(uint32_t time, uint32_t earlier);
+
+typedef struct BoardChannel {
+    uint8_t number;
+    uint8_t index;
+    uint8_t rf_channel;
+    uint8_t whitening_iv;
+    uint16_t freq;
+} BoardChannel;
+
+/* The advertising channel after up to 3 steps from 37 on, and the data channel of an index. */
+BoardChannel board_advertising_channel(uint8_t times);
+BoardChannel board_data_channel(uint8_t index);
+
+typedef struct BoardMap {
+    uint8_t raw[5];
+    uint8_t count;
+} BoardMap;
+
+/* A channel map and its count; the one that marks all. */
+BoardMap board_map(const uint8_t raw[5]);
+BoardMap board_all_channels(void);
+
+/* first: 1 where a map marks a channel; the n-th channel that it marks. */
+BoardGot board_is_used(const uint8_t raw[5], uint8_t channel);
+BoardGot board_by_index(const uint8_t raw[5], uint8_t n);
+
+/* first: the next unmapped channel, second: the channel to use. */
+BoardGot board_hop(const uint8_t raw[5], uint8_t unmapped, uint8_t hop);
 
 /* --- libbasics.a: octets at a position, which may lie past the end --- */
 
