@@ -44,7 +44,7 @@ pub record Turn (s : State) (calls : List ℕ) (n : ℕ) (first second : List �
   pub long-first : length first ≡ length (s .first)
   pub long-second : length second ≡ length (s .second)
 
-pub turned : (s : State) (calls : List ℕ) (i : ℕ) {d : Device} {a b : List ℕ} {p : List ℕ} {r : Called} {a′ b′ : List ℕ} → state d a b ≡ ran s calls i → p ≡ partOr 80 calls (80 * i)
+pub turned : (s : State) (calls : List ℕ) (i : ℕ) {d : Device} {a b : List ℕ} {p : List ℕ} {r : Called} {a′ b′ : List ℕ} → state d a b ≡ ran s calls i → p ≡ partOr 272 calls (272 * i)
     → r ≡ calledBy p (state d a b) → a′ ≡ stepOf p (state d a b) .first → b′ ≡ stepOf p (state d a b) .second → state (r .device) a′ b′ ≡ ran s calls (i + 1)
 unfolding ran stepOf
 turned s calls i {d} {a} {b} {p} so part r first second =

@@ -1,5 +1,5 @@
--- Lists of calls given as octets, 80 for each call (drawn in src/lists.rt), on a fresh device with two transmit buffers.
---   callIn c tx               == the call of 80 octets, lent a transmit buffer
+-- Lists of calls given as octets, 272 for each call (drawn in src/lists.rt), on a fresh device with two transmit buffers.
+--   callIn c tx               == the call of 272 octets, lent a transmit buffer
 --   bufferAfter d c tx        == the transmit buffer after a call
 --   State, state              == a device and its two transmit buffers
 --   calledBy c s, stepOf c s  == what the call of octets c answers, and the state after it
@@ -81,10 +81,10 @@ stepOf c s =
 
 unfoldable pub ran : State → List ℕ → ℕ → State
 ran s calls zero = s
-ran s calls (suc i) = stepOf (partOr 80 calls (80 * i)) (ran s calls i)
+ran s calls (suc i) = stepOf (partOr 272 calls (272 * i)) (ran s calls i)
 
 unfoldable pub ranAll : DeviceAddress → List ℕ → List ℕ → List ℕ → State
-ranAll own calls a b = ran (state (fresh own) a b) calls (length calls / 80)
+ranAll own calls a b = ran (state (fresh own) a b) calls (length calls / 272)
 
 abbrev pub saying : ℕ → ℕ → Bool → Bool → ℕ → ℕ → ℕ → ℕ → ℕ → Said
 saying number kind advertising connected channel header at access crc =

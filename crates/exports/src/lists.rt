@@ -1,20 +1,20 @@
-// Lists of calls on a device. A list is given as octets, 80 for each call:
+// Lists of calls on a device. A list is given as octets, 272 for each call:
 //
-//     | 0 kind | 1 CRC good | 2 buffer | 3 length n | 4 time 4 | 8 interval 4 | 12 header 2 | 14 records or payload, n of 66 |
+//     | 0 kind | 1 CRC good | 2 buffer | 3 length n | 4 time 4 | 8 interval 4 | 12 header 2 | 14 records or payload, n of 258 |
 //
 // Kinds: 0 start, 1 tick, 2 packet, 3 event, otherwise stop. The time is a start's, or the end of a packet. A start and a tick are lent the first
-// transmit buffer, or the second one where octet 2 is 1.
+// transmit buffer, or the second one where octet 2 is 1. Every length that octet 3 can say has its place.
 ghost use mathlib.Core.Path.{_≡_};
 ghost use lib.ListN.{getD};
 ghost use Rattle.addresses.specs.Address.{kindOf, addressOf};
 ghost use Rattle.addresses.specs.Header.{parsed};
 ghost use Rattle.radio.specs.Trace.{callOf};
 ghost use Rattle.exports.specs.Lists.{headerOr, timeIn, intervalIn, callIn, bufferAfter, state, calledBy, stepOf, ranAll, answerSaid, calledSaid};
-use crate::packets::address;
 use addresses::device_address::DeviceAddress;
 use addresses::header::Header;
 use addresses::header::HeaderMade;
 use addresses::header::PduType;
+use answers::given::address;
 use octets::bytes::part_of;
 use octets::bytes::u32_from_le_bytes;
 use octets::time::Instant;
@@ -22,13 +22,13 @@ use radio::link::Answer;
 use radio::link::Called;
 use radio::link::Device;
 
-fn octet(s: &[u8], at: usize) -> u8
+pub(crate) fn octet(s: &[u8], at: usize) -> u8
     ensures { λ r. ⌜ r ≡ getD (now (s .entry)) at 0 ⌝ }
 {
     if at < s.len() { s[at] } else { 0 }
 }
 
-fn header_of(raw: &[u8]) -> Header
+pub(crate) fn header_of(raw: &[u8]) -> Header
     ensures { λ r. ⌜ r ≡ headerOr (parsed (now (raw .entry))) ⌝ }
 {
     match Header::parse(raw) {
@@ -37,7 +37,7 @@ fn header_of(raw: &[u8]) -> Header
     }
 }
 
-fn time_of(call: &[u8]) -> u32
+pub(crate) fn time_of(call: &[u8]) -> u32
     ensures { λ r. ⌜ r ≡ timeIn (now (call .entry)) ⌝ }
 {
     u32_from_le_bytes(
@@ -48,7 +48,7 @@ fn time_of(call: &[u8]) -> u32
     )
 }
 
-fn interval_of(call: &[u8]) -> u32
+pub(crate) fn interval_of(call: &[u8]) -> u32
     ensures { λ r. ⌜ r ≡ intervalIn (now (call .entry)) ⌝ }
 {
     u32_from_le_bytes(
@@ -92,10 +92,10 @@ fn after(own: DeviceAddress, calls: &[u8], first: &mut [u8], second: &mut [u8]) 
     ensures { λ r. ⌜ (r ≡ ranAll own (now (calls .entry)) (now (first .entry)) (now (second .entry)) .device) × (now (first .exit) ≡ ranAll own (now (calls .entry)) (now (first .entry)) (now (second .entry)) .first) × (now (second .exit) ≡ ranAll own (now (calls .entry)) (now (first .entry)) (now (second .entry)) .second) ⌝ }
 {
     let mut device = Device::new(own);
-    let n = calls.len() / 80;
+    let n = calls.len() / 272;
     let mut i = 0;
     while i < n {
-        let called = step_with(device, part_of(calls, 80 * i, 80), first, second);
+        let called = step_with(device, part_of(calls, 272 * i, 272), first, second);
         device = called.device;
         i += 1;
     }

@@ -37,8 +37,8 @@ unfolding ranAll
 returns c =
     let turn = c .before .loop .inv in
     let a = c .before .before .before .before .before .before .args in
-    let all : c .before .loop .i ≡ length (a .calls .now) / 80 = omega (arith, turn .below) in
-    let so = turn .reached ∙ ap (ran (state (c .before .before .new .result) (a .first .now) (a .second .now)) (a .calls .now)) all ∙ ap (λ (d : Device). ran (state d (a .first .now) (a .second .now)) (a .calls .now) (length (a .calls .now) / 80)) (c .before .before .new .ensures) in
+    let all : c .before .loop .i ≡ length (a .calls .now) / 272 = omega (arith, turn .below) in
+    let so = turn .reached ∙ ap (ran (state (c .before .before .new .result) (a .first .now) (a .second .now)) (a .calls .now)) all ∙ ap (λ (d : Device). ran (state d (a .first .now) (a .second .now)) (a .calls .now) (length (a .calls .now) / 272)) (c .before .before .new .ensures) in
     (ap (λ (s : State). s .device) so, ap (λ (s : State). s .first) so, ap (λ (s : State). s .second) so)
 
 pub after-spec : {M : Type 1} → statement M
