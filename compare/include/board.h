@@ -40,7 +40,7 @@ typedef struct BoardGot {
 /* --- libdecode.a --- */
 
 /* A PDU. Its records are `count`, in the payload's `len` octets from `start` on. From `access_address` on: a connect request's, times in
- * microseconds. Where they have no meaning, `ty` is 15, after a refusal, and `window_end` 1250. */
+ * microseconds. After a refusal `ty` is 15, and without a connect request `window_end` is 1250. */
 typedef struct BoardPacket {
     uint8_t number;
     uint8_t ty;
