@@ -13,7 +13,7 @@
  *   3 an unknown PDU type, a name that is not UTF-8, a bad list      8 a data channel above 36, a place that a map does not have
  *   4 a header of under two octets                                   9 a record length above 255
  *   5 the wrong mode
- * What has no meaning in an answer is 0. A call that is refused leaves its buffers as they were.
+ * What has no meaning in an answer is 0, save two fields of BoardPacket. A call that is refused leaves its buffers as they were.
  *
  * An address is six octets as they are sent, and whether it is random. A filter list is 7 octets for each address: 0 public or 1 random, then the six.
  *
@@ -40,7 +40,7 @@ typedef struct BoardGot {
 /* --- libdecode.a --- */
 
 /* A PDU. Its records are `count`, in the payload's `len` octets from `start` on. From `access_address` on: a connect request's, times in
- * microseconds; `window_end` is counted from the request's end, and 1250 in any other PDU. */
+ * microseconds. After a refusal `ty` is 15, and without a connect request `window_end` is 1250. */
 typedef struct BoardPacket {
     uint8_t number;
     uint8_t ty;
