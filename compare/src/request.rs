@@ -1,4 +1,4 @@
-//! Requests, and smaller ones than a given one.
+//! Requests.
 
 /// The kinds of requests: numbers and octets that each takes, and what is answered.
 #[derive(Copy, Clone, Debug, PartialEq, Eq, Hash)]
@@ -55,7 +55,7 @@ pub enum Kind {
     Scan,
     /// time, interval, updates: channel and next instant
     Scanner,
-    /// random, first and second buffer | address, calls of 80 octets: each call's answer and both buffers
+    /// random, first and second buffer | address, calls of 272 octets: each call's answer and both buffers
     Calls,
 }
 
@@ -66,8 +66,16 @@ pub const KINDS: [Kind; 27] = [
     Kind::Events, Kind::Beacon, Kind::Scan, Kind::Scanner, Kind::Calls,
 ];
 
+impl Kind {
+    /// Whether an answer begins with the refusal's number, or 0.
+    pub fn has_number(self) -> bool {
+        use Kind::*;
+        !matches!(self, Uuid16 | Uuid32 | Later | Since | Map | Flags | Utf8)
+    }
+}
+
 /// Octets of a call in a list of calls.
-pub const CALL: usize = 80;
+pub const CALL: usize = 272;
 
 #[derive(Clone, Debug, PartialEq, Eq)]
 pub struct Request {
@@ -82,62 +90,13 @@ impl Request {
     }
 
     /// Parts whose length is fixed: addresses and maps.
-    fn fixed(&self, part: usize) -> bool {
+    pub fn fixed(&self, part: usize) -> bool {
         match self.kind {
             Kind::Build | Kind::Beacon | Kind::Calls => part == 0,
             Kind::BuildDirected | Kind::Map | Kind::Events => true,
             Kind::Whitelist => part == 1,
             _ => false,
         }
-    }
-
-    /// Requests that are a little smaller.
-    pub fn smaller(&self) -> Vec<Request> {
-        let mut found = Vec::new();
-        for (p, part) in self.parts.iter().enumerate() {
-            let unit = if self.kind == Kind::Calls && p == 1 { CALL } else { 1 };
-            if !self.fixed(p) {
-                for size in [part.len() / 2, unit] {
-                    let size = size / unit * unit;
-                    if size == 0 {
-                        continue;
-                    }
-                    for at in (0..part.len()).step_by(size) {
-                        let mut r = self.clone();
-                        r.parts[p].drain(at..(at + size).min(part.len()));
-                        found.push(r);
-                    }
-                }
-            }
-            for at in 0..part.len() {
-                for less in [0, part[at] / 2, part[at].saturating_sub(1)] {
-                    if less < part[at] {
-                        let mut r = self.clone();
-                        r.parts[p][at] = less;
-                        found.push(r);
-                    }
-                }
-            }
-        }
-        for n in 0..self.numbers.len() {
-            for less in [0, self.numbers[n] / 2, self.numbers[n].saturating_sub(1)] {
-                if less < self.numbers[n] {
-                    let mut r = self.clone();
-                    r.numbers[n] = less;
-                    found.push(r);
-                }
-            }
-        }
-        // A header and the payload that it counts shrink together.
-        if self.kind == Kind::Decode && self.parts[0].len() == 2 && !self.parts[1].is_empty() && self.parts[0][1] > 0 {
-            for at in 0..self.parts[1].len() {
-                let mut r = self.clone();
-                r.parts[1].remove(at);
-                r.parts[0][1] -= 1;
-                found.push(r);
-            }
-        }
-        found
     }
 }
 
