@@ -1,7 +1,7 @@
 //! Compares the translation with rubble; `usage.txt` says how it is called and how it ends.
 use compare::counts::Counts;
 use compare::made::{self, Each, Share};
-use compare::request::{hex, line, Request};
+use compare::request::{brief, hex, line, Request};
 use compare::shrink::smallest;
 use compare::{ours, theirs};
 use std::io::IsTerminal;
@@ -77,10 +77,7 @@ impl Both {
         let mut differs = |less: &Request| catch_unwind(AssertUnwindSafe(|| !self.agree(less))).unwrap_or(false);
         let least = smallest(r, &mut differs);
         self.agree(&least);
-        println!("\ndifference: {:?} {:x?}", least.kind, least.numbers);
-        for part in &least.parts {
-            println!("  octets  {}", hex(part));
-        }
+        println!("\ndifference: {}", brief(&least));
         println!("  ours    {}", hex(&self.ours));
         println!("  rubble  {}", hex(&self.theirs));
         println!("  request {}", line(&least));

@@ -119,3 +119,40 @@ pub fn hex(octets: &[u8]) -> String {
     }
     octets.iter().map(|b| format!("{b:02x}")).collect()
 }
+
+/// The same for the eye: four equal octets and more as `00*4`, the calls of a list one by one.
+pub fn brief(r: &Request) -> String {
+    let numbers: Vec<String> = r.numbers.iter().map(|n| n.to_string()).collect();
+    let parts: Vec<String> = match r.kind {
+        Kind::Calls => std::iter::once(runs(&r.parts[0])).chain(r.parts[1].chunks_exact(CALL).map(brief_call)).collect(),
+        _ => r.parts.iter().map(|p| runs(p)).collect(),
+    };
+    let between = if r.kind == Kind::Calls { "; " } else { " | " };
+    format!("{:?} {} | {}", r.kind, numbers.join(" "), parts.join(between))
+}
+
+fn brief_call(c: &[u8]) -> String {
+    let octets = runs(&c[14..14 + c[3] as usize]);
+    match c[0] {
+        0 => format!("start {octets}"),
+        1 => "tick".to_string(),
+        2 => format!("packet {} {octets}{}", hex(&c[12..14]), if c[1] == 1 { "" } else { ", CRC bad" }),
+        3 => "event".to_string(),
+        _ => "stop".to_string(),
+    }
+}
+
+fn runs(octets: &[u8]) -> String {
+    if octets.is_empty() {
+        return "-".to_string();
+    }
+    let mut text = String::new();
+    for run in octets.chunk_by(|a, b| a == b) {
+        if run.len() >= 4 {
+            text += &format!(" {:02x}*{} ", run[0], run.len());
+        } else {
+            text += &hex(run);
+        }
+    }
+    text.trim().replace("  ", " ")
+}
