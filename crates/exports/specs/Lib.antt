@@ -4,3 +4,4 @@ pub mod Areas
 pub mod Packets
 pub mod Air
 pub mod Lists
+pub mod Scans

@@ -100,7 +100,7 @@ fn again(updated: Updated, at: Instant) -> Updated
     scanner.timer_update(at)
 }
 
-fn filter(filtered: bool) -> AddressFilter
+pub(crate) fn filter(filtered: bool) -> AddressFilter
     ensures { λ r. ⌜ r ≡ filterFor filtered ⌝ }
 {
     if filtered {

@@ -6,3 +6,4 @@ pub mod got;
 pub mod leaves;
 pub mod lists;
 pub mod packets;
+pub mod scans;

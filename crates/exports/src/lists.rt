@@ -22,13 +22,13 @@ use radio::link::Answer;
 use radio::link::Called;
 use radio::link::Device;
 
-fn octet(s: &[u8], at: usize) -> u8
+pub(crate) fn octet(s: &[u8], at: usize) -> u8
     ensures { λ r. ⌜ r ≡ getD (now (s .entry)) at 0 ⌝ }
 {
     if at < s.len() { s[at] } else { 0 }
 }
 
-fn header_of(raw: &[u8]) -> Header
+pub(crate) fn header_of(raw: &[u8]) -> Header
     ensures { λ r. ⌜ r ≡ headerOr (parsed (now (raw .entry))) ⌝ }
 {
     match Header::parse(raw) {
@@ -37,7 +37,7 @@ fn header_of(raw: &[u8]) -> Header
     }
 }
 
-fn time_of(call: &[u8]) -> u32
+pub(crate) fn time_of(call: &[u8]) -> u32
     ensures { λ r. ⌜ r ≡ timeIn (now (call .entry)) ⌝ }
 {
     u32_from_le_bytes(
@@ -48,7 +48,7 @@ fn time_of(call: &[u8]) -> u32
     )
 }
 
-fn interval_of(call: &[u8]) -> u32
+pub(crate) fn interval_of(call: &[u8]) -> u32
     ensures { λ r. ⌜ r ≡ intervalIn (now (call .entry)) ⌝ }
 {
     u32_from_le_bytes(
