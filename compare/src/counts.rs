@@ -20,8 +20,11 @@ const SCANNER_OFF: [&str; 5] = ["the type", "the CRC", "the length", "the entry'
 const CONNECTIONS: [(&str, usize); 4] = [("none", 0), ("1", 1), ("2", 2), ("3 or more", 3)];
 const EVENTS: [(&str, usize); 5] = [("none", 0), ("1-9", 1), ("10-99", 10), ("100-300", 100), ("more", 301)];
 
-/// The octets of a call's answer before both buffers.
-pub const CALL_ANSWER: usize = 19;
+const LIVED: [(&str, usize); 4] = [("none", 0), ("1-9", 1), ("10-99", 10), ("100-400", 100)];
+
+/// The octets of a call's answer before both buffers, and of a scanner's.
+const CALL_ANSWER: usize = 19;
+const SCANNER_ANSWER: usize = 17;
 
 pub struct Counts {
     /// For each kind how often it was answered with each number; 0 is no refusal.
@@ -31,6 +34,8 @@ pub struct Counts {
     scanner_off: [u64; SCANNER_OFF.len()],
     connections: [u64; CONNECTIONS.len()],
     events: [u64; EVENTS.len()],
+    scanner_packets: [u64; LIVED.len()],
+    scanner_updates: [u64; LIVED.len()],
 }
 
 impl Default for Counts {
@@ -42,6 +47,8 @@ impl Default for Counts {
             scanner_off: [0; SCANNER_OFF.len()],
             connections: [0; CONNECTIONS.len()],
             events: [0; EVENTS.len()],
+            scanner_packets: [0; LIVED.len()],
+            scanner_updates: [0; LIVED.len()],
         }
     }
 }
@@ -72,7 +79,12 @@ impl Counts {
                 row[0] += events as u64 - 1;
                 return events as u64;
             }
-            Kind::Scan => self.count_heard(r),
+            Kind::ScannerCalls => return self.count_scanner(r, answer),
+            Kind::Scan => {
+                let [list, header, payload] = &r.parts[..] else { panic!("a scan has three parts") };
+                let filter = (r.numbers[0] == 1).then_some(&list[..]);
+                self.count_heard(filter, header, payload, r.numbers[2] == 1);
+            }
             _ => {}
         }
         self.answers[r.kind as usize][if r.kind.has_number() { answer[0] as usize % 10 } else { 0 }] += 1;
@@ -115,18 +127,34 @@ impl Counts {
         }
     }
 
-    fn count_heard(&mut self, r: &Request) {
-        let (list, header, p) = (&r.parts[0], &r.parts[1], &r.parts[2]);
+    fn count_scanner(&mut self, r: &Request, answer: &[u8]) -> u64 {
+        let filter = (r.numbers[0] == 1).then_some(&r.parts[0][..]);
+        let (mut packets, mut updates) = (0, 0);
+        for (c, a) in r.parts[1].chunks_exact(CALL).zip(answer.chunks_exact(SCANNER_ANSWER)) {
+            self.answers[Kind::ScannerCalls as usize][a[0] as usize % 10] += 1;
+            match c[0] {
+                0 => {}
+                1 => updates += 1,
+                _ => {
+                    packets += 1;
+                    self.count_heard(filter, &c[12..14], &c[14..14 + c[3] as usize], c[1] == 1);
+                }
+            }
+        }
+        self.scanner_packets[class(&LIVED, packets)] += 1;
+        self.scanner_updates[class(&LIVED, updates)] += 1;
+        (answer.len() / SCANNER_ANSWER) as u64
+    }
+
+    /// Counts a packet for a scanner, which filters by the list that is given.
+    fn count_heard(&mut self, filter: Option<&[u8]>, header: &[u8], p: &[u8], crc_ok: bool) {
         let [first, second] = header[..] else { return };
         let n = p.len().min(255);
         self.lengths[SCANNER][n] += 1;
-        let crc_ok = r.numbers[2] == 1;
         if first % 16 == 2 && crc_ok {
             self.lengths[SCANNER + 1][n] += 1;
         }
-        if n < 6 || r.numbers[0] != 1 || list.len() % 7 != 0 {
-            return;
-        }
+        let Some(list) = filter.filter(|list| n >= 6 && list.len() % 7 == 0) else { return };
         let kind = first / 64 % 2;
         let near = |entry: &[u8]| -> (bool, u32) {
             (entry[0] == kind, p.iter().zip(&entry[1..]).map(|(a, b)| (a ^ b).count_ones()).sum())
@@ -153,6 +181,8 @@ impl Counts {
         add(&mut self.scanner_off, &more.scanner_off);
         add(&mut self.connections, &more.connections);
         add(&mut self.events, &more.events);
+        add(&mut self.scanner_packets, &more.scanner_packets);
+        add(&mut self.scanner_updates, &more.scanner_updates);
     }
 
     pub fn total(&self) -> u64 {
@@ -185,6 +215,8 @@ impl Counts {
         print_row("beacons of a listed sender with one thing off", &SCANNER_OFF, &self.scanner_off);
         print_row("lists of calls by connections", &CONNECTIONS.map(|c| c.0), &self.connections);
         print_row("lists of calls by events", &EVENTS.map(|c| c.0), &self.events);
+        print_row("scanners by packets", &LIVED.map(|c| c.0), &self.scanner_packets);
+        print_row("scanners by timer updates", &LIVED.map(|c| c.0), &self.scanner_updates);
     }
 
     fn print_kinds(&self) {
@@ -194,7 +226,7 @@ impl Counts {
             let refused: u64 = row[1..].iter().sum();
             println!("{:<20}{:>13}{refused:>13}  {}", format!("{kind:?}"), row.iter().sum::<u64>(), numbers.join(", "));
         }
-        let (events, calls) = (self.of(Kind::Events), self.of(Kind::Calls));
+        let (events, calls) = (self.of(Kind::Events), self.of(Kind::Calls) + self.of(Kind::ScannerCalls));
         let others = self.total() - events - calls;
         println!("{events} single events of connections, {calls} calls of lists, {others} other requests");
     }

@@ -3,7 +3,7 @@ use crate::device;
 use crate::inputs::{area, damage, packet, payload};
 use crate::request::{Kind, Request};
 use crate::rng::Rng;
-use crate::scanner::heard;
+use crate::scanner::{heard, life};
 
 /// A share of the requests: those whose place is `mine` modulo `shares`.
 pub struct Share {
@@ -214,6 +214,15 @@ pub fn scans(share: &Share, count: u64, each: Each) {
             h.header.truncate((turn / 64 % 2) as usize);
             each(&Request::new(Kind::Scan, &numbers, &[&h.list, &h.header, &h.payload]));
         }
+    }
+}
+
+/// Scanners that live through up to 40 packets and timer updates, each 32nd through up to 400.
+pub fn scanners(share: &Share, count: u64, each: Each) {
+    let mut rng = share.rng(12);
+    for turn in 0..count / share.shares {
+        let entries = 1 + rng.below(if turn % 32 == 0 { 400 } else { 40 });
+        each(&life(&mut rng, entries));
     }
 }
 

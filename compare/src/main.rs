@@ -1,7 +1,7 @@
 //! Compares the translation with rubble; `usage.txt` says how it is called and how it ends.
 use compare::counts::Counts;
 use compare::made::{self, Each, Share};
-use compare::request::{brief, hex, line, Request};
+use compare::request::{brief, hex, line, Request, CALL};
 use compare::shrink::smallest;
 use compare::{ours, theirs};
 use std::io::IsTerminal;
@@ -16,7 +16,7 @@ const USAGE: &str = include_str!("usage.txt");
 type Suite = (&'static str, fn(&Share, Each));
 
 /// The parts by their names, with the number of requests that each makes.
-const SUITES: [Suite; 11] = [
+const SUITES: [Suite; 12] = [
     ("headers", |s, e| made::all_headers(s, e)),
     ("packets", |s, e| made::packets(s, 8_000_000, e)),
     ("few-octets", |s, e| made::small_areas(s, e)),
@@ -26,6 +26,7 @@ const SUITES: [Suite; 11] = [
     ("lists", |s, e| made::lists(s, 600_000, e)),
     ("long-lists", |s, e| made::long_lists(s, 6_000, e)),
     ("scans", |s, e| made::scans(s, 2_000_000, e)),
+    ("scanners", |s, e| made::scanners(s, 150_000, e)),
     ("small", |s, e| made::small_things(s, e)),
     ("utf8", |s, e| made::strings(s, e)),
 ];
@@ -81,7 +82,11 @@ impl Both {
         println!("  ours    {}", hex(&self.ours));
         println!("  rubble  {}", hex(&self.theirs));
         println!("  request {}", line(&least));
-        println!("found in  {}", line(r));
+        if r.kind.is_list() {
+            println!("found in a list of {} calls", r.parts[1].len() / CALL);
+        } else {
+            println!("found in  {}", line(r));
+        }
         exit(1);
     }
 }

@@ -121,6 +121,19 @@ struct Heard {
 }
 
 #[repr(C)]
+struct Listened {
+    number: u8,
+    reported: bool,
+    random: bool,
+    sender: [u8; 6],
+    start: usize,
+    len: usize,
+    count: usize,
+    channel: u8,
+    next: u32,
+}
+
+#[repr(C)]
 struct Said {
     number: u8,
     kind: u8,
@@ -170,6 +183,9 @@ extern "C" {
         payload_len: usize, crc_ok: bool,
     ) -> Heard;
     fn board_scanner(time: u32, interval: u32, updates: u8) -> Got;
+    fn board_scanner_call(
+        filtered: bool, list: In, list_len: usize, entries: In, entries_len: usize, entry: In, entry_len: usize,
+    ) -> Listened;
     fn board_call(
         own: *const [u8; 6], random: bool, calls: In, calls_len: usize, call: In, call_len: usize, first: Out,
         first_len: usize, second: Out, second_len: usize,
@@ -343,6 +359,7 @@ pub fn answer(r: &Request, out: &mut Vec<u8>) {
                 out.extend([h.start as u8, h.len as u8, h.count as u8, h.channel]);
             }
             Kind::Scanner => got(board_scanner(n[0] as u32, n[1] as u32, n[2] as u8), out),
+            Kind::ScannerCalls => scanner_calls(r.numbers[0] == 1, &r.parts[0], &r.parts[1], out),
             Kind::Calls => calls(r, out),
         }
     }
@@ -371,5 +388,21 @@ fn calls(r: &Request, out: &mut Vec<u8>) {
         out.extend([s.at, s.access_address, s.crc_init].iter().flat_map(|n| n.to_le_bytes()));
         out.extend(first);
         out.extend(second);
+    }
+}
+
+/// Each entry is answered after those before it, from a fresh scanner on.
+fn scanner_calls(filters: bool, list: &[u8], entries: &[u8], out: &mut Vec<u8>) {
+    for at in (0..entries.len() / CALL).map(|i| i * CALL) {
+        let entry = &entries[at..at + CALL];
+        let l = unsafe {
+            board_scanner_call(
+                filters, list.as_ptr(), list.len(), entries.as_ptr(), at, entry.as_ptr(), entry.len(),
+            )
+        };
+        out.extend([l.number, l.reported as u8, l.random as u8]);
+        out.extend(l.sender);
+        out.extend([l.start as u8, l.len as u8, l.count as u8, l.channel]);
+        out.extend(l.next.to_le_bytes());
     }
 }

@@ -55,15 +55,18 @@ pub enum Kind {
     Scan,
     /// time, interval, updates: channel and next instant
     Scanner,
+    /// filter in use | list, entries of 272 octets: what a scanner that lives through them answers to each
+    ScannerCalls,
     /// random, first and second buffer | address, calls of 272 octets: each call's answer and both buffers
     Calls,
 }
 
-pub const KINDS: [Kind; 27] = [
+pub const KINDS: [Kind; 28] = [
     Kind::Decode, Kind::Header, Kind::SetHeader, Kind::NewHeader, Kind::Build, Kind::BuildDirected, Kind::Whitelist,
     Kind::Area, Kind::Records, Kind::Known, Kind::Write, Kind::Rewrite, Kind::Flags, Kind::Utf8, Kind::Uuid16,
     Kind::Uuid32, Kind::UuidList, Kind::Later, Kind::Since, Kind::AdvertisingChannel, Kind::DataChannel, Kind::Map,
-    Kind::Events, Kind::Beacon, Kind::Scan, Kind::Scanner, Kind::Calls,
+    Kind::Events, Kind::Beacon, Kind::Scan, Kind::Scanner, Kind::ScannerCalls,
+    Kind::Calls,
 ];
 
 impl Kind {
@@ -72,9 +75,14 @@ impl Kind {
         use Kind::*;
         !matches!(self, Uuid16 | Uuid32 | Later | Since | Map | Flags | Utf8)
     }
+
+    /// Whether its second part is a list of calls.
+    pub fn is_list(self) -> bool {
+        matches!(self, Kind::Calls | Kind::ScannerCalls)
+    }
 }
 
-/// Octets of a call in a list of calls.
+/// Octets of a call in a list of calls, on a device or on a scanner.
 pub const CALL: usize = 272;
 
 #[derive(Clone, Debug, PartialEq, Eq)]
@@ -123,22 +131,25 @@ pub fn hex(octets: &[u8]) -> String {
 /// The same for the eye: four equal octets and more as `00*4`, the calls of a list one by one.
 pub fn brief(r: &Request) -> String {
     let numbers: Vec<String> = r.numbers.iter().map(|n| n.to_string()).collect();
-    let parts: Vec<String> = match r.kind {
-        Kind::Calls => std::iter::once(runs(&r.parts[0])).chain(r.parts[1].chunks_exact(CALL).map(brief_call)).collect(),
-        _ => r.parts.iter().map(|p| runs(p)).collect(),
-    };
-    let between = if r.kind == Kind::Calls { "; " } else { " | " };
-    format!("{:?} {} | {}", r.kind, numbers.join(" "), parts.join(between))
+    let mut parts: Vec<String> = r.parts.iter().map(|p| runs(p)).collect();
+    if r.kind.is_list() {
+        let calls: Vec<String> = r.parts[1].chunks_exact(CALL).map(|c| brief_call(r.kind, c)).collect();
+        parts[1] = calls.join("; ");
+    }
+    let text = [format!("{:?}", r.kind), numbers.join(" "), parts.join(" | ")];
+    text.into_iter().filter(|t| !t.is_empty()).collect::<Vec<_>>().join(" ")
 }
 
-fn brief_call(c: &[u8]) -> String {
+fn brief_call(kind: Kind, c: &[u8]) -> String {
     let octets = runs(&c[14..14 + c[3] as usize]);
-    match c[0] {
-        0 => format!("start {octets}"),
-        1 => "tick".to_string(),
-        2 => format!("packet {} {octets}{}", hex(&c[12..14]), if c[1] == 1 { "" } else { ", CRC bad" }),
-        3 => "event".to_string(),
-        _ => "stop".to_string(),
+    match (kind, c[0]) {
+        (Kind::Calls, 0) => format!("start {octets}"),
+        (Kind::Calls, 1) => "tick".to_string(),
+        (Kind::Calls, 3) => "event".to_string(),
+        (Kind::Calls, 4..) => "stop".to_string(),
+        (Kind::ScannerCalls, 0) => "configure".to_string(),
+        (Kind::ScannerCalls, 1) => "update".to_string(),
+        _ => format!("packet {} {octets}{}", hex(&c[12..14]), if c[1] == 1 { "" } else { ", CRC bad" }),
     }
 }
 

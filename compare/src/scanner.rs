@@ -1,5 +1,6 @@
-//! Packets for a scanner, with filter lists.
-use crate::inputs::{count, damage, filter, likely_count, length, neighbour, packet, payload};
+//! Packets for a scanner, with filter lists; lists of calls on a scanner.
+use crate::inputs::{count, damage, filter, length, likely_count, neighbour, packet, payload, write_over};
+use crate::request::{Kind, Request, CALL};
 use crate::rng::Rng;
 
 /// A packet with the list that a filtering scanner is lent.
@@ -87,4 +88,56 @@ pub fn heard(rng: &mut Rng) -> Heard {
         1 => near_miss(rng),
         _ => any(rng),
     }
+}
+
+/// An entry of a scanner's list, at any time and with any interval.
+fn entry(rng: &mut Rng, kind: u8, h: &Heard) -> [u8; CALL] {
+    let n = h.payload.len();
+    let mut c = [0; CALL];
+    c[..4].copy_from_slice(&[kind, h.crc_ok as u8, 0, n as u8]);
+    for octet in &mut c[4..12] {
+        *octet = if rng.bit() == 0 { rng.octet() } else { rng.pick(&[0, 0xFF]) };
+    }
+    c[12..14].copy_from_slice(&h.header);
+    c[14..14 + n].copy_from_slice(&h.payload);
+    c
+}
+
+/// A packet from one of the list's senders, or from one that is a bit or the kind off.
+fn from_listed(rng: &mut Rng, list: &[u8]) -> Heard {
+    let mut h = heard(rng);
+    if list.len() >= 7 && !rng.one_in(4) {
+        let from = 7 * rng.below(list.len() / 7);
+        write_over(&mut h.payload, 0, &list[from + 1..from + 7]);
+        h.header[0] = h.header[0] & 0xBF | (list[from] & 1) << 6;
+        match rng.below(6) {
+            0 => h.header[0] ^= 0x40,
+            1 if h.payload.len() >= 6 => h.payload[rng.below(6)] ^= 1 << rng.below(8),
+            _ => {}
+        }
+    }
+    h
+}
+
+/// A scanner that lives through packets and timer updates; it is configured at first, mostly, and sometimes again.
+pub fn life(rng: &mut Rng, entries: usize) -> Request {
+    let address = rng.octets(6);
+    let random = rng.bit();
+    let list = filter(rng, &address, random);
+    let mut calls = Vec::new();
+    for at in 0..entries {
+        let kind = match rng.below(16) {
+            0 => 0,
+            1..=4 => 1,
+            _ => 2,
+        };
+        let kind = if at == 0 && !rng.one_in(8) { 0 } else { kind };
+        let h = if kind == 2 {
+            from_listed(rng, &list)
+        } else {
+            Heard { list: Vec::new(), header: vec![0; 2], payload: Vec::new(), crc_ok: true }
+        };
+        calls.extend(entry(rng, kind, &h));
+    }
+    Request::new(Kind::ScannerCalls, &[!rng.one_in(3) as u64], &[&list, &calls])
 }

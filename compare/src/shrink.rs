@@ -11,6 +11,7 @@ pub fn smallest(found: &Request, differs: Differs) -> Request {
             shorten(&mut least, part, differs);
         }
         count_less(&mut least, differs);
+        blank_address(&mut least, differs);
         lower(&mut least, differs);
         if least == before {
             return least;
@@ -34,7 +35,7 @@ fn shorten(least: &mut Request, part: usize, differs: Differs) {
     if least.fixed(part) {
         return;
     }
-    let unit = if least.kind == Kind::Calls { CALL } else { 1 };
+    let unit = if least.kind.is_list() && part == 1 { CALL } else { 1 };
     let mut size = least.parts[part].len() / unit;
     while size > 0 {
         let mut at = 0;
@@ -52,7 +53,7 @@ fn count_less(least: &mut Request, differs: Differs) {
     match least.kind {
         Kind::Decode => while attempt(least, differs, |r| one_octet_less(&mut r.parts, 0)) {},
         Kind::Scan => while attempt(least, differs, |r| one_octet_less(&mut r.parts, 1)) {},
-        Kind::Calls => {
+        Kind::Calls | Kind::ScannerCalls => {
             for at in (0..least.parts[1].len()).step_by(CALL) {
                 while attempt(least, differs, |r| one_counted_less(&mut r.parts[1][at..])) {}
             }
@@ -74,7 +75,20 @@ fn one_counted_less(call: &mut [u8]) {
     }
 }
 
-/// Lowers numbers and octets: to 0, to a half, by one.
+/// Makes a device's address zeros, wherever it stands.
+fn blank_address(least: &mut Request, differs: Differs) {
+    if least.kind != Kind::Calls {
+        return;
+    }
+    attempt(least, differs, |r| {
+        let own = std::mem::replace(&mut r.parts[0], vec![0; 6]);
+        for call in r.parts[1].chunks_exact_mut(CALL).filter(|c| c[20..26] == own[..]) {
+            call[20..26].fill(0);
+        }
+    });
+}
+
+/// Lowers numbers: to 0, to a half, by one; and octets: to 0, by a bit of theirs, by one.
 fn lower(least: &mut Request, differs: Differs) {
     for n in 0..least.numbers.len() {
         let was = least.numbers[n];
@@ -87,10 +101,11 @@ fn lower(least: &mut Request, differs: Differs) {
     for part in 0..least.parts.len() {
         for at in 0..least.parts[part].len() {
             let was = least.parts[part][at];
-            for less in [0, was / 2, was.saturating_sub(1)] {
-                if attempt(least, differs, |r| r.parts[part][at] = less) {
-                    break;
+            if was != 0 && !attempt(least, differs, |r| r.parts[part][at] = 0) {
+                for bit in (0..8).rev() {
+                    attempt(least, differs, |r| r.parts[part][at] &= !(1 << bit));
                 }
+                attempt(least, differs, |r| r.parts[part][at] -= 1);
             }
         }
     }
