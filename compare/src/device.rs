@@ -163,9 +163,9 @@ impl<'a> List<'a> {
 
     fn packet(&mut self) {
         let p = match self.rng.below(8) {
-            0 | 1 => self.good_request(CONNECT_REQ),
-            2 => self.good_request(SCAN_REQ),
-            3 | 4 => self.near_miss(),
+            0..=2 => self.good_request(CONNECT_REQ),
+            3 => self.good_request(SCAN_REQ),
+            4 | 5 => self.near_miss(),
             _ => self.any_packet(),
         };
         self.push(PACKET, false, &p);
@@ -242,10 +242,10 @@ fn connects(p: &Packet, own: &[u8], random: u8) -> bool {
         && marks_any(&p.payload[28..33])
 }
 
-/// Up to 16 calls, with buffers that are often too small.
+/// Up to 24 calls, with buffers that are often too small.
 pub fn short(rng: &mut Rng) -> Request {
     let mut list = List::new(rng);
-    for _ in 0..1 + list.rng.below(16) {
+    for _ in 0..1 + list.rng.below(24) {
         list.any_call();
     }
     let first = if list.rng.one_in(8) { list.rng.below(40) } else { 37 + list.rng.below(8) };

@@ -184,7 +184,7 @@ pub fn maps(share: &Share, events: u64, each: Each) {
     }
 }
 
-/// Lists of up to 16 calls.
+/// Lists of up to 24 calls.
 pub fn lists(share: &Share, count: u64, each: Each) {
     let mut rng = share.rng(7);
     for _ in 0..count / share.shares {

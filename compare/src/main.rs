@@ -23,7 +23,7 @@ const SUITES: [Suite; 12] = [
     ("areas", |s, e| made::areas(s, 2_000, e)),
     ("writers", |s, e| made::writers(s, 40, e)),
     ("maps", |s, e| made::maps(s, 40, e)),
-    ("lists", |s, e| made::lists(s, 600_000, e)),
+    ("lists", |s, e| made::lists(s, 450_000, e)),
     ("long-lists", |s, e| made::long_lists(s, 6_000, e)),
     ("scans", |s, e| made::scans(s, 2_000_000, e)),
     ("scanners", |s, e| made::scanners(s, 150_000, e)),
