@@ -12,8 +12,7 @@ use Rattle.octets.specs.declared.time.Instant.{Instant}
 use Rattle.channels.specs.Phy.{indexOf}
 use Rattle.addresses.specs.Address.{isRandom}
 use Rattle.addresses.specs.Header.{headerOf}
-use Rattle.addresses.specs.declared.filter.AddressFilter.{AddressFilter}
-use Rattle.addresses.specs.declared.filter.AddressFilter.the-variants.{AllowAll, Whitelist}
+use Rattle.answers.specs.Given.{filterFor}
 use Rattle.addresses.specs.declared.header.HeaderMade.{HeaderMade}
 use Rattle.addresses.specs.declared.header.HeaderMade.the-variants as made
 use Rattle.advertising.specs.PduBuf.{payloadAfter}
@@ -30,10 +29,10 @@ use Rattle.beacon.specs.declared.beacon.Report.{Report}
 use Rattle.beacon.specs.declared.beacon.Report.the-variants as report
 use Rattle.beacon.specs.declared.beacon.Scanned.{Scanned}
 use Rattle.beacon.specs.declared.beacon.Updated.{Updated}
-use Rattle.exports.specs.Got.{found}
+use Rattle.answers.specs.Got.{found}
 use Rattle.exports.specs.declared.air.Heard.{Heard}
 use Rattle.exports.specs.declared.air.Sent.{Sent}
-use Rattle.exports.specs.declared.got.Got.{Got}
+use Rattle.answers.specs.declared.got.Got.{Got}
 
 abbrev pub notSent : Error → Sent
 notSent e = record { number = numberOf e; header = 0; first = 0; second = 0; third = 0 }
@@ -56,9 +55,6 @@ beaconSent m tx = sentBy (m .beacon) tx (m .outcome)
 
 abbrev pub beaconAfter : Made → List ℕ → List ℕ
 beaconAfter m tx = afterBy (m .beacon) tx (m .outcome)
-
-abbrev pub filterFor : Bool → AddressFilter
-filterFor filtered = cond filtered Whitelist AllowAll
 
 -- one more update
 abbrev pub updated : Instant → Updated → Updated

@@ -19,10 +19,10 @@ use Rattle.records.specs.declared.ad_structure.Read.{Read}
 use Rattle.records.specs.declared.ad_structure.Read.the-variants as read
 use Rattle.records.specs.declared.area.Area.{Area}
 use Rattle.records.specs.declared.area.Area.the-variants as area
-use Rattle.exports.specs.Got.{found, refusedAs}
+use Rattle.answers.specs.Got.{found, refusedAs}
 use Rattle.exports.specs.declared.areas.FlagsSaid.{FlagsSaid}
 use Rattle.exports.specs.declared.areas.Structure.{Structure}
-use Rattle.exports.specs.declared.got.Got.{Got}
+use Rattle.answers.specs.declared.got.Got.{Got}
 
 abbrev pub areaGot : Area → Got
 areaGot (area.Accepted n) = found n 0

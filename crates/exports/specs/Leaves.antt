@@ -14,8 +14,8 @@ use Rattle.channels.specs.declared.connection.Hop.the-variants as hop
 use Rattle.channels.specs.declared.phy.AdvertisingChannel.{AdvertisingChannel}
 use Rattle.channels.specs.declared.phy.Found.{Found}
 use Rattle.channels.specs.declared.phy.Found.the-variants as channel
-use Rattle.exports.specs.Got.{found, refusedAs}
-use Rattle.exports.specs.declared.got.Got.{Got}
+use Rattle.answers.specs.Got.{found, refusedAs}
+use Rattle.answers.specs.declared.got.Got.{Got}
 use Rattle.exports.specs.declared.leaves.Channel.{Channel}
 
 abbrev pub after : ℕ → AdvertisingChannel

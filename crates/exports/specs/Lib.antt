@@ -1,4 +1,3 @@
-pub mod Got
 pub mod Leaves
 pub mod Areas
 pub mod Packets

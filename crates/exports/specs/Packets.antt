@@ -9,8 +9,6 @@ use lib.Dec.{eqb}
 use Rattle.octets.specs.Error.{numberOf}
 use Rattle.addresses.specs.Header.{typeCode, isBeacon, allowsAdvData, typeOf, txAdd, rxAdd, lengthOf, setTxAdd, setRxAdd, lengthSet}
 use Rattle.addresses.specs.declared.device_address.DeviceAddress.{DeviceAddress}
-use Rattle.addresses.specs.declared.filter.Matches.{Matches}
-use Rattle.addresses.specs.declared.filter.Matches.the-variants as matches
 use Rattle.addresses.specs.declared.header.Header.{Header}
 use Rattle.addresses.specs.declared.header.HeaderMade.{HeaderMade}
 use Rattle.addresses.specs.declared.header.HeaderMade.the-variants as made
@@ -19,8 +17,8 @@ use Rattle.advertising.specs.Pdu.{outcomeNumber}
 use Rattle.advertising.specs.PduBuf.{builtOf, flagsRecord}
 use Rattle.advertising.specs.declared.pdu_buf.Built.{Built}
 use Rattle.advertising.specs.declared.pdu_buf.PduBuf.{PduBuf}
-use Rattle.exports.specs.Got.{found, refusedAs}
-use Rattle.exports.specs.declared.got.Got.{Got}
+use Rattle.answers.specs.Got.{found, refusedAs}
+use Rattle.answers.specs.declared.got.Got.{Got}
 use Rattle.exports.specs.declared.packets.Frame.{Frame}
 use Rattle.exports.specs.declared.packets.Head.{Head}
 
@@ -64,7 +62,3 @@ frameOf number pdu = record { number = number; header = pdu .header .0; payload 
 
 abbrev pub builtFrame : Built → Frame
 builtFrame b = frameOf (outcomeNumber (b .outcome)) (b .pdu)
-
-abbrev pub matchesGot : Matches → Got
-matchesGot (matches.Is b) = found (cond b 1 0) 0
-matchesGot (matches.Refused e) = refusedAs e

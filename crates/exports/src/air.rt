@@ -5,15 +5,15 @@ ghost use Rattle.addresses.specs.Header.{parsed};
 ghost use Rattle.beacon.specs.Sending.{beaconOf};
 ghost use Rattle.beacon.specs.Scanner.{timerUpdated};
 ghost use mathlib.Core.Bool.{false};
-ghost use Rattle.exports.specs.Air.{broadcastSent, notSent, beaconSent, beaconAfter, filterFor, scannerWith, updatedGot, heardSaid, heardFrom, judgedBy, headlessOf, unheard};
-use crate::got::Got;
-use crate::got::found;
-use crate::packets::address;
-use addresses::filter::AddressFilter;
+ghost use Rattle.exports.specs.Air.{broadcastSent, notSent, beaconSent, beaconAfter, scannerWith, updatedGot, heardSaid, heardFrom, judgedBy, headlessOf, unheard};
 use addresses::header::Header;
 use addresses::header::HeaderMade;
 use addresses::header::PduType;
 use advertising::pdu::Outcome;
+use answers::given::address;
+use answers::given::filter;
+use answers::got::Got;
+use answers::got::found;
 use beacon::beacon::Beacon;
 use beacon::beacon::BeaconScanner;
 use beacon::beacon::Broadcast;
@@ -98,16 +98,6 @@ fn again(updated: Updated, at: Instant) -> Updated
 {
     let scanner = updated.scanner;
     scanner.timer_update(at)
-}
-
-pub(crate) fn filter(filtered: bool) -> AddressFilter
-    ensures { λ r. ⌜ r ≡ filterFor filtered ⌝ }
-{
-    if filtered {
-        AddressFilter::Whitelist
-    } else {
-        AddressFilter::AllowAll
-    }
 }
 
 // The channel that it listens on, and until when.

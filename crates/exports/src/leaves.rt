@@ -4,13 +4,13 @@ ghost use Rattle.octets.specs.Time.{later, since};
 ghost use Rattle.utf8.specs.Utf8.{isUtf8};
 ghost use Rattle.octets.specs.Uuid.{fullUuid};
 ghost use Rattle.channels.specs.Hop.{hopped};
-ghost use Rattle.channels.specs.Map.{fromRaw, isUsed, byIndex};
+ghost use Rattle.channels.specs.Map.{fromRaw, allChannels, isUsed, byIndex};
 ghost use Rattle.channels.specs.Phy.{newChannel};
 ghost use Rattle.exports.specs.Leaves.{advertisingChannel, after, dataChannel, foundGot, usedGot, hopGot};
-use crate::got::Got;
-use crate::got::flag;
-use crate::got::found;
-use crate::got::refused;
+use answers::got::Got;
+use answers::got::flag;
+use answers::got::found;
+use answers::got::refused;
 use channels::channel_map::ChannelMap;
 use channels::channel_map::Used;
 use channels::connection::Hop;
@@ -139,6 +139,19 @@ pub extern "C" fn board_map(raw: &[u8; 5]) -> Map
     ensures { λ r. ⌜ (r .raw ≡ fromRaw (now (raw .entry)) .raw) × (r .count ≡ fromRaw (now (raw .entry)) .«num_used_channels») ⌝ }
 {
     let map = ChannelMap::from_raw(*raw);
+    let raw = map.to_raw();
+    Map {
+        raw,
+        count: map.num_used_channels(),
+    }
+}
+
+// The map of all data channels.
+#[no_mangle]
+pub extern "C" fn board_all_channels() -> Map
+    ensures { λ r. ⌜ (r .raw ≡ allChannels .raw) × (r .count ≡ allChannels .«num_used_channels») ⌝ }
+{
+    let map = ChannelMap::with_all_channels();
     let raw = map.to_raw();
     Map {
         raw,

@@ -2,7 +2,6 @@
 // a struct of numbers, whose `number` is the refusal's (document 01), or 0; what has no meaning there is 0.
 pub mod air;
 pub mod areas;
-pub mod got;
 pub mod leaves;
 pub mod lists;
 pub mod packets;

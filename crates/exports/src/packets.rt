@@ -1,24 +1,19 @@
-// Headers read and set, PDUs built, whitelists.
+// Headers read and set, PDUs built.
 ghost use mathlib.Core.Path.{_≡_};
 ghost use Rattle.addresses.specs.Address.{kindOf, addressOf};
-ghost use Rattle.addresses.specs.Filter.{matchesOf};
-ghost use Rattle.addresses.specs.declared.filter.AddressFilter.the-variants.{Whitelist};
 ghost use Rattle.addresses.specs.Header.{parsed, headerOf, typeCode, pduType};
 ghost use Rattle.advertising.specs.PduBuf.{builtDirected};
-ghost use Rattle.exports.specs.Packets.{headerSaid, headSet, parsedSet, builtAs, frameOf, builtFrame, matchesGot};
-use crate::got::Got;
-use crate::got::flag;
-use crate::got::found;
-use crate::got::refused;
-use addresses::device_address::AddressKind;
+ghost use Rattle.exports.specs.Packets.{headerSaid, headSet, parsedSet, builtAs, frameOf, builtFrame};
 use addresses::device_address::DeviceAddress;
-use addresses::filter::AddressFilter;
-use addresses::filter::Matches;
 use addresses::header::Header;
 use addresses::header::HeaderMade;
 use addresses::header::PduType;
 use advertising::pdu_buf::Built;
 use advertising::pdu_buf::PduBuf;
+use answers::given::address;
+use answers::got::Got;
+use answers::got::found;
+use answers::got::refused;
 use octets::error::Error;
 
 // What a header says.
@@ -96,12 +91,6 @@ pub extern "C" fn board_set_header(raw: &[u8], tx_add: bool, rx_add: bool, lengt
     }
 }
 
-pub(crate) fn address(octets: [u8; 6], random: bool) -> DeviceAddress
-    ensures { λ r. ⌜ r ≡ addressOf octets (kindOf random) ⌝ }
-{
-    DeviceAddress::new(octets, AddressKind::of(random))
-}
-
 // A built PDU: its header, and its payload with zeros behind it.
 #[repr(C)]
 pub struct Frame {
@@ -157,15 +146,4 @@ pub extern "C" fn board_build_directed(
 {
     let pdu = PduBuf::connectable_directed(address(*own, random), address(*other, other_random));
     frame_of(0, pdu)
-}
-
-// Whether a list holds an address.
-#[no_mangle]
-pub extern "C" fn board_whitelist(list: &[u8], octets: &[u8; 6], random: bool) -> Got
-    ensures { λ r. ⌜ r ≡ matchesGot (matchesOf Whitelist (now (list .entry)) (addressOf (now (octets .entry)) (kindOf random))) ⌝ }
-{
-    match AddressFilter::Whitelist.matches(list, address(*octets, random)) {
-        Matches::Is(is) => found(flag(is), 0),
-        Matches::Refused(e) => refused(e),
-    }
 }

@@ -5,13 +5,13 @@
 // Kinds: 0 configure, with a time and an interval; 1 timer update, at a time; otherwise a packet.
 ghost use mathlib.Core.Path.{_≡_};
 ghost use Rattle.beacon.specs.Scanner.{scannerOf};
-ghost use Rattle.exports.specs.Air.{filterFor};
+ghost use Rattle.answers.specs.Given.{filterFor};
 ghost use Rattle.exports.specs.Scans.{listenSaid, hearSaid, entryAfter, entriesAfter, entrySaid};
-use crate::air::filter;
 use crate::lists::header_of;
 use crate::lists::interval_of;
 use crate::lists::octet;
 use crate::lists::time_of;
+use answers::given::filter;
 use beacon::beacon::BeaconScanner;
 use beacon::beacon::Scanned;
 use beacon::beacon::Updated;

@@ -1,6 +1,6 @@
 -- `board_rewrite` meets its contract. Assumes nothing.
 use mathlib.Core.Path.{ap, _∙_}
-use Rattle.exports.specs.Got.{writtenGot}
+use Rattle.answers.specs.Got.{writtenGot}
 use borrow.Author.Needs.{needs}
 use Rattle.exports.proofs.areas.board_rewrite.Statement.{statement}
 use Rattle.exports.proofs.areas.board_rewrite.Tie as tie

@@ -1,0 +1,5 @@
+pub mod Reads
+pub mod Writes
+pub mod Uuids
+pub mod At
+pub mod Filters
