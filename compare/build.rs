@@ -1,4 +1,4 @@
-// Links libexports and libdecode. They are the archives that `rt staticlib NAME` writes; EXPORTS_DIR names another folder that holds them. With
+// Links libexports, libdecode and libbasics. They are the archives that `rt staticlib NAME` writes; EXPORTS_DIR names another folder that holds them. With
 // EXPORTS_LINK=dylib they are shared objects, which the program finds by LD_LIBRARY_PATH when it starts: compare/faults tries many of them.
 fn main() {
     let here = std::env::var("CARGO_MANIFEST_DIR").unwrap();
@@ -7,7 +7,7 @@ fn main() {
     println!("cargo:rerun-if-env-changed=EXPORTS_DIR");
     println!("cargo:rerun-if-env-changed=EXPORTS_LINK");
     println!("cargo:rustc-link-search=native={dir}");
-    for name in ["exports", "decode"] {
+    for name in ["exports", "decode", "basics"] {
         if link == "static" {
             println!("cargo:rerun-if-changed={dir}/lib{name}.a");
         }

@@ -128,7 +128,7 @@ impl<'a> List<'a> {
             }
             4 => p.payload.push(self.rng.octet()),
             5 => p.header[1] ^= 1 << self.rng.below(6),
-            6 => p.header[0] = p.header[0] & 0xF0 | neighbour(self.rng, ty),
+            6 => p.header[0] = (p.header[0] & 0xF0) | neighbour(self.rng, ty),
             // Longer by what six bits do not count.
             7 => {
                 let more = 64 * (1 + self.rng.below(3));

@@ -101,7 +101,7 @@ pub fn length(rng: &mut Rng) -> usize {
 
 /// The header's octet for a payload of n octets, which it counts in its lower six bits, with any upper ones.
 pub fn count(rng: &mut Rng, n: usize) -> u8 {
-    n as u8 % 64 | (rng.octet() & 0xC0)
+    (n as u8 % 64) | (rng.octet() & 0xC0)
 }
 
 /// The same, sometimes with another count: all eight bits of n, one more or less, or any.

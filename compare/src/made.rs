@@ -25,7 +25,7 @@ impl Share {
 
 pub type Each<'a> = &'a mut dyn FnMut(&Request);
 
-/// All headers with payloads of every length.
+/// All headers with payloads of every length; once also behind up to three octets of one slice.
 pub fn all_headers(share: &Share, each: Each) {
     let mut rng = Rng(share.seed);
     for variant in 0..3 {
@@ -41,19 +41,30 @@ pub fn all_headers(share: &Share, each: Each) {
                 })
             })
             .collect();
-        let mut r = Request::new(Kind::Decode, &[], &[&[0, 0], &[]]);
+        let mut apart = Request::new(Kind::Decode, &[], &[&[0, 0], &[]]);
+        let mut whole = Request::new(Kind::ReadPdu, &[0], &[&[]]);
         for header in (0..=0xFFFFu64).filter(|h| share.has(*h)) {
-            r.parts[0].copy_from_slice(&(header as u16).to_le_bytes());
+            apart.parts[0].copy_from_slice(&(header as u16).to_le_bytes());
             for of_length in &payloads {
-                r.parts[1].clear();
-                r.parts[1].extend_from_slice(&of_length[(header % 16) as usize]);
-                each(&r);
+                let payload = &of_length[(header % 16) as usize];
+                apart.parts[1].clear();
+                apart.parts[1].extend_from_slice(payload);
+                each(&apart);
+                if variant == 0 {
+                    let at = (header / 16 + payload.len() as u64) % 4;
+                    whole.numbers[0] = at;
+                    whole.parts[0].clear();
+                    whole.parts[0].extend_from_slice(&[5, 2, 7][..at as usize]);
+                    whole.parts[0].extend_from_slice(&apart.parts[0]);
+                    whole.parts[0].extend_from_slice(payload);
+                    each(&whole);
+                }
             }
         }
     }
 }
 
-/// Packets whose header counts the payload, and damaged ones.
+/// Packets whose header counts the payload, and damaged ones; each fourth also behind up to three octets of one slice.
 pub fn packets(share: &Share, count: u64, each: Each) {
     let mut rng = share.rng(2);
     for n in 0..count / share.shares {
@@ -68,6 +79,11 @@ pub fn packets(share: &Share, count: u64, each: Each) {
             header.truncate(rng.below(2));
         }
         each(&Request::new(Kind::Decode, &[], &[&header, &p]));
+        if n % 4 == 0 {
+            let at = rng.below(4);
+            let s = [&rng.octets(at), &header[..], &p].concat();
+            each(&Request::new(Kind::ReadPdu, &[at as u64], &[&s]));
+        }
     }
 }
 
@@ -207,6 +223,10 @@ pub fn scans(share: &Share, count: u64, each: Each) {
         let mut h = heard(&mut rng);
         let (random, sender) = (h.random(), h.sender());
         each(&Request::new(Kind::Whitelist, &[random], &[&h.list, &sender]));
+        for kind in [Kind::MayScan, Kind::MayConnect] {
+            each(&Request::new(kind, &[rng.bit(), rng.bit(), random], &[&h.list, &sender]));
+        }
+        each(&Request::new(Kind::ShouldScan, &[rng.bit(), random], &[&h.list, &sender]));
         let filters = !rng.one_in(3) as u64;
         let numbers = [filters, rng.below(4) as u64, h.crc_ok as u64];
         each(&Request::new(Kind::Scan, &numbers, &[&h.list, &h.header, &h.payload]));
@@ -226,12 +246,82 @@ pub fn scanners(share: &Share, count: u64, each: Each) {
     }
 }
 
+/// Sizes around what is left at a position.
+fn around(left: u64) -> [u64; 5] {
+    [0, 1, left.saturating_sub(1), left, left + 1]
+}
+
+/// Each reader at a position of s.
+fn reads(s: &[u8], at: u64, each: Each) {
+    let left = (s.len() as u64).saturating_sub(at);
+    for which in [0, 2, 3] {
+        for n in around(left) {
+            each(&Request::new(Kind::ReadAt, &[which, at, n], &[s]));
+        }
+    }
+    for which in [0, 2] {
+        each(&Request::new(Kind::ReadAt, &[which, at, u64::MAX], &[s]));
+    }
+    for which in [1, 4, 5, 6, 7, 8] {
+        each(&Request::new(Kind::ReadAt, &[which, at, 0], &[s]));
+    }
+    for bits in [16, 32, 128] {
+        each(&Request::new(Kind::ReadUuid, &[bits, at], &[s]));
+    }
+    each(&Request::new(Kind::ReadHeader, &[at], &[s]));
+    each(&Request::new(Kind::ReadPdu, &[at], &[s]));
+}
+
+/// Each writer at a position of so many octets.
+fn writes(rng: &mut Rng, space: u64, at: u64, each: Each) {
+    let left = space.saturating_sub(at);
+    for n in around(left) {
+        each(&Request::new(Kind::WriteAt, &[0, at, space, n], &[&[]]));
+        let data = rng.octets(n as usize);
+        for which in [2, 3] {
+            each(&Request::new(Kind::WriteAt, &[which, at, space, 0], &[&data]));
+        }
+    }
+    each(&Request::new(Kind::WriteAt, &[0, at, space, u64::MAX], &[&[]]));
+    for which in [1, 4, 5, 6] {
+        each(&Request::new(Kind::WriteAt, &[which, at, space, rng.next()], &[&[]]));
+    }
+    for bits in [16, 32, 128] {
+        each(&Request::new(Kind::WriteUuid, &[bits, at, space], &[&rng.octets(16)]));
+    }
+    let header = rng.octets(2);
+    let kept = if rng.one_in(16) { 1 } else { 2 };
+    each(&Request::new(Kind::WriteHeader, &[at, space], &[&header[..kept]]));
+}
+
+/// Readers and writers at each position of slices of up to 24 octets and of a longer one, and past the end.
+pub fn positions(share: &Share, rounds: u64, each: Each) {
+    let mut rng = share.rng(13);
+    for round in 0..rounds / share.shares {
+        let longer = 25 + rng.below(276);
+        for len in (0..=24).chain([longer]) {
+            let s = rng.octets(len);
+            for at in (0..=len as u64 + 2).chain([u64::MAX - 1, u64::MAX]) {
+                if len < 25 || (at + round) % 8 == 0 {
+                    reads(&s, at, each);
+                    writes(&mut rng, len as u64, at, each);
+                }
+            }
+        }
+    }
+}
+
 /// Headers, UUIDs, channels, Flags, instants and UTF-8: all of each where that is a small number.
 pub fn small_things(share: &Share, each: Each) {
     let mut rng = share.rng(9);
+    each(&Request::new(Kind::NamedFlags, &[], &[]));
+    each(&Request::new(Kind::AllChannels, &[], &[]));
     for value in (0..=0xFFFFu64).filter(|v| share.has(*v)) {
         let raw = (value as u16).to_le_bytes();
         each(&Request::new(Kind::Header, &[], &[&raw]));
+        let at = value / 16 % 4;
+        each(&Request::new(Kind::ReadHeader, &[at], &[&[&[9; 3][..at as usize], &raw].concat()]));
+        each(&Request::new(Kind::WriteHeader, &[at, at + 3], &[&raw]));
         each(&Request::new(Kind::Uuid16, &[value], &[]));
         for bits in 0..4 {
             for length in [6, 21, 37] {

@@ -16,7 +16,7 @@ const USAGE: &str = include_str!("usage.txt");
 type Suite = (&'static str, fn(&Share, Each));
 
 /// The parts by their names, with the number of requests that each makes.
-const SUITES: [Suite; 12] = [
+const SUITES: [Suite; 13] = [
     ("headers", |s, e| made::all_headers(s, e)),
     ("packets", |s, e| made::packets(s, 8_000_000, e)),
     ("few-octets", |s, e| made::small_areas(s, e)),
@@ -27,6 +27,7 @@ const SUITES: [Suite; 12] = [
     ("long-lists", |s, e| made::long_lists(s, 6_000, e)),
     ("scans", |s, e| made::scans(s, 2_000_000, e)),
     ("scanners", |s, e| made::scanners(s, 150_000, e)),
+    ("positions", |s, e| made::positions(s, 200, e)),
     ("small", |s, e| made::small_things(s, e)),
     ("utf8", |s, e| made::strings(s, e)),
 ];

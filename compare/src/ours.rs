@@ -1,4 +1,6 @@
-//! The translation's answers, from libexports.a and libdecode.a.
+//! The translation's answers, from libexports.a, libdecode.a and libbasics.a.
+mod basics;
+
 use crate::request::{Kind, Request, CALL};
 
 // A slice crosses as a pointer and a length.
@@ -153,7 +155,6 @@ extern "C" {
     fn board_new_header(ty: u8, tx_add: bool, rx_add: bool, length: u8) -> Got;
     fn board_build(which: u8, own: *const [u8; 6], random: bool, records: In, records_len: usize) -> Frame;
     fn board_build_directed(own: *const [u8; 6], random: bool, other: *const [u8; 6], other_random: bool) -> Frame;
-    fn board_whitelist(list: In, list_len: usize, octets: *const [u8; 6], random: bool) -> Got;
     fn board_area(s: In, s_len: usize) -> Got;
     fn board_record(s: In, s_len: usize, at: usize) -> Structure;
     fn board_known(s: In, s_len: usize, at: usize) -> Structure;
@@ -172,6 +173,7 @@ extern "C" {
     fn board_advertising_channel(times: u8) -> Channel;
     fn board_data_channel(index: u8) -> Channel;
     fn board_map(raw: *const [u8; 5]) -> Map;
+    fn board_all_channels() -> Map;
     fn board_is_used(raw: *const [u8; 5], channel: u8) -> Got;
     fn board_by_index(raw: *const [u8; 5], n: u8) -> Got;
     fn board_hop(raw: *const [u8; 5], unmapped: u8, hop: u8) -> Got;
@@ -275,7 +277,6 @@ pub fn answer(r: &Request, out: &mut Vec<u8>) {
                 out.extend(f.header.to_le_bytes());
                 out.extend(f.payload);
             }
-            Kind::Whitelist => got(board_whitelist(p[0].as_ptr(), p[0].len(), &array(&p[1]), n[0] == 1), out),
             Kind::Area => got(board_area(p[0].as_ptr(), p[0].len()), out),
             Kind::Records => structures(&p[0], board_record, out),
             Kind::Known => structures(&p[0], board_known, out),
@@ -361,6 +362,12 @@ pub fn answer(r: &Request, out: &mut Vec<u8>) {
             Kind::Scanner => got(board_scanner(n[0] as u32, n[1] as u32, n[2] as u8), out),
             Kind::ScannerCalls => scanner_calls(r.numbers[0] == 1, &r.parts[0], &r.parts[1], out),
             Kind::Calls => calls(r, out),
+            Kind::AllChannels => {
+                let m = board_all_channels();
+                out.extend(m.raw);
+                out.push(m.count);
+            }
+            _ => basics::answer(r, out),
         }
     }
 }

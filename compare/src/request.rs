@@ -55,25 +55,51 @@ pub enum Kind {
     Scan,
     /// time, interval, updates: channel and next instant
     Scanner,
+    /// position | octets: a PDU whose header begins there
+    ReadPdu,
+    /// position | octets: a header there
+    ReadHeader,
+    /// position, space | header: the header written there
+    WriteHeader,
+    /// function, position, n | octets: what it reads there. 0 skip, 1 what is left, 2 a slice, 3 into a buffer, 4 five and 5 six octets, 6 to 8 numbers
+    /// of 8, 16 and 32 bits
+    ReadAt,
+    /// function, position, space, n | octets: what it writes there. 0 skip, 1 space left, 2 a slice, 3 what of it fits, 4 to 6 numbers of 8, 16 and
+    /// 32 bits
+    WriteAt,
+    /// bits, position | octets: a UUID there
+    ReadUuid,
+    /// bits, position, space | octets: the UUID written there
+    WriteUuid,
+    /// list in use for scanning, for connecting, random | list, address: whether it passes
+    MayScan,
+    MayConnect,
+    /// list in use, random | list, address: whether it passes
+    ShouldScan,
+    /// | : the Flags of a start and of a beacon
+    NamedFlags,
+    /// | : the map of all channels
+    AllChannels,
     /// filter in use | list, entries of 272 octets: what a scanner that lives through them answers to each
     ScannerCalls,
     /// random, first and second buffer | address, calls of 272 octets: each call's answer and both buffers
     Calls,
 }
 
-pub const KINDS: [Kind; 28] = [
+pub const KINDS: [Kind; 40] = [
     Kind::Decode, Kind::Header, Kind::SetHeader, Kind::NewHeader, Kind::Build, Kind::BuildDirected, Kind::Whitelist,
     Kind::Area, Kind::Records, Kind::Known, Kind::Write, Kind::Rewrite, Kind::Flags, Kind::Utf8, Kind::Uuid16,
     Kind::Uuid32, Kind::UuidList, Kind::Later, Kind::Since, Kind::AdvertisingChannel, Kind::DataChannel, Kind::Map,
-    Kind::Events, Kind::Beacon, Kind::Scan, Kind::Scanner, Kind::ScannerCalls,
-    Kind::Calls,
+    Kind::Events, Kind::Beacon, Kind::Scan, Kind::Scanner, Kind::ReadPdu,
+    Kind::ReadHeader, Kind::WriteHeader, Kind::ReadAt, Kind::WriteAt, Kind::ReadUuid, Kind::WriteUuid, Kind::MayScan,
+    Kind::MayConnect, Kind::ShouldScan, Kind::NamedFlags, Kind::AllChannels, Kind::ScannerCalls, Kind::Calls,
 ];
 
 impl Kind {
     /// Whether an answer begins with the refusal's number, or 0.
     pub fn has_number(self) -> bool {
         use Kind::*;
-        !matches!(self, Uuid16 | Uuid32 | Later | Since | Map | Flags | Utf8)
+        !matches!(self, Uuid16 | Uuid32 | Later | Since | Map | Flags | Utf8 | NamedFlags | AllChannels)
     }
 
     /// Whether its second part is a list of calls.
@@ -101,8 +127,8 @@ impl Request {
     pub fn fixed(&self, part: usize) -> bool {
         match self.kind {
             Kind::Build | Kind::Beacon | Kind::Calls => part == 0,
-            Kind::BuildDirected | Kind::Map | Kind::Events => true,
-            Kind::Whitelist => part == 1,
+            Kind::BuildDirected | Kind::Map | Kind::Events | Kind::WriteUuid => true,
+            Kind::Whitelist | Kind::MayScan | Kind::MayConnect | Kind::ShouldScan => part == 1,
             _ => false,
         }
     }
@@ -128,16 +154,22 @@ pub fn hex(octets: &[u8]) -> String {
     octets.iter().map(|b| format!("{b:02x}")).collect()
 }
 
-/// The same for the eye: four equal octets and more as `00*4`, the calls of a list one by one.
+/// The same for the eye, `kind numbers | part | part`: four equal octets and more as `00*4`, the calls of a list one by one.
 pub fn brief(r: &Request) -> String {
-    let numbers: Vec<String> = r.numbers.iter().map(|n| n.to_string()).collect();
-    let mut parts: Vec<String> = r.parts.iter().map(|p| runs(p)).collect();
-    if r.kind.is_list() {
-        let calls: Vec<String> = r.parts[1].chunks_exact(CALL).map(|c| brief_call(r.kind, c)).collect();
-        parts[1] = calls.join("; ");
+    let mut text = format!("{:?}", r.kind);
+    for n in &r.numbers {
+        text += &format!(" {n}");
     }
-    let text = [format!("{:?}", r.kind), numbers.join(" "), parts.join(" | ")];
-    text.into_iter().filter(|t| !t.is_empty()).collect::<Vec<_>>().join(" ")
+    for (at, part) in r.parts.iter().enumerate() {
+        text += " | ";
+        if r.kind.is_list() && at == 1 {
+            let calls: Vec<String> = part.chunks_exact(CALL).map(|c| brief_call(r.kind, c)).collect();
+            text += &calls.join("; ");
+        } else {
+            text += &runs(part);
+        }
+    }
+    text
 }
 
 fn brief_call(kind: Kind, c: &[u8]) -> String {

@@ -45,7 +45,7 @@ fn near_miss(rng: &mut Rng) -> Heard {
     let mut h = beacon(rng);
     let entry = h.list.len() - 7;
     match rng.below(10) {
-        0 => h.header[0] = h.header[0] & 0xF0 | neighbour(rng, 2),
+        0 => h.header[0] = (h.header[0] & 0xF0) | neighbour(rng, 2),
         1 => h.crc_ok = false,
         2 => {
             h.payload.pop();
@@ -109,7 +109,7 @@ fn from_listed(rng: &mut Rng, list: &[u8]) -> Heard {
     if list.len() >= 7 && !rng.one_in(4) {
         let from = 7 * rng.below(list.len() / 7);
         write_over(&mut h.payload, 0, &list[from + 1..from + 7]);
-        h.header[0] = h.header[0] & 0xBF | (list[from] & 1) << 6;
+        h.header[0] = (h.header[0] & 0xBF) | (list[from] & 1) << 6;
         match rng.below(6) {
             0 => h.header[0] ^= 0x40,
             1 if h.payload.len() >= 6 => h.payload[rng.below(6)] ^= 1 << rng.below(8),

@@ -1,4 +1,6 @@
 //! rubble's answers. Where it panics, the number that document 01 gives (its rows marked P).
+mod basics;
+
 use crate::ours::pattern;
 use crate::request::{Kind, Request, CALL};
 use rubble::beacon::{Beacon, BeaconScanner, ScanCallback};
@@ -91,10 +93,14 @@ const ACCURACIES: [&str; 8] = [
 ];
 
 fn packet(header: Header, payload: &[u8], out: &mut Vec<u8>) {
-    let pdu = match Pdu::from_header_and_payload(header, &mut ByteReader::new(payload)) {
-        Ok(pdu) => pdu,
-        Err(e) => return out.push(number(e)),
-    };
+    match Pdu::from_header_and_payload(header, &mut ByteReader::new(payload)) {
+        Ok(pdu) => packet_of(pdu, payload.len(), out),
+        Err(e) => out.push(number(e)),
+    }
+}
+
+/// A PDU that was read from a payload of so many octets.
+fn packet_of(pdu: Pdu<'_>, len: usize, out: &mut Vec<u8>) {
     out.push(0);
     out.extend([u8::from(pdu.ty()), pdu.sender().is_random() as u8]);
     out.extend(pdu.sender().raw());
@@ -106,7 +112,7 @@ fn packet(header: Header, payload: &[u8], out: &mut Vec<u8>) {
         None => out.extend([0; 8]),
     }
     match pdu.advertising_data() {
-        Some(records) => out.extend([6, (payload.len() - 6) as u8, records.count() as u8]),
+        Some(records) => out.extend([6, (len - 6) as u8, records.count() as u8]),
         None => out.extend([0; 3]),
     }
     match pdu {
@@ -759,13 +765,6 @@ pub fn answer(r: &Request, out: &mut Vec<u8>) {
             let (a, b) = (address(&p[0], n[0] == 1), address(&p[1], n[1] == 1));
             frame(Ok(PduBuf::connectable_directed(a, b)), out)
         }
-        Kind::Whitelist => match whitelist(&p[0]) {
-            Ok(addresses) => {
-                let is = WhitelistFilter::from_slice(&addresses).matches(address(&p[1], n[0] == 1));
-                got(0, is as u64, 0, out)
-            }
-            Err(refused) => got(refused, 0, 0, out),
-        },
         Kind::Area => match list(&p[0]) {
             Ok(records) => got(0, records.len() as u64, 0, out),
             Err(refused) => got(refused, 0, 0, out),
@@ -884,6 +883,12 @@ pub fn answer(r: &Request, out: &mut Vec<u8>) {
         }
         Kind::ScannerCalls => scanner_calls(n[0] == 1, &p[0], &p[1], out),
         Kind::Calls => calls(r, out),
+        Kind::AllChannels => {
+            let map = ChannelMap::with_all_channels();
+            out.extend(map.to_raw());
+            out.push(map.num_used_channels());
+        }
+        _ => basics::answer(r, out),
     }
 }
 
