@@ -105,11 +105,7 @@ fn said_of(name: &str) -> &'static str {
 
 /// The seed and the parts that the arguments name.
 fn asked() -> (u64, Vec<Suite>) {
-    let mut words = std::env::args().skip(1).peekable();
-    if words.peek().is_some_and(|w| w == "--help" || w == "-h") {
-        print!("{USAGE}");
-        exit(0);
-    }
+    let mut words = std::env::args().skip(1);
     let seed = words.next().map_or(1, |w| w.parse().unwrap_or_else(|_| refuse(&format!("{w}: a seed is a number"))));
     let named = |w: String| *SUITES.iter().find(|s| s.0 == w).unwrap_or_else(|| refuse(&format!("{w}: no such part")));
     let parts: Vec<Suite> = words.map(named).collect();
