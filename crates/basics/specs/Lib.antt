@@ -1,5 +1,7 @@
-pub mod Reads
-pub mod Writes
-pub mod Uuids
+pub mod Areas
 pub mod At
 pub mod Filters
+pub mod Leaves
+pub mod Reads
+pub mod Uuids
+pub mod Writes

@@ -1,7 +1,9 @@
-// What rubble is compared with (compare/), the smaller parts: octets, UUIDs, headers and PDUs read and written at a position, and filters. The rest
-// is in `exports`, in the same form.
+// What rubble is compared with (compare/), the smaller parts, in the form of `exports`: octets, UUIDs, headers and PDUs at a position, instants,
+// channels, maps and hops, records and filters.
+pub mod areas;
 pub mod at;
 pub mod filters;
+pub mod leaves;
 pub mod reads;
 pub mod uuids;
 pub mod writes;

@@ -1,5 +1,3 @@
-pub mod Leaves
-pub mod Areas
 pub mod Packets
 pub mod Air
 pub mod Lists

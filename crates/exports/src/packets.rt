@@ -14,7 +14,6 @@ use answers::given::address;
 use answers::got::Got;
 use answers::got::found;
 use answers::got::refused;
-use octets::error::Error;
 
 // What a header says.
 #[repr(C)]

@@ -1,0 +1,362 @@
+/* The proved functions that can be linked, of libdecode.a, libexports.a and libbasics.a.
+ *
+ * `rt staticlib NAME` writes target/staticlib/libNAME.a. The archives are for x86-64 Linux. Of other libraries they call memcpy only; they allocate
+ * nothing and keep nothing between calls. Every input has an answer. From C: cc -Icompare/include PROGRAM.c target/staticlib/libdecode.a; from Rust:
+ * rustc -L native=target/staticlib -l static=decode PROGRAM.rs, with the structs as #[repr(C)] (compare/src/ours.rs has them all).
+ *
+ * A slice is a pointer and a length; the pointer is not null, also where the length is 0. No two buffers of a call overlap if one of them is
+ * written. A bool is 0 or 1.
+ *
+ * `number` in an answer is 0, or says why the call was refused:
+ *   1 a field, record or output needs more octets than there are     6 a channel map that marks no channel
+ *   2 a length that does not fit                                     7 a payload length to set outside 6 to 37
+ *   3 an unknown PDU type, a name that is not UTF-8, a bad list      8 a data channel above 36, a place that a map does not have
+ *   4 a header of under two octets                                   9 a record length above 255
+ *   5 the wrong mode
+ * What has no meaning in an answer is 0, save two fields of BoardPacket. A call that is refused leaves its buffers as they were.
+ *
+ * An address is six octets as they are sent, and whether it is random. A filter list is 7 octets for each address: 0 public or 1 random, then the six.
+ *
+ * A device or a scanner does not live across calls yet: board_call and board_scanner_call replay a list from a fresh one on and answer one more
+ * call. The list is octets, 272 for each call. */
+#ifndef BOARD_H
+#define BOARD_H
+
+#include <stdbool.h>
+#include <stddef.h>
+#include <stdint.h>
+
+#ifdef __cplusplus
+extern "C" {
+#endif
+
+/* Up to two numbers. */
+typedef struct BoardGot {
+    uint8_t number;
+    size_t first;
+    size_t second;
+} BoardGot;
+
+/* --- libdecode.a --- */
+
+/* A PDU. Its records are `count`, in the payload's `len` octets from `start` on. From `access_address` on: a connect request's, times in
+ * microseconds. After a refusal `ty` is 15, and without a connect request `window_end` is 1250. */
+typedef struct BoardPacket {
+    uint8_t number;
+    uint8_t ty;
+    bool sender_random;
+    uint8_t sender[6];
+    bool has_receiver;
+    bool receiver_random;
+    uint8_t receiver[6];
+    size_t start;
+    size_t len;
+    size_t count;
+    uint32_t access_address;
+    uint32_t crc_init;
+    uint32_t win_size;
+    uint32_t win_offset;
+    uint32_t window_end;
+    uint32_t interval;
+    uint16_t latency;
+    uint32_t timeout;
+    uint8_t map[5];
+    uint8_t map_count;
+    uint8_t hop;
+    uint8_t sca;
+} BoardPacket;
+
+/* Reads a PDU from its header and its payload. */
+BoardPacket board_decode(const uint8_t *header, size_t header_len, const uint8_t *payload, size_t payload_len);
+
+/* --- libexports.a: headers and PDUs --- */
+
+typedef struct BoardHead {
+    uint8_t number;
+    uint16_t raw;
+    uint8_t ty;
+    bool tx_add;
+    bool rx_add;
+    uint8_t length;
+    bool is_beacon;
+    bool allows_adv_data;
+} BoardHead;
+
+/* What a header says. */
+BoardHead board_header(const uint8_t *raw, size_t raw_len);
+
+/* first: a header of a type, and one that is given, with TxAdd, RxAdd and length set. */
+BoardGot board_new_header(uint8_t ty, bool tx_add, bool rx_add, uint8_t length);
+BoardGot board_set_header(const uint8_t *raw, size_t raw_len, bool tx_add, bool rx_add, uint8_t length);
+
+/* A built PDU: its header, and its payload with zeros behind it. */
+typedef struct BoardFrame {
+    uint8_t number;
+    uint16_t header;
+    uint8_t payload[37];
+} BoardFrame;
+
+/* Builds a PDU with records. which: 0 ADV_IND, 1 ADV_IND with Flags first, 2 ADV_NONCONN_IND, 3 a beacon, 4 SCAN_RSP, otherwise ADV_SCAN_IND. */
+BoardFrame board_build(uint8_t which, const uint8_t own[6], bool random, const uint8_t *records, size_t records_len);
+
+/* Builds an ADV_DIRECT_IND. */
+BoardFrame board_build_directed(const uint8_t own[6], bool random, const uint8_t other[6], bool other_random);
+
+/* --- libexports.a: a beacon, a scanner, a device --- */
+
+/* What is transmitted, and on which channels. */
+typedef struct BoardSent {
+    uint8_t number;
+    uint16_t header;
+    uint8_t first;
+    uint8_t second;
+    uint8_t third;
+} BoardSent;
+
+/* Makes a beacon and writes its payload to tx. */
+BoardSent board_beacon(const uint8_t own[6], bool random, const uint8_t *records, size_t records_len, uint8_t *tx, size_t tx_len);
+
+/* What a scanner says of a packet. The sender and the place of its records in the payload are those of a packet that is reported. */
+typedef struct BoardHeard {
+    uint8_t number;
+    bool reported;
+    bool random;
+    uint8_t sender[6];
+    size_t start;
+    size_t len;
+    size_t count;
+    uint8_t channel;
+} BoardHeard;
+
+/* A packet for a scanner after up to 3 timer updates, with a filter list in use or without. */
+BoardHeard board_scan(bool filtered, const uint8_t *list, size_t list_len, uint8_t updates, const uint8_t *header, size_t header_len, const uint8_t *payload, size_t payload_len, bool crc_ok);
+
+/* first: the channel that a scanner listens on after up to 3 timer updates, second: until when. */
+BoardGot board_scanner(uint32_t time, uint32_t interval, uint8_t updates);
+
+/* The same as BoardHeard, and the next instant. */
+typedef struct BoardListened {
+    uint8_t number;
+    bool reported;
+    bool random;
+    uint8_t sender[6];
+    size_t start;
+    size_t len;
+    size_t count;
+    uint8_t channel;
+    uint32_t next;
+} BoardListened;
+
+/* An entry for a scanner after the entries before it. An entry, numbers least significant octet first:
+ *   | 0 kind | 1 CRC good | 2 0 | 3 length n | 4 time 4 | 8 interval 4 | 12 header 2 | 14 payload, n of 258 |
+ * kind: 0 configure, 1 timer update, otherwise a packet. */
+BoardListened board_scanner_call(bool filtered, const uint8_t *list, size_t list_len, const uint8_t *entries, size_t entries_len, const uint8_t *entry, size_t entry_len);
+
+/* What a call answers, and the mode after it. kind: 0 refused, 1 sent, 2 listen, 3 respond, 4 first event, 5 next event, 6 stopped. */
+typedef struct BoardSaid {
+    uint8_t number;
+    uint8_t kind;
+    bool advertising;
+    bool connected;
+    uint8_t channel;
+    uint16_t header;
+    uint32_t at;
+    uint32_t access_address;
+    uint32_t crc_init;
+} BoardSaid;
+
+/* A call on a device after the calls before it. A call, numbers least significant octet first:
+ *   | 0 kind | 1 CRC good | 2 buffer | 3 length n | 4 time 4 | 8 interval 4 | 12 header 2 | 14 records or payload, n of 258 |
+ * kind: 0 start, 1 tick, 2 packet, 3 event, otherwise stop; buffer: 1 where a start or a tick writes to `second`. Both buffers go through all
+ * calls of the list. */
+BoardSaid board_call(const uint8_t own[6], bool random, const uint8_t *calls, size_t calls_len, const uint8_t *call, size_t call_len, uint8_t *first, size_t first_len, uint8_t *second, size_t second_len);
+
+/* --- libbasics.a: records --- */
+
+/* first: the number of records in an area. */
+BoardGot board_area(const uint8_t *s, size_t s_len);
+
+/* A record. kind: 0 the end of the area, 1 Flags, 2, 3 and 4 lists of UUIDs of 16, 32 and 128 bits, 5 service data, 6 a complete name, 7 a
+ * shortened one, 8 data of a manufacturer, 9 any other. value: the bits of Flags, a UUID, a company or a type. */
+typedef struct BoardStructure {
+    uint8_t number;
+    uint8_t kind;
+    bool complete;
+    uint16_t value;
+    size_t start;
+    size_t len;
+    size_t next;
+} BoardStructure;
+
+/* The record at a position; board_known reads it on to the kind that its type names. */
+BoardStructure board_record(const uint8_t *s, size_t s_len, size_t at);
+BoardStructure board_known(const uint8_t *s, size_t s_len, size_t at);
+
+/* Writes a record whose data lies in s; first: the position behind it. */
+BoardGot board_write(uint8_t kind, bool complete, uint16_t value, size_t start, size_t len, const uint8_t *s, size_t s_len, size_t at, uint8_t *out, size_t out_len);
+
+/* Reads an area and writes its records; first: the position behind them. */
+BoardGot board_rewrite(const uint8_t *s, size_t s_len, uint8_t *out, size_t out_len);
+
+/* first: the UUID of 16 bits at a position of a list, second: the position behind it, or the same position at the end. */
+BoardGot board_uuid_at(const uint8_t *data, size_t data_len, size_t at);
+
+typedef struct BoardFlagsSaid {
+    uint8_t bits;
+    bool classic;
+    bool limited;
+    bool general;
+    bool controller;
+    bool host;
+} BoardFlagsSaid;
+
+/* What the octet of a Flags record says. */
+BoardFlagsSaid board_flags(uint8_t octet);
+
+/* --- libbasics.a: UTF-8, UUIDs, instants, channels, maps, hops --- */
+
+bool board_utf8(const uint8_t *s, size_t s_len);
+
+typedef struct BoardUuid {
+    uint8_t octets[16];
+} BoardUuid;
+
+/* The full UUID of a short one, most significant octet first. */
+BoardUuid board_uuid16(uint16_t value);
+BoardUuid board_uuid32(uint32_t value);
+
+/* An instant so many microseconds later, and the microseconds from an earlier instant to another: modulo 2^32. */
+uint32_t board_later(uint32_t time, uint32_t micros);
+uint32_t board_since(uint32_t time, uint32_t earlier);
+
+typedef struct BoardChannel {
+    uint8_t number;
+    uint8_t index;
+    uint8_t rf_channel;
+    uint8_t whitening_iv;
+    uint16_t freq;
+} BoardChannel;
+
+/* The advertising channel after up to 3 steps from 37 on, and the data channel of an index. */
+BoardChannel board_advertising_channel(uint8_t times);
+BoardChannel board_data_channel(uint8_t index);
+
+typedef struct BoardMap {
+    uint8_t raw[5];
+    uint8_t count;
+} BoardMap;
+
+/* A channel map and its count; the one that marks all. */
+BoardMap board_map(const uint8_t raw[5]);
+BoardMap board_all_channels(void);
+
+/* first: 1 where a map marks a channel; the n-th channel that it marks. */
+BoardGot board_is_used(const uint8_t raw[5], uint8_t channel);
+BoardGot board_by_index(const uint8_t raw[5], uint8_t n);
+
+/* first: the next unmapped channel, second: the channel to use. */
+BoardGot board_hop(const uint8_t raw[5], uint8_t unmapped, uint8_t hop);
+
+/* --- libbasics.a: octets at a position, which may lie past the end --- */
+
+/* first: the position n octets on. */
+BoardGot board_skip(const uint8_t *s, size_t s_len, size_t at, size_t n);
+
+/* first: how many octets are left, second: 1 where there are none. */
+BoardGot board_bytes_left(const uint8_t *s, size_t s_len, size_t at);
+
+typedef struct BoardPart {
+    uint8_t number;
+    size_t start;
+    size_t len;
+    size_t next;
+} BoardPart;
+
+/* The place of n octets. */
+BoardPart board_read_slice(const uint8_t *s, size_t s_len, size_t at, size_t n);
+
+/* Fills dst; first: the position behind what was read. */
+BoardGot board_read_into(const uint8_t *s, size_t s_len, size_t at, uint8_t *dst, size_t dst_len);
+
+typedef struct BoardFive {
+    uint8_t number;
+    uint8_t octets[5];
+    size_t next;
+} BoardFive;
+
+typedef struct BoardSix {
+    uint8_t number;
+    uint8_t octets[6];
+    size_t next;
+} BoardSix;
+
+/* Five octets, and six. */
+BoardFive board_read_array5(const uint8_t *s, size_t s_len, size_t at);
+BoardSix board_read_array6(const uint8_t *s, size_t s_len, size_t at);
+
+/* first: a number, least significant octet first, second: the position behind it. */
+BoardGot board_read_u8(const uint8_t *s, size_t s_len, size_t at);
+BoardGot board_read_u16_le(const uint8_t *s, size_t s_len, size_t at);
+BoardGot board_read_u32_le(const uint8_t *s, size_t s_len, size_t at);
+
+/* first: the position n octets on, which are kept. */
+BoardGot board_write_skip(const uint8_t *out, size_t out_len, size_t at, size_t n);
+
+/* How many octets can be written. */
+size_t board_space_left(const uint8_t *out, size_t out_len, size_t at);
+
+/* Writes all or nothing; first: the position behind it. */
+BoardGot board_write_slice(uint8_t *out, size_t out_len, size_t at, const uint8_t *other, size_t other_len);
+BoardGot board_write_u8(uint8_t *out, size_t out_len, size_t at, uint8_t byte);
+BoardGot board_write_u16_le(uint8_t *out, size_t out_len, size_t at, uint16_t value);
+BoardGot board_write_u32_le(uint8_t *out, size_t out_len, size_t at, uint32_t value);
+
+/* Writes as many octets as there is space for; first: their number, second: the position behind them. */
+BoardGot board_write_slice_truncate(uint8_t *out, size_t out_len, size_t at, const uint8_t *other, size_t other_len);
+
+/* --- libbasics.a: UUIDs, headers and PDUs at a position --- */
+
+typedef struct BoardUuidRead {
+    uint8_t number;
+    uint8_t octets[16];
+    size_t next;
+} BoardUuidRead;
+
+/* first: a UUID, second: the position behind it. */
+BoardGot board_read_uuid16(const uint8_t *s, size_t s_len, size_t at);
+BoardGot board_read_uuid32(const uint8_t *s, size_t s_len, size_t at);
+BoardUuidRead board_read_uuid128(const uint8_t *s, size_t s_len, size_t at);
+
+/* first: the position behind a UUID that is written. */
+BoardGot board_write_uuid16(uint8_t *out, size_t out_len, size_t at, uint16_t value);
+BoardGot board_write_uuid32(uint8_t *out, size_t out_len, size_t at, uint32_t value);
+BoardGot board_write_uuid128(uint8_t *out, size_t out_len, size_t at, const uint8_t octets[16]);
+
+/* first: a header's 16 bits, second: the position behind it. */
+BoardGot board_read_header(const uint8_t *s, size_t s_len, size_t at);
+
+/* Writes the header of the two octets of raw; first: the position behind it. */
+BoardGot board_write_header(uint8_t *out, size_t out_len, size_t at, const uint8_t *raw, size_t raw_len);
+
+/* A PDU whose header begins at a position, and whose payload is all that follows it. */
+BoardPacket board_read_pdu(const uint8_t *s, size_t s_len, size_t at);
+
+/* --- libbasics.a: filters and Flags --- */
+
+/* first: 1 where a list holds an address. */
+BoardGot board_whitelist(const uint8_t *list, size_t list_len, const uint8_t octets[6], bool random);
+
+/* first: 1 where an address may scan, may connect, and is heard by a scanner. scan, connect: the list is in use for these. */
+BoardGot board_may_scan(bool scan, bool connect, const uint8_t *list, size_t list_len, const uint8_t octets[6], bool random);
+BoardGot board_may_connect(bool scan, bool connect, const uint8_t *list, size_t list_len, const uint8_t octets[6], bool random);
+BoardGot board_should_scan(bool scan, const uint8_t *list, size_t list_len, const uint8_t octets[6], bool random);
+
+/* The Flags of a start, and those of a beacon. */
+uint8_t board_discoverable_flags(void);
+uint8_t board_broadcast_flags(void);
+
+#ifdef __cplusplus
+}
+#endif
+
+#endif
