@@ -1,4 +1,4 @@
-//! Octets, UUIDs, headers and PDUs read and written at a position, and filters, from libbasics.a.
+//! Octets, UUIDs, headers and PDUs read and written at a position, and filters.
 use super::{array, got, packet, pattern, Got, In, Out, Packet};
 use crate::request::{Kind, Request};
 
