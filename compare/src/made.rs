@@ -1,222 +1,9 @@
 //! Requests: all of a small kind, and random ones from a seed.
-use crate::request::{Kind, Request, CALL};
-
-/// SplitMix64.
-#[derive(Clone)]
-pub struct Rng(pub u64);
-
-impl Rng {
-    pub fn next(&mut self) -> u64 {
-        self.0 = self.0.wrapping_add(0x9E37_79B9_7F4A_7C15);
-        let mut z = self.0;
-        z = (z ^ (z >> 30)).wrapping_mul(0xBF58_476D_1CE4_E5B9);
-        z = (z ^ (z >> 27)).wrapping_mul(0x94D0_49BB_1331_11EB);
-        z ^ (z >> 31)
-    }
-    pub fn below(&mut self, n: usize) -> usize {
-        (self.next() % n as u64) as usize
-    }
-    pub fn bit(&mut self) -> u64 {
-        self.next() & 1
-    }
-    pub fn octet(&mut self) -> u8 {
-        self.next() as u8
-    }
-    pub fn octets(&mut self, n: usize) -> Vec<u8> {
-        (0..n).map(|_| self.octet()).collect()
-    }
-    pub fn pick(&mut self, from: &[u8]) -> u8 {
-        from[self.below(from.len())]
-    }
-}
-
-/// One record that takes exactly n octets, n from 2 to 256.
-fn record(rng: &mut Rng, n: usize, out: &mut Vec<u8>) {
-    let data = n - 2;
-    let mut ty = rng.pick(&[1, 1, 2, 3, 4, 5, 6, 7, 8, 9, 9, 0x0A, 0x16, 0xFF, 0xFF, 0, 0x20, 0x80]);
-    if (ty == 1 && data != 1) || ((ty == 2 || ty == 3) && data % 2 == 1) {
-        ty = rng.pick(&[4, 5, 6, 7, 8, 9, 0x16, 0xFF, 0]);
-    }
-    out.push((n - 1) as u8);
-    out.push(ty);
-    for _ in 0..data {
-        out.push(if ty == 8 || ty == 9 { 0x20 + rng.octet() % 0x5F } else { rng.octet() });
-    }
-}
-
-/// Records that tile exactly n octets.
-pub fn area(rng: &mut Rng, n: usize) -> Vec<u8> {
-    let mut out = Vec::with_capacity(n);
-    while out.len() < n {
-        let left = n - out.len();
-        if left == 1 {
-            // A record of one octet does not exist: begin again.
-            if n == 1 {
-                return vec![0];
-            }
-            out.clear();
-            continue;
-        }
-        let size = match rng.below(4) {
-            0 => 3,
-            1 => 2 + rng.below(6),
-            2 => 2 + rng.below(20),
-            _ => left,
-        };
-        let size = size.clamp(2, 256).min(left);
-        record(rng, size, &mut out);
-    }
-    out
-}
-
-/// A small change of a good input.
-pub fn damage(rng: &mut Rng, octets: &mut Vec<u8>) {
-    if octets.is_empty() {
-        return octets.push(rng.octet());
-    }
-    let at = rng.below(octets.len());
-    match rng.below(6) {
-        0 => octets[at] ^= 1 << rng.below(8),
-        1 => octets[at] = rng.pick(&[0, 1, 2, 3, 0xFF]),
-        2 => {
-            octets.remove(at);
-        }
-        3 => octets.insert(at, rng.octet()),
-        4 => octets.truncate(at),
-        _ => octets[at] = rng.octet(),
-    }
-}
-
-/// A map with an interest of its own: few marks, runs, octets alone.
-pub fn map(rng: &mut Rng) -> [u8; 5] {
-    let mut map = [0; 5];
-    match rng.below(5) {
-        0 => {}
-        1 => map[rng.below(5)] = 1 << rng.below(8),
-        2 => map = [0xFF; 5],
-        3 => {
-            for octet in &mut map {
-                *octet = rng.pick(&[0, 0, 1, 0x80, 0xFF, 0x1F, 0xE0]);
-            }
-        }
-        _ => {
-            for octet in &mut map {
-                *octet = rng.octet();
-            }
-        }
-    }
-    map
-}
-
-pub fn connect_request(rng: &mut Rng, receiver: &[u8]) -> Vec<u8> {
-    let mut payload = rng.octets(34);
-    payload[6..12].copy_from_slice(receiver);
-    let map = map(rng);
-    payload[28..33].copy_from_slice(&map);
-    payload
-}
-
-/// A payload of n octets for a type, good where n allows it.
-pub fn payload(rng: &mut Rng, ty: u8, n: usize) -> Vec<u8> {
-    match ty {
-        0 | 2 | 4 | 6 if n >= 6 => {
-            let mut p = rng.octets(6);
-            p.extend(area(rng, n - 6));
-            p
-        }
-        _ => rng.octets(n),
-    }
-}
-
-/// Header and payload that agree, for one of the seven types; sometimes another type.
-pub fn packet(rng: &mut Rng) -> (Vec<u8>, Vec<u8>) {
-    let ty = if rng.below(12) == 0 { rng.octet() % 16 } else { rng.octet() % 7 };
-    let n = match rng.below(3) {
-        0 => rng.below(64),
-        1 => [0, 5, 6, 7, 8, 9, 11, 12, 13, 33, 34, 35, 37, 38, 63][rng.below(15)],
-        _ => 6 + rng.below(32),
-    };
-    let p = payload(rng, ty, n);
-    let header = vec![ty | (rng.octet() & 0xF0), n as u8 | (rng.octet() & 0xC0)];
-    (header, p)
-}
-
-// Calls that are likely in standby, advertising and connected.
-const KIND_NUMBERS: [[u8; 10]; 3] =
-    [[0, 0, 0, 0, 0, 0, 1, 2, 3, 4], [0, 1, 1, 1, 2, 2, 2, 2, 3, 5], [0, 1, 2, 3, 3, 3, 3, 3, 3, 4]];
-
-/// A list of calls. Packets are often for the device and often well-formed.
-pub fn calls(rng: &mut Rng) -> Request {
-    let own = if rng.bit() == 0 { vec![1, 2, 3, 4, 5, 6] } else { rng.octets(6) };
-    let random = rng.bit();
-    let count = 1 + rng.below(16);
-    let mut list = Vec::new();
-    // The mode as the calls are likely to make it.
-    let mut mode = 0;
-    for _ in 0..count {
-        let kind = rng.pick(&KIND_NUMBERS[mode]);
-        let mut c = vec![0; CALL];
-        c[0] = kind;
-        c[1] = (rng.below(6) != 0) as u8;
-        c[2] = (rng.below(5) == 0) as u8;
-        for octet in &mut c[4..12] {
-            *octet = if rng.bit() == 0 { rng.octet() } else { rng.pick(&[0, 0xFF]) };
-        }
-        mode = match kind {
-            0 => 1,
-            4.. => 0,
-            _ => mode,
-        };
-        let octets = match kind {
-            0 => {
-                let n = match rng.below(4) {
-                    0 => 0,
-                    1 => 2 + rng.below(24),
-                    2 => [26, 27, 28, 29, 30, 31, 32][rng.below(7)],
-                    _ => 2 + rng.below(64),
-                };
-                let mut a = area(rng, n);
-                if rng.below(6) == 0 {
-                    damage(rng, &mut a);
-                }
-                a
-            }
-            2 => {
-                let (mut header, mut p) = packet(rng);
-                if rng.below(4) != 0 {
-                    let ty = rng.pick(&[1, 1, 3, 3, 3, 5]);
-                    if ty == 5 && mode == 1 {
-                        mode = 2;
-                    }
-                    let mut to = own.clone();
-                    if rng.below(8) == 0 {
-                        damage(rng, &mut to);
-                        to.resize(6, 0);
-                    }
-                    p = connect_request(rng, &to);
-                    if ty != 5 {
-                        p.truncate(12 + rng.below(3));
-                    }
-                    let rx = if rng.below(8) == 0 { 1 - random } else { random };
-                    header = vec![ty | (rng.octet() & 0x70) | (rx as u8) << 7, p.len() as u8 | (rng.octet() & 0xC0)];
-                }
-                if rng.below(10) == 0 {
-                    damage(rng, &mut p);
-                }
-                c[12..14].copy_from_slice(&header);
-                p
-            }
-            _ => Vec::new(),
-        };
-        let n = octets.len().min(CALL - 14);
-        c[3] = n as u8;
-        c[14..14 + n].copy_from_slice(&octets[..n]);
-        list.extend(c);
-    }
-    let first = if rng.below(8) == 0 { rng.below(40) } else { 37 + rng.below(8) } as u64;
-    let second = rng.below(38) as u64;
-    Request::new(Kind::Calls, &[random, first, second], &[&own, &list])
-}
+use crate::device;
+use crate::inputs::{area, damage, packet, payload};
+use crate::request::{Kind, Request};
+use crate::rng::Rng;
+use crate::scanner::{heard, life};
 
 /// A share of the requests: those whose place is `mine` modulo `shares`.
 pub struct Share {
@@ -238,7 +25,7 @@ impl Share {
 
 pub type Each<'a> = &'a mut dyn FnMut(&Request);
 
-/// All headers with payloads of every length.
+/// All headers with payloads of every length; once also behind up to three octets of one slice.
 pub fn all_headers(share: &Share, each: Each) {
     let mut rng = Rng(share.seed);
     for variant in 0..3 {
@@ -254,19 +41,30 @@ pub fn all_headers(share: &Share, each: Each) {
                 })
             })
             .collect();
-        let mut r = Request::new(Kind::Decode, &[], &[&[0, 0], &[]]);
+        let mut apart = Request::new(Kind::Decode, &[], &[&[0, 0], &[]]);
+        let mut whole = Request::new(Kind::ReadPdu, &[0], &[&[]]);
         for header in (0..=0xFFFFu64).filter(|h| share.has(*h)) {
-            r.parts[0].copy_from_slice(&(header as u16).to_le_bytes());
+            apart.parts[0].copy_from_slice(&(header as u16).to_le_bytes());
             for of_length in &payloads {
-                r.parts[1].clear();
-                r.parts[1].extend_from_slice(&of_length[(header % 16) as usize]);
-                each(&r);
+                let payload = &of_length[(header % 16) as usize];
+                apart.parts[1].clear();
+                apart.parts[1].extend_from_slice(payload);
+                each(&apart);
+                if variant == 0 {
+                    let at = (header / 16 + payload.len() as u64) % 4;
+                    whole.numbers[0] = at;
+                    whole.parts[0].clear();
+                    whole.parts[0].extend_from_slice(&[5, 2, 7][..at as usize]);
+                    whole.parts[0].extend_from_slice(&apart.parts[0]);
+                    whole.parts[0].extend_from_slice(payload);
+                    each(&whole);
+                }
             }
         }
     }
 }
 
-/// Packets whose header counts the payload, and damaged ones.
+/// Packets whose header counts the payload, and damaged ones; each fourth also behind up to three octets of one slice.
 pub fn packets(share: &Share, count: u64, each: Each) {
     let mut rng = share.rng(2);
     for n in 0..count / share.shares {
@@ -281,6 +79,11 @@ pub fn packets(share: &Share, count: u64, each: Each) {
             header.truncate(rng.below(2));
         }
         each(&Request::new(Kind::Decode, &[], &[&header, &p]));
+        if n % 4 == 0 {
+            let at = rng.below(4);
+            let s = [&rng.octets(at), &header[..], &p].concat();
+            each(&Request::new(Kind::ReadPdu, &[at as u64], &[&s]));
+        }
     }
 }
 
@@ -397,69 +200,128 @@ pub fn maps(share: &Share, events: u64, each: Each) {
     }
 }
 
+/// Lists of up to 24 calls.
 pub fn lists(share: &Share, count: u64, each: Each) {
     let mut rng = share.rng(7);
     for _ in 0..count / share.shares {
-        each(&calls(&mut rng));
+        each(&device::short(&mut rng));
     }
 }
 
-/// Filter lists, good and damaged, with an address that is often in the list.
-fn filter(rng: &mut Rng, address: &[u8], random: u64) -> Vec<u8> {
-    let mut list = Vec::new();
-    for _ in 0..rng.below(5) {
-        list.push((rng.next() % 2) as u8);
-        if rng.bit() == 0 {
-            list.extend(rng.octets(6));
-        } else {
-            list.extend(address);
-            if rng.below(3) == 0 {
-                let at = list.len() - 1 - rng.below(6);
-                list[at] ^= 1;
-            } else if rng.bit() == 0 {
-                let at = list.len() - 7;
-                list[at] = random as u8;
-            }
-        }
+/// Lists of up to 400 calls. Ours answers each call from the list's first one on, so a list's time grows with the square of its length.
+pub fn long_lists(share: &Share, count: u64, each: Each) {
+    let mut rng = share.rng(11);
+    for _ in 0..count / share.shares {
+        each(&device::long(&mut rng));
     }
-    if rng.below(6) == 0 {
-        damage(rng, &mut list);
-    }
-    list
 }
 
+/// A packet for a new scanner, which filters or not, and the filter asked by itself; each 64th time with too short a header.
 pub fn scans(share: &Share, count: u64, each: Each) {
     let mut rng = share.rng(8);
     for turn in 0..count / share.shares {
-        let (mut header, mut p) = packet(&mut rng);
-        if rng.below(4) != 0 {
-            let n = rng.below(40);
-            p = payload(&mut rng, 2, n);
-            header = vec![2 | (rng.octet() & 0xF0), n as u8];
+        let mut h = heard(&mut rng);
+        let (random, sender) = (h.random(), h.sender());
+        each(&Request::new(Kind::Whitelist, &[random], &[&h.list, &sender]));
+        for kind in [Kind::MayScan, Kind::MayConnect] {
+            each(&Request::new(kind, &[rng.bit(), rng.bit(), random], &[&h.list, &sender]));
         }
-        if rng.below(6) == 0 {
-            damage(&mut rng, &mut p);
-        }
-        let mut sender = p.clone();
-        sender.resize(6, 0);
-        let random = (header[0] / 64 % 2) as u64;
-        let list = filter(&mut rng, &sender, random);
-        let crc = (rng.below(8) != 0) as u64;
-        let numbers = [rng.bit(), rng.below(4) as u64, crc];
-        each(&Request::new(Kind::Scan, &numbers, &[&list, &header, &p]));
+        each(&Request::new(Kind::ShouldScan, &[rng.bit(), random], &[&h.list, &sender]));
+        let filters = !rng.one_in(3) as u64;
+        let numbers = [filters, rng.below(4) as u64, h.crc_ok as u64];
+        each(&Request::new(Kind::Scan, &numbers, &[&h.list, &h.header, &h.payload]));
         if turn % 64 == 0 {
-            each(&Request::new(Kind::Scan, &numbers, &[&list, &header[..(turn / 64 % 2) as usize], &p]));
+            h.header.truncate((turn / 64 % 2) as usize);
+            each(&Request::new(Kind::Scan, &numbers, &[&h.list, &h.header, &h.payload]));
         }
-        each(&Request::new(Kind::Whitelist, &[random], &[&list, &sender]));
+    }
+}
+
+/// Scanners that live through up to 40 packets and timer updates, each 32nd through up to 400.
+pub fn scanners(share: &Share, count: u64, each: Each) {
+    let mut rng = share.rng(12);
+    for turn in 0..count / share.shares {
+        let entries = 1 + rng.below(if turn % 32 == 0 { 400 } else { 40 });
+        each(&life(&mut rng, entries));
+    }
+}
+
+/// Sizes around what is left at a position.
+fn around(left: u64) -> [u64; 5] {
+    [0, 1, left.saturating_sub(1), left, left + 1]
+}
+
+/// Each reader at a position of s.
+fn reads(s: &[u8], at: u64, each: Each) {
+    let left = (s.len() as u64).saturating_sub(at);
+    for which in [0, 2, 3] {
+        for n in around(left) {
+            each(&Request::new(Kind::ReadAt, &[which, at, n], &[s]));
+        }
+    }
+    for which in [0, 2] {
+        each(&Request::new(Kind::ReadAt, &[which, at, u64::MAX], &[s]));
+    }
+    for which in [1, 4, 5, 6, 7, 8] {
+        each(&Request::new(Kind::ReadAt, &[which, at, 0], &[s]));
+    }
+    for bits in [16, 32, 128] {
+        each(&Request::new(Kind::ReadUuid, &[bits, at], &[s]));
+    }
+    each(&Request::new(Kind::ReadHeader, &[at], &[s]));
+    each(&Request::new(Kind::ReadPdu, &[at], &[s]));
+}
+
+/// Each writer at a position of so many octets.
+fn writes(rng: &mut Rng, space: u64, at: u64, each: Each) {
+    let left = space.saturating_sub(at);
+    for n in around(left) {
+        each(&Request::new(Kind::WriteAt, &[0, at, space, n], &[&[]]));
+        let data = rng.octets(n as usize);
+        for which in [2, 3] {
+            each(&Request::new(Kind::WriteAt, &[which, at, space, 0], &[&data]));
+        }
+    }
+    each(&Request::new(Kind::WriteAt, &[0, at, space, u64::MAX], &[&[]]));
+    for which in [1, 4, 5, 6] {
+        each(&Request::new(Kind::WriteAt, &[which, at, space, rng.next()], &[&[]]));
+    }
+    for bits in [16, 32, 128] {
+        each(&Request::new(Kind::WriteUuid, &[bits, at, space], &[&rng.octets(16)]));
+    }
+    let header = rng.octets(2);
+    let kept = if rng.one_in(16) { 1 } else { 2 };
+    each(&Request::new(Kind::WriteHeader, &[at, space], &[&header[..kept]]));
+}
+
+/// Readers and writers at each position of slices of up to 24 octets and of a longer one, and past the end.
+pub fn positions(share: &Share, rounds: u64, each: Each) {
+    let mut rng = share.rng(13);
+    for round in 0..rounds / share.shares {
+        let longer = 25 + rng.below(276);
+        for len in (0..=24).chain([longer]) {
+            let s = rng.octets(len);
+            for at in (0..=len as u64 + 2).chain([u64::MAX - 1, u64::MAX]) {
+                if len < 25 || (at + round) % 8 == 0 {
+                    reads(&s, at, each);
+                    writes(&mut rng, len as u64, at, each);
+                }
+            }
+        }
     }
 }
 
 /// Headers, UUIDs, channels, Flags, instants and UTF-8: all of each where that is a small number.
 pub fn small_things(share: &Share, each: Each) {
     let mut rng = share.rng(9);
+    each(&Request::new(Kind::NamedFlags, &[], &[]));
+    each(&Request::new(Kind::AllChannels, &[], &[]));
     for value in (0..=0xFFFFu64).filter(|v| share.has(*v)) {
         let raw = (value as u16).to_le_bytes();
         each(&Request::new(Kind::Header, &[], &[&raw]));
+        let at = value / 16 % 4;
+        each(&Request::new(Kind::ReadHeader, &[at], &[&[&[9; 3][..at as usize], &raw].concat()]));
+        each(&Request::new(Kind::WriteHeader, &[at, at + 3], &[&raw]));
         each(&Request::new(Kind::Uuid16, &[value], &[]));
         for bits in 0..4 {
             for length in [6, 21, 37] {

@@ -1,25 +1,46 @@
-//! Compares the translation with rubble: `compare [SEED [WORD]]`, with a word only the parts whose name has it. Exits with 1 at the first difference, and prints the smallest request that it finds.
-use compare::made::{self, Share};
-use compare::request::{hex, line, Kind, Request, KINDS};
+//! Compares the translation with rubble; `usage.txt` says how it is called and how it ends.
+use compare::counts::Counts;
+use compare::made::{self, Each, Share};
+use compare::request::{brief, hex, line, Request, CALL};
+use compare::shrink::smallest;
 use compare::{ours, theirs};
+use std::io::IsTerminal;
 use std::panic::{catch_unwind, AssertUnwindSafe};
+use std::process::exit;
 use std::sync::atomic::{AtomicBool, AtomicU64, Ordering};
 use std::sync::Mutex;
 use std::time::{Duration, Instant};
 
-static RESULTS: AtomicU64 = AtomicU64::new(0);
-static TALLY: Mutex<Tally> = Mutex::new([[0; 10]; KINDS.len()]);
-static DONE: AtomicBool = AtomicBool::new(false);
+const USAGE: &str = include_str!("usage.txt");
 
-/// How often each kind of request gave each first octet, which is mostly the refusal's number; of a list, each call's.
-type Tally = [[u64; 10]; KINDS.len()];
+type Suite = (&'static str, fn(&Share, Each));
+
+/// The parts by their names, with the number of requests that each makes.
+const SUITES: [Suite; 13] = [
+    ("headers", |s, e| made::all_headers(s, e)),
+    ("packets", |s, e| made::packets(s, 8_000_000, e)),
+    ("few-octets", |s, e| made::small_areas(s, e)),
+    ("areas", |s, e| made::areas(s, 2_000, e)),
+    ("writers", |s, e| made::writers(s, 40, e)),
+    ("maps", |s, e| made::maps(s, 40, e)),
+    ("lists", |s, e| made::lists(s, 450_000, e)),
+    ("long-lists", |s, e| made::long_lists(s, 6_000, e)),
+    ("scans", |s, e| made::scans(s, 2_000_000, e)),
+    ("scanners", |s, e| made::scanners(s, 150_000, e)),
+    ("positions", |s, e| made::positions(s, 200, e)),
+    ("small", |s, e| made::small_things(s, e)),
+    ("utf8", |s, e| made::strings(s, e)),
+];
+
+static MADE: AtomicU64 = AtomicU64::new(0);
+static DONE: AtomicBool = AtomicBool::new(false);
 
 #[derive(Default)]
 struct Both {
     ours: Vec<u8>,
     theirs: Vec<u8>,
-    counted: u64,
-    tally: Tally,
+    counts: Counts,
+    unsaid: u64,
 }
 
 impl Both {
@@ -37,124 +58,121 @@ impl Both {
         if !self.agree(r) {
             self.report(r);
         }
-        let results = match r.kind {
-            // A call's answer has 19 octets and both buffers, an event's two.
-            Kind::Calls => self.ours.len() as u64 / (19 + r.numbers[1] + r.numbers[2]),
-            Kind::Events => self.ours.len() as u64 / 2,
-            _ => 1,
-        };
-        let row = &mut self.tally[r.kind as usize];
-        match r.kind {
-            Kind::Calls => {
-                let size = 19 + (r.numbers[1] + r.numbers[2]) as usize;
-                self.ours.chunks_exact(size).for_each(|a| row[a[0] as usize % 10] += 1);
-            }
-            Kind::Uuid16 | Kind::Uuid32 | Kind::Later | Kind::Since | Kind::Map | Kind::Flags | Kind::Utf8 => row[0] += 1,
-            Kind::Events => row[self.ours[0] as usize % 10] += results,
-            _ => row[self.ours[0] as usize % 10] += 1,
-        }
-        self.counted += results;
-        if self.counted >= 4096 {
-            RESULTS.fetch_add(self.counted, Ordering::Relaxed);
-            self.counted = 0;
+        self.unsaid += self.counts.count(r, &self.ours);
+        if self.unsaid >= 4096 {
+            self.say();
         }
     }
 
-    /// The smallest request with a difference, step by step.
+    /// Adds to the number that the progress shows.
+    fn say(&mut self) {
+        MADE.fetch_add(self.unsaid, Ordering::Relaxed);
+        self.unsaid = 0;
+    }
+
     fn report(&mut self, r: &Request) -> ! {
         if DONE.swap(true, Ordering::SeqCst) {
             loop {
                 std::thread::park();
             }
         }
-        let mut least = r.clone();
-        'smaller: loop {
-            for less in least.smaller() {
-                let differs = catch_unwind(AssertUnwindSafe(|| !self.agree(&less))).unwrap_or(false);
-                if differs {
-                    least = less;
-                    continue 'smaller;
-                }
-            }
-            break;
-        }
+        let mut differs = |less: &Request| catch_unwind(AssertUnwindSafe(|| !self.agree(less))).unwrap_or(false);
+        let least = smallest(r, &mut differs);
         self.agree(&least);
-        println!("\ndifference: {:?} {:x?}", least.kind, least.numbers);
-        for part in &least.parts {
-            println!("  octets  {}", hex(part));
-        }
+        println!("\ndifference: {}", brief(&least));
         println!("  ours    {}", hex(&self.ours));
         println!("  rubble  {}", hex(&self.theirs));
         println!("  request {}", line(&least));
-        println!("found in  {}", line(r));
-        std::process::exit(1);
+        if r.kind.is_list() {
+            println!("found in a list of {} calls", r.parts[1].len() / CALL);
+        } else {
+            println!("found in  {}", line(r));
+        }
+        exit(1);
     }
 }
 
+fn refuse(why: &str) -> ! {
+    eprintln!("compare: {why}\n\n{USAGE}");
+    exit(2);
+}
+
+/// A part's line of the usage.
+fn said_of(name: &str) -> &'static str {
+    let of_part = |line: &&str| line.split_whitespace().next() == Some(name) && line.starts_with("  ");
+    USAGE.lines().find(of_part).expect("the usage has each part").trim()
+}
+
+/// The seed and the parts that the arguments name.
+fn asked() -> (u64, Vec<Suite>) {
+    let mut words = std::env::args().skip(1);
+    let seed = words.next().map_or(1, |w| w.parse().unwrap_or_else(|_| refuse(&format!("{w}: a seed is a number"))));
+    let named = |w: String| *SUITES.iter().find(|s| s.0 == w).unwrap_or_else(|| refuse(&format!("{w}: no such part")));
+    let parts: Vec<Suite> = words.map(named).collect();
+    (seed, if parts.is_empty() { SUITES.to_vec() } else { parts })
+}
+
+/// Shows how far a part has got: on a terminal in one line, else a line every ten seconds.
+fn progress(name: &str, before: u64, threads: &[std::thread::ScopedJoinHandle<()>]) {
+    let terminal = std::io::stderr().is_terminal();
+    let (begun, mut shown) = (Instant::now(), 0);
+    while threads.iter().any(|t| !t.is_finished()) {
+        std::thread::sleep(Duration::from_millis(20));
+        let now = begun.elapsed().as_secs() / if terminal { 1 } else { 10 };
+        if now > shown {
+            shown = now;
+            let made = MADE.load(Ordering::Relaxed) - before;
+            let seconds = begun.elapsed().as_secs();
+            if terminal {
+                eprint!("\r{name}: {made} comparisons, {seconds} s ..");
+            } else {
+                eprintln!("{name}: {made} comparisons, {seconds} s ..");
+            }
+        }
+    }
+    if terminal && shown > 0 {
+        eprint!("\r\x1b[K");
+    }
+}
+
+/// Runs a part on all threads.
+fn run(suite: Suite, seed: u64, shares: u64, all: &Mutex<Counts>) {
+    let before = MADE.load(Ordering::Relaxed);
+    let begun = Instant::now();
+    std::thread::scope(|scope| {
+        let one = |mine| {
+            let mut both = Both::default();
+            suite.1(&Share { mine, shares, seed }, &mut |r| both.compare(r));
+            both.say();
+            all.lock().expect("no thread fails with it").add(&both.counts);
+        };
+        let threads: Vec<_> = (0..shares).map(|mine| scope.spawn(move || one(mine))).collect();
+        progress(suite.0, before, &threads);
+        if threads.into_iter().any(|t| t.join().is_err()) {
+            println!("{}: the comparison itself failed", suite.0);
+            exit(2);
+        }
+    });
+    let made = MADE.load(Ordering::Relaxed) - before;
+    println!("{}: {made} comparisons, {:.1} s", said_of(suite.0), begun.elapsed().as_secs_f64());
+}
+
 fn main() {
-    let seed = match std::env::args().nth(1) {
-        Some(text) => text.parse().expect("a seed is a number"),
-        None => 1,
-    };
-    let word = std::env::args().nth(2).unwrap_or_default();
+    let (seed, parts) = asked();
     // rubble's panics are answers here.
     std::panic::set_hook(Box::new(|_| {}));
     let shares = std::thread::available_parallelism().map_or(2, |n| n.get()) as u64;
     let begun = Instant::now();
-    println!("seed {seed}, {shares} threads");
-    type Suite = (&'static str, fn(&Share, made::Each));
-    let suites: [Suite; 10] = [
-        ("all headers, payloads of 0 to 255 octets", |s, e| made::all_headers(s, e)),
-        ("packets, good and damaged", |s, e| made::packets(s, 8_000_000, e)),
-        ("areas of up to three octets", |s, e| made::small_areas(s, e)),
-        ("areas of every length, builders, beacons", |s, e| made::areas(s, 2_000, e)),
-        ("records written", |s, e| made::writers(s, 40, e)),
-        ("maps and all hops", |s, e| made::maps(s, 40, e)),
-        ("lists of calls", |s, e| made::lists(s, 1_000_000, e)),
-        ("scanner and filters", |s, e| made::scans(s, 2_000_000, e)),
-        ("headers, UUIDs, channels, Flags, instants", |s, e| made::small_things(s, e)),
-        ("UTF-8", |s, e| made::strings(s, e)),
-    ];
-    for (name, suite) in suites.into_iter().filter(|s| s.0.contains(&word)) {
-        let before = RESULTS.load(Ordering::Relaxed);
-        let started = Instant::now();
-        std::thread::scope(|scope| {
-            let threads: Vec<_> = (0..shares)
-                .map(|mine| {
-                    scope.spawn(move || {
-                        let share = Share { mine, shares, seed };
-                        let mut both = Both::default();
-                        suite(&share, &mut |r| both.compare(r));
-                        RESULTS.fetch_add(both.counted, Ordering::Relaxed);
-                        let mut all = TALLY.lock().unwrap();
-                        for (row, mine) in all.iter_mut().zip(both.tally) {
-                            row.iter_mut().zip(mine).for_each(|(sum, n)| *sum += n);
-                        }
-                    })
-                })
-                .collect();
-            while threads.iter().any(|t| !t.is_finished()) {
-                std::thread::sleep(Duration::from_millis(50));
-                if started.elapsed().as_millis() % 2000 < 50 {
-                    eprint!("\r{name}: {} ..", RESULTS.load(Ordering::Relaxed) - before);
-                }
-            }
-            for thread in threads {
-                if thread.join().is_err() {
-                    println!("{name}: the comparison itself failed");
-                    std::process::exit(2);
-                }
-            }
-        });
-        let count = RESULTS.load(Ordering::Relaxed) - before;
-        eprint!("\r");
-        println!("{name}: {count} comparisons, {:.1} s", started.elapsed().as_secs_f64());
+    println!("seed {seed}, {shares} threads, {} of {} parts", parts.len(), SUITES.len());
+    let counts = Mutex::new(Counts::default());
+    for suite in parts {
+        run(suite, seed, shares, &counts);
     }
-    println!("by kind, with its refusals by number:");
-    for (kind, row) in KINDS.iter().zip(*TALLY.lock().unwrap()).filter(|k| k.1.iter().any(|n| *n > 0)) {
-        let refused: Vec<String> = (1..10).filter(|n| row[*n] > 0).map(|n| format!("{n}: {}", row[n])).collect();
-        println!("  {kind:?} {} {}", row.iter().sum::<u64>(), refused.join(", "));
+    let counts = counts.into_inner().expect("no thread fails with it");
+    if counts.total() == 0 {
+        println!("no comparison was made");
+        exit(2);
     }
-    let total = RESULTS.load(Ordering::Relaxed);
-    println!("{total} comparisons, no difference, {:.1} s", begun.elapsed().as_secs_f64());
+    counts.print();
+    println!("{} comparisons, no difference, {:.1} s", counts.total(), begun.elapsed().as_secs_f64());
 }

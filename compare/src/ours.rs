@@ -1,4 +1,6 @@
-//! The translation's answers, from libexports.a and libdecode.a.
+//! The translation's answers, from libexports.a, libdecode.a and libbasics.a.
+mod basics;
+
 use crate::request::{Kind, Request, CALL};
 
 // A slice crosses as a pointer and a length.
@@ -121,6 +123,19 @@ struct Heard {
 }
 
 #[repr(C)]
+struct Listened {
+    number: u8,
+    reported: bool,
+    random: bool,
+    sender: [u8; 6],
+    start: usize,
+    len: usize,
+    count: usize,
+    channel: u8,
+    next: u32,
+}
+
+#[repr(C)]
 struct Said {
     number: u8,
     kind: u8,
@@ -140,7 +155,6 @@ extern "C" {
     fn board_new_header(ty: u8, tx_add: bool, rx_add: bool, length: u8) -> Got;
     fn board_build(which: u8, own: *const [u8; 6], random: bool, records: In, records_len: usize) -> Frame;
     fn board_build_directed(own: *const [u8; 6], random: bool, other: *const [u8; 6], other_random: bool) -> Frame;
-    fn board_whitelist(list: In, list_len: usize, octets: *const [u8; 6], random: bool) -> Got;
     fn board_area(s: In, s_len: usize) -> Got;
     fn board_record(s: In, s_len: usize, at: usize) -> Structure;
     fn board_known(s: In, s_len: usize, at: usize) -> Structure;
@@ -159,6 +173,7 @@ extern "C" {
     fn board_advertising_channel(times: u8) -> Channel;
     fn board_data_channel(index: u8) -> Channel;
     fn board_map(raw: *const [u8; 5]) -> Map;
+    fn board_all_channels() -> Map;
     fn board_is_used(raw: *const [u8; 5], channel: u8) -> Got;
     fn board_by_index(raw: *const [u8; 5], n: u8) -> Got;
     fn board_hop(raw: *const [u8; 5], unmapped: u8, hop: u8) -> Got;
@@ -170,6 +185,9 @@ extern "C" {
         payload_len: usize, crc_ok: bool,
     ) -> Heard;
     fn board_scanner(time: u32, interval: u32, updates: u8) -> Got;
+    fn board_scanner_call(
+        filtered: bool, list: In, list_len: usize, entries: In, entries_len: usize, entry: In, entry_len: usize,
+    ) -> Listened;
     fn board_call(
         own: *const [u8; 6], random: bool, calls: In, calls_len: usize, call: In, call_len: usize, first: Out,
         first_len: usize, second: Out, second_len: usize,
@@ -259,7 +277,6 @@ pub fn answer(r: &Request, out: &mut Vec<u8>) {
                 out.extend(f.header.to_le_bytes());
                 out.extend(f.payload);
             }
-            Kind::Whitelist => got(board_whitelist(p[0].as_ptr(), p[0].len(), &array(&p[1]), n[0] == 1), out),
             Kind::Area => got(board_area(p[0].as_ptr(), p[0].len()), out),
             Kind::Records => structures(&p[0], board_record, out),
             Kind::Known => structures(&p[0], board_known, out),
@@ -343,7 +360,14 @@ pub fn answer(r: &Request, out: &mut Vec<u8>) {
                 out.extend([h.start as u8, h.len as u8, h.count as u8, h.channel]);
             }
             Kind::Scanner => got(board_scanner(n[0] as u32, n[1] as u32, n[2] as u8), out),
+            Kind::ScannerCalls => scanner_calls(r.numbers[0] == 1, &r.parts[0], &r.parts[1], out),
             Kind::Calls => calls(r, out),
+            Kind::AllChannels => {
+                let m = board_all_channels();
+                out.extend(m.raw);
+                out.push(m.count);
+            }
+            _ => basics::answer(r, out),
         }
     }
 }
@@ -371,5 +395,21 @@ fn calls(r: &Request, out: &mut Vec<u8>) {
         out.extend([s.at, s.access_address, s.crc_init].iter().flat_map(|n| n.to_le_bytes()));
         out.extend(first);
         out.extend(second);
+    }
+}
+
+/// Each entry is answered after those before it, from a fresh scanner on.
+fn scanner_calls(filters: bool, list: &[u8], entries: &[u8], out: &mut Vec<u8>) {
+    for at in (0..entries.len() / CALL).map(|i| i * CALL) {
+        let entry = &entries[at..at + CALL];
+        let l = unsafe {
+            board_scanner_call(
+                filters, list.as_ptr(), list.len(), entries.as_ptr(), at, entry.as_ptr(), entry.len(),
+            )
+        };
+        out.extend([l.number, l.reported as u8, l.random as u8]);
+        out.extend(l.sender);
+        out.extend([l.start as u8, l.len as u8, l.count as u8, l.channel]);
+        out.extend(l.next.to_le_bytes());
     }
 }

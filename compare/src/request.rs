@@ -1,4 +1,4 @@
-//! Requests, and smaller ones than a given one.
+//! Requests.
 
 /// The kinds of requests: numbers and octets that each takes, and what is answered.
 #[derive(Copy, Clone, Debug, PartialEq, Eq, Hash)]
@@ -55,19 +55,61 @@ pub enum Kind {
     Scan,
     /// time, interval, updates: channel and next instant
     Scanner,
-    /// random, first and second buffer | address, calls of 80 octets: each call's answer and both buffers
+    /// position | octets: a PDU whose header begins there
+    ReadPdu,
+    /// position | octets: a header there
+    ReadHeader,
+    /// position, space | header: the header written there
+    WriteHeader,
+    /// function, position, n | octets: what it reads there. 0 skip, 1 what is left, 2 a slice, 3 into a buffer, 4 five and 5 six octets, 6 to 8 numbers
+    /// of 8, 16 and 32 bits
+    ReadAt,
+    /// function, position, space, n | octets: what it writes there. 0 skip, 1 space left, 2 a slice, 3 what of it fits, 4 to 6 numbers of 8, 16 and
+    /// 32 bits
+    WriteAt,
+    /// bits, position | octets: a UUID there
+    ReadUuid,
+    /// bits, position, space | octets: the UUID written there
+    WriteUuid,
+    /// list in use for scanning, for connecting, random | list, address: whether it passes
+    MayScan,
+    MayConnect,
+    /// list in use, random | list, address: whether it passes
+    ShouldScan,
+    /// | : the Flags of a start and of a beacon
+    NamedFlags,
+    /// | : the map of all channels
+    AllChannels,
+    /// filter in use | list, entries of 272 octets: what a scanner that lives through them answers to each
+    ScannerCalls,
+    /// random, first and second buffer | address, calls of 272 octets: each call's answer and both buffers
     Calls,
 }
 
-pub const KINDS: [Kind; 27] = [
+pub const KINDS: [Kind; 40] = [
     Kind::Decode, Kind::Header, Kind::SetHeader, Kind::NewHeader, Kind::Build, Kind::BuildDirected, Kind::Whitelist,
     Kind::Area, Kind::Records, Kind::Known, Kind::Write, Kind::Rewrite, Kind::Flags, Kind::Utf8, Kind::Uuid16,
     Kind::Uuid32, Kind::UuidList, Kind::Later, Kind::Since, Kind::AdvertisingChannel, Kind::DataChannel, Kind::Map,
-    Kind::Events, Kind::Beacon, Kind::Scan, Kind::Scanner, Kind::Calls,
+    Kind::Events, Kind::Beacon, Kind::Scan, Kind::Scanner, Kind::ReadPdu,
+    Kind::ReadHeader, Kind::WriteHeader, Kind::ReadAt, Kind::WriteAt, Kind::ReadUuid, Kind::WriteUuid, Kind::MayScan,
+    Kind::MayConnect, Kind::ShouldScan, Kind::NamedFlags, Kind::AllChannels, Kind::ScannerCalls, Kind::Calls,
 ];
 
-/// Octets of a call in a list of calls.
-pub const CALL: usize = 80;
+impl Kind {
+    /// Whether an answer begins with the refusal's number, or 0.
+    pub fn has_number(self) -> bool {
+        use Kind::*;
+        !matches!(self, Uuid16 | Uuid32 | Later | Since | Map | Flags | Utf8 | NamedFlags | AllChannels)
+    }
+
+    /// Whether its second part is a list of calls.
+    pub fn is_list(self) -> bool {
+        matches!(self, Kind::Calls | Kind::ScannerCalls)
+    }
+}
+
+/// Octets of a call in a list of calls, on a device or on a scanner.
+pub const CALL: usize = 272;
 
 #[derive(Clone, Debug, PartialEq, Eq)]
 pub struct Request {
@@ -82,62 +124,13 @@ impl Request {
     }
 
     /// Parts whose length is fixed: addresses and maps.
-    fn fixed(&self, part: usize) -> bool {
+    pub fn fixed(&self, part: usize) -> bool {
         match self.kind {
             Kind::Build | Kind::Beacon | Kind::Calls => part == 0,
-            Kind::BuildDirected | Kind::Map | Kind::Events => true,
-            Kind::Whitelist => part == 1,
+            Kind::BuildDirected | Kind::Map | Kind::Events | Kind::WriteUuid => true,
+            Kind::Whitelist | Kind::MayScan | Kind::MayConnect | Kind::ShouldScan => part == 1,
             _ => false,
         }
-    }
-
-    /// Requests that are a little smaller.
-    pub fn smaller(&self) -> Vec<Request> {
-        let mut found = Vec::new();
-        for (p, part) in self.parts.iter().enumerate() {
-            let unit = if self.kind == Kind::Calls && p == 1 { CALL } else { 1 };
-            if !self.fixed(p) {
-                for size in [part.len() / 2, unit] {
-                    let size = size / unit * unit;
-                    if size == 0 {
-                        continue;
-                    }
-                    for at in (0..part.len()).step_by(size) {
-                        let mut r = self.clone();
-                        r.parts[p].drain(at..(at + size).min(part.len()));
-                        found.push(r);
-                    }
-                }
-            }
-            for at in 0..part.len() {
-                for less in [0, part[at] / 2, part[at].saturating_sub(1)] {
-                    if less < part[at] {
-                        let mut r = self.clone();
-                        r.parts[p][at] = less;
-                        found.push(r);
-                    }
-                }
-            }
-        }
-        for n in 0..self.numbers.len() {
-            for less in [0, self.numbers[n] / 2, self.numbers[n].saturating_sub(1)] {
-                if less < self.numbers[n] {
-                    let mut r = self.clone();
-                    r.numbers[n] = less;
-                    found.push(r);
-                }
-            }
-        }
-        // A header and the payload that it counts shrink together.
-        if self.kind == Kind::Decode && self.parts[0].len() == 2 && !self.parts[1].is_empty() && self.parts[0][1] > 0 {
-            for at in 0..self.parts[1].len() {
-                let mut r = self.clone();
-                r.parts[1].remove(at);
-                r.parts[0][1] -= 1;
-                found.push(r);
-            }
-        }
-        found
     }
 }
 
@@ -159,4 +152,50 @@ pub fn hex(octets: &[u8]) -> String {
         return "-".to_string();
     }
     octets.iter().map(|b| format!("{b:02x}")).collect()
+}
+
+/// The same for the eye, `kind numbers | part | part`: four equal octets and more as `00*4`, the calls of a list one by one.
+pub fn brief(r: &Request) -> String {
+    let mut text = format!("{:?}", r.kind);
+    for n in &r.numbers {
+        text += &format!(" {n}");
+    }
+    for (at, part) in r.parts.iter().enumerate() {
+        text += " | ";
+        if r.kind.is_list() && at == 1 {
+            let calls: Vec<String> = part.chunks_exact(CALL).map(|c| brief_call(r.kind, c)).collect();
+            text += &calls.join("; ");
+        } else {
+            text += &runs(part);
+        }
+    }
+    text
+}
+
+fn brief_call(kind: Kind, c: &[u8]) -> String {
+    let octets = runs(&c[14..14 + c[3] as usize]);
+    match (kind, c[0]) {
+        (Kind::Calls, 0) => format!("start {octets}"),
+        (Kind::Calls, 1) => "tick".to_string(),
+        (Kind::Calls, 3) => "event".to_string(),
+        (Kind::Calls, 4..) => "stop".to_string(),
+        (Kind::ScannerCalls, 0) => "configure".to_string(),
+        (Kind::ScannerCalls, 1) => "update".to_string(),
+        _ => format!("packet {} {octets}{}", hex(&c[12..14]), if c[1] == 1 { "" } else { ", CRC bad" }),
+    }
+}
+
+fn runs(octets: &[u8]) -> String {
+    if octets.is_empty() {
+        return "-".to_string();
+    }
+    let mut text = String::new();
+    for run in octets.chunk_by(|a, b| a == b) {
+        if run.len() >= 4 {
+            text += &format!(" {:02x}*{} ", run[0], run.len());
+        } else {
+            text += &hex(run);
+        }
+    }
+    text.trim().replace("  ", " ")
 }

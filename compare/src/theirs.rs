@@ -1,4 +1,6 @@
 //! rubble's answers. Where it panics, the number that document 01 gives (its rows marked P).
+mod basics;
+
 use crate::ours::pattern;
 use crate::request::{Kind, Request, CALL};
 use rubble::beacon::{Beacon, BeaconScanner, ScanCallback};
@@ -91,10 +93,14 @@ const ACCURACIES: [&str; 8] = [
 ];
 
 fn packet(header: Header, payload: &[u8], out: &mut Vec<u8>) {
-    let pdu = match Pdu::from_header_and_payload(header, &mut ByteReader::new(payload)) {
-        Ok(pdu) => pdu,
-        Err(e) => return out.push(number(e)),
-    };
+    match Pdu::from_header_and_payload(header, &mut ByteReader::new(payload)) {
+        Ok(pdu) => packet_of(pdu, payload.len(), out),
+        Err(e) => out.push(number(e)),
+    }
+}
+
+/// A PDU that was read from a payload of so many octets.
+fn packet_of(pdu: Pdu<'_>, len: usize, out: &mut Vec<u8>) {
     out.push(0);
     out.extend([u8::from(pdu.ty()), pdu.sender().is_random() as u8]);
     out.extend(pdu.sender().raw());
@@ -106,7 +112,7 @@ fn packet(header: Header, payload: &[u8], out: &mut Vec<u8>) {
         None => out.extend([0; 8]),
     }
     match pdu.advertising_data() {
-        Some(records) => out.extend([6, (payload.len() - 6) as u8, records.count() as u8]),
+        Some(records) => out.extend([6, (len - 6) as u8, records.count() as u8]),
         None => out.extend([0; 3]),
     }
     match pdu {
@@ -572,6 +578,28 @@ fn listens(cmd: Cmd) -> (u8, NextUpdate) {
     }
 }
 
+/// What a scanner said of a packet; without a report of the channel alone.
+fn heard(report: Option<Report>, payload: &[u8], channel: u8, out: &mut Vec<u8>) {
+    match report {
+        Some(Report(sender, count)) => {
+            out.extend([0, 1, sender.is_random() as u8]);
+            out.extend(sender.raw());
+            out.extend([6, (payload.len() - 6) as u8, count as u8, channel]);
+        }
+        None => {
+            out.extend([0; 12]);
+            out.push(channel);
+        }
+    }
+}
+
+/// A list that is no list of addresses, which rubble's types cannot hold: refused with 3 (document 01).
+fn bad_list(number: u8, channel: u8, out: &mut Vec<u8>) {
+    out.push(number);
+    out.extend([0; 11]);
+    out.push(channel);
+}
+
 fn scan_with<F: AddressFilter>(filter: F, r: &Request, out: &mut Vec<u8>) {
     let reports = RefCell::new(None);
     let mut scanner = BeaconScanner::with_filter(Reports(&reports), filter);
@@ -589,18 +617,7 @@ fn scan_with<F: AddressFilter>(filter: F, r: &Request, out: &mut Vec<u8>) {
     };
     let (channel, next) = listens(scanner.process_adv_packet(header, &r.parts[2], r.numbers[2] == 1));
     assert!(matches!(next, NextUpdate::Keep));
-    let report = *reports.borrow();
-    match report {
-        Some(Report(sender, count)) => {
-            out.extend([0, 1, sender.is_random() as u8]);
-            out.extend(sender.raw());
-            out.extend([6, (r.parts[2].len() - 6) as u8, count as u8, channel]);
-        }
-        None => {
-            out.extend([0; 12]);
-            out.push(channel);
-        }
-    }
+    heard(reports.take(), &r.parts[2], channel, out);
 }
 
 fn scan(r: &Request, out: &mut Vec<u8>) {
@@ -614,10 +631,44 @@ fn scan(r: &Request, out: &mut Vec<u8>) {
             for _ in 0..r.numbers[1] {
                 channel = channel.cycle();
             }
-            out.push(n);
-            out.extend([0; 11]);
-            out.push(channel.channel());
+            bad_list(n, channel.channel(), out);
         }
+    }
+}
+
+/// A scanner that lives through its entries. Where its list is bad, each packet is refused with the number.
+fn scanner_calls_with<F: AddressFilter>(filter: F, bad: Option<u8>, entries: &[u8], out: &mut Vec<u8>) {
+    let reports = RefCell::new(None);
+    let mut scanner = BeaconScanner::with_filter(Reports(&reports), filter);
+    for c in entries.chunks_exact(CALL).map(call) {
+        let time = Instant::from_raw_micros(c.time);
+        let cmd = match c.kind {
+            0 => scanner.configure(time, Duration::from_micros(c.interval)),
+            1 => scanner.timer_update(time),
+            _ => scanner.process_adv_packet(c.header, c.octets, c.crc_ok),
+        };
+        let (channel, next) = listens(cmd);
+        let report = reports.take();
+        match (c.kind, bad) {
+            (2.., Some(n)) => bad_list(n, channel, out),
+            _ => heard(report, c.octets, channel, out),
+        }
+        let next = match next {
+            NextUpdate::At(next) => next.raw_micros(),
+            NextUpdate::Keep => 0,
+            NextUpdate::Disable => panic!("a scanner is disabled"),
+        };
+        out.extend(next.to_le_bytes());
+    }
+}
+
+fn scanner_calls(filters: bool, list: &[u8], entries: &[u8], out: &mut Vec<u8>) {
+    if !filters {
+        return scanner_calls_with(AllowAll, None, entries, out);
+    }
+    match whitelist(list) {
+        Ok(addresses) => scanner_calls_with(WhitelistFilter::from_slice(&addresses), None, entries, out),
+        Err(n) => scanner_calls_with(AllowAll, Some(n), entries, out),
     }
 }
 
@@ -714,13 +765,6 @@ pub fn answer(r: &Request, out: &mut Vec<u8>) {
             let (a, b) = (address(&p[0], n[0] == 1), address(&p[1], n[1] == 1));
             frame(Ok(PduBuf::connectable_directed(a, b)), out)
         }
-        Kind::Whitelist => match whitelist(&p[0]) {
-            Ok(addresses) => {
-                let is = WhitelistFilter::from_slice(&addresses).matches(address(&p[1], n[0] == 1));
-                got(0, is as u64, 0, out)
-            }
-            Err(refused) => got(refused, 0, 0, out),
-        },
         Kind::Area => match list(&p[0]) {
             Ok(records) => got(0, records.len() as u64, 0, out),
             Err(refused) => got(refused, 0, 0, out),
@@ -837,7 +881,14 @@ pub fn answer(r: &Request, out: &mut Vec<u8>) {
                 (_, other) => panic!("a scanner answers {other:?}"),
             }
         }
+        Kind::ScannerCalls => scanner_calls(n[0] == 1, &p[0], &p[1], out),
         Kind::Calls => calls(r, out),
+        Kind::AllChannels => {
+            let map = ChannelMap::with_all_channels();
+            out.extend(map.to_raw());
+            out.push(map.num_used_channels());
+        }
+        _ => basics::answer(r, out),
     }
 }
 

@@ -1,6 +1,7 @@
 //! Times both decoders on one million payloads that rubble accepts, the seven types in turn, made beforehand from a fixed seed. Both sides are
 //! called from here, in alternating rounds. Our answer has the number of records; rubble's area is walked for it, and timed without that too.
-use compare::made::{self, Rng};
+use compare::inputs::payload;
+use compare::rng::Rng;
 use compare::{ours, theirs};
 use std::hint::black_box;
 use std::time::Instant;
@@ -23,7 +24,7 @@ fn packets() -> Packets {
             5 => 34,
             _ => 6 + rng.below(32),
         };
-        let payload = made::payload(&mut rng, ty, n);
+        let payload = payload(&mut rng, ty, n);
         let header = [ty | (rng.octet() & 0xC0), n as u8];
         if theirs::decode(&header, &payload) != usize::MAX {
             found.places.push((header, found.octets.len() as u32, n as u8));

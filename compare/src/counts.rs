@@ -1,0 +1,240 @@
+//! What was compared: comparisons and refusals by kind, lengths of payloads, near misses, connections and events of lists.
+use crate::inputs::marks_any;
+use crate::request::{Kind, Request, CALL, KINDS};
+
+/// Classes of lengths, each from its first to before the next one's.
+const CLASSES: [(&str, usize); 9] = [
+    ("0-5", 0), ("6-11", 6), ("12", 12), ("13-33", 13), ("34", 34), ("35-63", 35), ("64-127", 64), ("128-191", 128),
+    ("192-255", 192),
+];
+
+const GROUPS: [&str; 6] = [
+    "device: all packets", "  type 1 to us", "  type 3 to us", "  type 5 to us", "scanner: all packets",
+    "  type 2, CRC good",
+];
+const SCANNER: usize = 4;
+
+const DEVICE_OFF: [&str; 6] = ["a bit of the address", "RxAdd", "the CRC", "the length", "the type", "an empty map"];
+const SCANNER_OFF: [&str; 5] = ["the type", "the CRC", "the length", "the entry's kind", "a bit of the entry"];
+
+const CONNECTIONS: [(&str, usize); 4] = [("none", 0), ("1", 1), ("2", 2), ("3 or more", 3)];
+const EVENTS: [(&str, usize); 5] = [("none", 0), ("1-9", 1), ("10-99", 10), ("100-300", 100), ("more", 301)];
+
+const LIVED: [(&str, usize); 4] = [("none", 0), ("1-9", 1), ("10-99", 10), ("100-400", 100)];
+
+/// The octets of a call's answer before both buffers, and of a scanner's.
+const CALL_ANSWER: usize = 19;
+const SCANNER_ANSWER: usize = 17;
+
+pub struct Counts {
+    /// For each kind how often it was answered with each number; 0 is no refusal.
+    answers: [[u64; 10]; KINDS.len()],
+    lengths: [[u64; 256]; GROUPS.len()],
+    device_off: [u64; DEVICE_OFF.len()],
+    scanner_off: [u64; SCANNER_OFF.len()],
+    connections: [u64; CONNECTIONS.len()],
+    events: [u64; EVENTS.len()],
+    scanner_packets: [u64; LIVED.len()],
+    scanner_updates: [u64; LIVED.len()],
+}
+
+impl Default for Counts {
+    fn default() -> Self {
+        Counts {
+            answers: [[0; 10]; KINDS.len()],
+            lengths: [[0; 256]; GROUPS.len()],
+            device_off: [0; DEVICE_OFF.len()],
+            scanner_off: [0; SCANNER_OFF.len()],
+            connections: [0; CONNECTIONS.len()],
+            events: [0; EVENTS.len()],
+            scanner_packets: [0; LIVED.len()],
+            scanner_updates: [0; LIVED.len()],
+        }
+    }
+}
+
+fn class(classes: &[(&str, usize)], n: usize) -> usize {
+    classes.iter().rposition(|c| c.1 <= n).expect("the first class begins with 0")
+}
+
+fn add(sums: &mut [u64], more: &[u64]) {
+    sums.iter_mut().zip(more).for_each(|(sum, n)| *sum += n);
+}
+
+/// The one thing that is so, where it is one.
+fn only(off: &[bool]) -> Option<usize> {
+    let mut so = (0..off.len()).filter(|i| off[*i]);
+    so.next().filter(|_| so.next().is_none())
+}
+
+impl Counts {
+    /// Counts a request with its answer, and says how many comparisons it is: one for each call of a list and for each event of a connection.
+    pub fn count(&mut self, r: &Request, answer: &[u8]) -> u64 {
+        let row = &mut self.answers[r.kind as usize];
+        match r.kind {
+            Kind::Calls => return self.count_list(r, answer),
+            Kind::Events => {
+                let events = answer.len() / 2;
+                row[answer[2 * events - 2] as usize % 10] += 1;
+                row[0] += events as u64 - 1;
+                return events as u64;
+            }
+            Kind::ScannerCalls => return self.count_scanner(r, answer),
+            Kind::Scan => {
+                let [list, header, payload] = &r.parts[..] else { panic!("a scan has three parts") };
+                let filter = (r.numbers[0] == 1).then_some(&list[..]);
+                self.count_heard(filter, header, payload, r.numbers[2] == 1);
+            }
+            _ => {}
+        }
+        self.answers[r.kind as usize][if r.kind.has_number() { answer[0] as usize % 10 } else { 0 }] += 1;
+        1
+    }
+
+    fn count_list(&mut self, r: &Request, answer: &[u8]) -> u64 {
+        let size = CALL_ANSWER + (r.numbers[1] + r.numbers[2]) as usize;
+        let (mut connections, mut events) = (0, 0);
+        for (c, a) in r.parts[1].chunks_exact(CALL).zip(answer.chunks_exact(size)) {
+            self.answers[Kind::Calls as usize][a[0] as usize % 10] += 1;
+            connections += (a[1] == 4) as usize;
+            events += (a[1] == 5) as usize;
+            // A packet in another mode is refused with 5, whatever it holds.
+            if c[0] == 2 && a[0] != 5 {
+                self.count_packet(c, &r.parts[0], r.numbers[0] as u8);
+            }
+        }
+        self.connections[class(&CONNECTIONS, connections)] += 1;
+        self.events[class(&EVENTS, events)] += 1;
+        (answer.len() / size) as u64
+    }
+
+    fn count_packet(&mut self, c: &[u8], own: &[u8], random: u8) {
+        let n = c[3] as usize;
+        let p = &c[14..14 + n];
+        self.lengths[0][n] += 1;
+        let bits: u32 = p.iter().skip(6).zip(own).map(|(a, b)| (a ^ b).count_ones()).sum();
+        let ty = c[12] % 16;
+        if bits == 0 && c[12] >> 7 == random && matches!(ty, 1 | 3 | 5) {
+            self.lengths[1 + ty as usize / 2][n] += 1;
+        }
+        if n < 12 || bits > 1 {
+            return;
+        }
+        let empty = ty == 5 && n >= 34 && !marks_any(&p[28..33]);
+        let off = [bits == 1, c[12] >> 7 != random, c[1] != 1, c[13] as usize % 64 != n, !matches!(ty, 3 | 5), empty];
+        if let Some(one) = only(&off) {
+            self.device_off[one] += 1;
+        }
+    }
+
+    fn count_scanner(&mut self, r: &Request, answer: &[u8]) -> u64 {
+        let filter = (r.numbers[0] == 1).then_some(&r.parts[0][..]);
+        let (mut packets, mut updates) = (0, 0);
+        for (c, a) in r.parts[1].chunks_exact(CALL).zip(answer.chunks_exact(SCANNER_ANSWER)) {
+            self.answers[Kind::ScannerCalls as usize][a[0] as usize % 10] += 1;
+            match c[0] {
+                0 => {}
+                1 => updates += 1,
+                _ => {
+                    packets += 1;
+                    self.count_heard(filter, &c[12..14], &c[14..14 + c[3] as usize], c[1] == 1);
+                }
+            }
+        }
+        self.scanner_packets[class(&LIVED, packets)] += 1;
+        self.scanner_updates[class(&LIVED, updates)] += 1;
+        (answer.len() / SCANNER_ANSWER) as u64
+    }
+
+    /// Counts a packet for a scanner, which filters by the list that is given.
+    fn count_heard(&mut self, filter: Option<&[u8]>, header: &[u8], p: &[u8], crc_ok: bool) {
+        let [first, second] = header[..] else { return };
+        let n = p.len().min(255);
+        self.lengths[SCANNER][n] += 1;
+        if first % 16 == 2 && crc_ok {
+            self.lengths[SCANNER + 1][n] += 1;
+        }
+        let Some(list) = filter.filter(|list| n >= 6 && list.len() % 7 == 0) else { return };
+        let kind = first / 64 % 2;
+        let near = |entry: &[u8]| -> (bool, u32) {
+            (entry[0] == kind, p.iter().zip(&entry[1..]).map(|(a, b)| (a ^ b).count_ones()).sum())
+        };
+        let entries: Vec<(bool, u32)> = list.chunks(7).map(near).collect();
+        let has = |entry| entries.contains(&entry);
+        let listed = has((true, 0));
+        let off = [
+            first % 16 != 2,
+            !crc_ok,
+            second as usize % 64 != n,
+            !listed && has((false, 0)),
+            !listed && has((true, 1)),
+        ];
+        if let Some(one) = only(&off).filter(|one| listed || *one > 2) {
+            self.scanner_off[one] += 1;
+        }
+    }
+
+    pub fn add(&mut self, more: &Counts) {
+        self.answers.iter_mut().zip(&more.answers).for_each(|(sum, n)| add(sum, n));
+        self.lengths.iter_mut().zip(&more.lengths).for_each(|(sum, n)| add(sum, n));
+        add(&mut self.device_off, &more.device_off);
+        add(&mut self.scanner_off, &more.scanner_off);
+        add(&mut self.connections, &more.connections);
+        add(&mut self.events, &more.events);
+        add(&mut self.scanner_packets, &more.scanner_packets);
+        add(&mut self.scanner_updates, &more.scanner_updates);
+    }
+
+    pub fn total(&self) -> u64 {
+        self.answers.iter().flatten().sum()
+    }
+
+    fn of(&self, kind: Kind) -> u64 {
+        self.answers[kind as usize].iter().sum()
+    }
+
+    pub fn print(&self) {
+        self.print_shares();
+        self.print_kinds();
+    }
+
+    fn print_shares(&self) {
+        if self.lengths.iter().flatten().any(|n| *n > 0) {
+            print!("{:<22}", "payloads, in octets");
+            CLASSES.iter().for_each(|c| print!("{:>9}", c.0));
+            println!("  lengths met");
+        }
+        for (name, row) in GROUPS.iter().zip(&self.lengths).filter(|g| g.1.iter().any(|n| *n > 0)) {
+            let mut sums = [0; CLASSES.len()];
+            (0..256).for_each(|n| sums[class(&CLASSES, n)] += row[n]);
+            print!("{name:<22}");
+            sums.iter().for_each(|n| print!("{n:>9}"));
+            println!("  {} of 256", row.iter().filter(|n| **n > 0).count());
+        }
+        print_row("device packets with one thing off", &DEVICE_OFF, &self.device_off);
+        print_row("beacons of a listed sender with one thing off", &SCANNER_OFF, &self.scanner_off);
+        print_row("lists of calls by connections", &CONNECTIONS.map(|c| c.0), &self.connections);
+        print_row("lists of calls by events", &EVENTS.map(|c| c.0), &self.events);
+        print_row("scanners by packets", &LIVED.map(|c| c.0), &self.scanner_packets);
+        print_row("scanners by timer updates", &LIVED.map(|c| c.0), &self.scanner_updates);
+    }
+
+    fn print_kinds(&self) {
+        println!("{:<20}{:>13}{:>13}  {}", "kind", "comparisons", "refused", "refusals by number");
+        for (kind, row) in KINDS.iter().zip(&self.answers).filter(|k| k.1.iter().any(|n| *n > 0)) {
+            let numbers: Vec<String> = (1..10).filter(|n| row[*n] > 0).map(|n| format!("{n}: {}", row[n])).collect();
+            let refused: u64 = row[1..].iter().sum();
+            println!("{:<20}{:>13}{refused:>13}  {}", format!("{kind:?}"), row.iter().sum::<u64>(), numbers.join(", "));
+        }
+        let (events, calls) = (self.of(Kind::Events), self.of(Kind::Calls) + self.of(Kind::ScannerCalls));
+        let others = self.total() - events - calls;
+        println!("{events} single events of connections, {calls} calls of lists, {others} other requests");
+    }
+}
+
+fn print_row(name: &str, of: &[&str], counts: &[u64]) {
+    if counts.iter().any(|n| *n > 0) {
+        let shares: Vec<String> = of.iter().zip(counts).map(|(what, n)| format!("{what} {n}")).collect();
+        println!("{name}: {}", shares.join(", "));
+    }
+}

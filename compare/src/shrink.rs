@@ -1,0 +1,112 @@
+//! The smallest request that still shows a difference, step by step.
+use crate::request::{Kind, Request, CALL};
+
+type Differs<'a> = &'a mut dyn FnMut(&Request) -> bool;
+
+pub fn smallest(found: &Request, differs: Differs) -> Request {
+    let mut least = found.clone();
+    loop {
+        let before = least.clone();
+        for part in 0..least.parts.len() {
+            shorten(&mut least, part, differs);
+        }
+        count_less(&mut least, differs);
+        blank_address(&mut least, differs);
+        lower(&mut least, differs);
+        if least == before {
+            return least;
+        }
+    }
+}
+
+/// Takes the changed request where it still differs.
+fn attempt(least: &mut Request, differs: Differs, change: impl FnOnce(&mut Request)) -> bool {
+    let mut r = least.clone();
+    change(&mut r);
+    let less = r != *least && differs(&r);
+    if less {
+        *least = r;
+    }
+    less
+}
+
+/// Takes octets out of a part, or calls out of a list: all, halves, quarters, down to one.
+fn shorten(least: &mut Request, part: usize, differs: Differs) {
+    if least.fixed(part) {
+        return;
+    }
+    let unit = if least.kind.is_list() && part == 1 { CALL } else { 1 };
+    let mut size = least.parts[part].len() / unit;
+    while size > 0 {
+        let mut at = 0;
+        while at + size * unit <= least.parts[part].len() {
+            if !attempt(least, differs, |r| drop(r.parts[part].drain(at..at + size * unit))) {
+                at += size * unit;
+            }
+        }
+        size /= 2;
+    }
+}
+
+/// Lowers a header's count together with the payload that it counts.
+fn count_less(least: &mut Request, differs: Differs) {
+    match least.kind {
+        Kind::Decode => while attempt(least, differs, |r| one_octet_less(&mut r.parts, 0)) {},
+        Kind::Scan => while attempt(least, differs, |r| one_octet_less(&mut r.parts, 1)) {},
+        Kind::Calls | Kind::ScannerCalls => {
+            for at in (0..least.parts[1].len()).step_by(CALL) {
+                while attempt(least, differs, |r| one_counted_less(&mut r.parts[1][at..])) {}
+            }
+        }
+        _ => {}
+    }
+}
+
+fn one_octet_less(parts: &mut [Vec<u8>], header: usize) {
+    if parts[header].len() == 2 && parts[header][1] > 0 && parts[header + 1].pop().is_some() {
+        parts[header][1] -= 1;
+    }
+}
+
+fn one_counted_less(call: &mut [u8]) {
+    if call[3] > 0 && call[13] > 0 {
+        call[3] -= 1;
+        call[13] -= 1;
+    }
+}
+
+/// Makes a device's address zeros, wherever it stands.
+fn blank_address(least: &mut Request, differs: Differs) {
+    if least.kind != Kind::Calls {
+        return;
+    }
+    attempt(least, differs, |r| {
+        let own = std::mem::replace(&mut r.parts[0], vec![0; 6]);
+        for call in r.parts[1].chunks_exact_mut(CALL).filter(|c| c[20..26] == own[..]) {
+            call[20..26].fill(0);
+        }
+    });
+}
+
+/// Lowers numbers: to 0, to a half, by one; and octets: to 0, by a bit of theirs, by one.
+fn lower(least: &mut Request, differs: Differs) {
+    for n in 0..least.numbers.len() {
+        let was = least.numbers[n];
+        for less in [0, was / 2, was.saturating_sub(1)] {
+            if attempt(least, differs, |r| r.numbers[n] = less) {
+                break;
+            }
+        }
+    }
+    for part in 0..least.parts.len() {
+        for at in 0..least.parts[part].len() {
+            let was = least.parts[part][at];
+            if was != 0 && !attempt(least, differs, |r| r.parts[part][at] = 0) {
+                for bit in (0..8).rev() {
+                    attempt(least, differs, |r| r.parts[part][at] &= !(1 << bit));
+                }
+                attempt(least, differs, |r| r.parts[part][at] -= 1);
+            }
+        }
+    }
+}
