@@ -1,5 +1,5 @@
-//! Tries the programs hublog and replay from outside, as a shell starts them: `programs BIN REPOSITORY`, with the folder of the programs. Prints a line for each
-//! thing tried, and ends with 1 if one of them is not as it should be.
+//! Tries the programs hublog and replay from outside, as a shell starts them: `programs BIN REPOSITORY SCRATCH`, with the folders of the programs, of the repository and
+//! for files that are made. Prints a line for each thing tried, and ends with 1 if one of them is not as it should be.
 use std::fs::{self, File};
 use std::io::{Read, Seek, Write};
 use std::os::fd::{AsRawFd, FromRawFd, OwnedFd};
@@ -270,15 +270,62 @@ fn in_pieces(t: &mut Tried, program: &str, input: &[u8]) {
     t.say(&format!("{program}: an octet at a time"), is, &(got, String::new()));
 }
 
+/// The recorded requests of the gate's sample.
+fn recorded(repository: &str) -> Vec<u8> {
+    let sample = fs::read(format!("{repository}/crates/replay/stdin")).unwrap();
+    let mark = b"# recorded from rubble\n";
+    let at = sample.windows(mark.len()).position(|w| w == mark).expect("a recorded part");
+    sample[at + mark.len()..].to_vec()
+}
+
+fn lines_of(octets: &[u8]) -> usize {
+    octets.iter().filter(|octet| **octet == b'\n').count()
+}
+
+fn replay_answers(t: &mut Tried, requests: &[u8]) {
+    let as_recorded = t.run("replay", requests);
+    let ran = t.run("replay", &requests.to_ascii_lowercase());
+    t.say("replay: the recorded requests in lower case", ran.0 == as_recorded.0 && lines_of(&ran.0) == lines_of(requests), &ran);
+    let bad = "d 42 0g\nq\nd 4\ni\ni 00 00\ne\r\nd42\n\n# 4g\nh 0a 00 00 00 00 00 05";
+    let answers = "request 1: an octet that is no number\nrequest 2: no such request\nrequest 3: an octet of one digit\nrequest 4: too few octets\n\
+        request 5: too many octets\nrequest 6: a carriage return\nrequest 7: no space behind its letter\n\n#\nh 5 3\n";
+    let ran = t.run("replay", bad.as_bytes());
+    t.say("replay: lines that are no requests, and a last line without its end", text(&ran.0) == answers && ran.1.is_empty(), &ran);
+    let mut random = Random(3);
+    let garbage: Vec<u8> = (0..1_000_000).map(|_| random.below(256) as u8).chain([b'\n']).collect();
+    let ran = t.run("replay", &garbage);
+    t.say("replay: a megabyte of anything, a line for each line", lines_of(&ran.0) == lines_of(&garbage) && ran.1.is_empty(), &ran);
+    let many = requests.repeat(10_000_000 / requests.len() + 1);
+    let path = t.file("many", &many);
+    let begun = Instant::now();
+    let ran = t.shell(&format!("{}/replay < {path} > /dev/null", t.bin));
+    let taken = begun.elapsed();
+    t.say(&format!("replay: {} octets of requests in {} ms", many.len(), taken.as_millis()), taken.as_millis() < 1000 && ran.1.is_empty(), &ran);
+}
+
+fn replay_fails(t: &mut Tried, repository: &str) {
+    let bin = format!("{}/replay", t.bin);
+    let sample = format!("{repository}/crates/replay/stdin");
+    let lines = [
+        ("a full device", format!("{bin} < {sample} > /dev/full"), "replay: standard output: No space left on device\n"),
+        ("a closed output", format!("{bin} < {sample} >&-"), "replay: standard output: Bad file descriptor\n"),
+        ("a directory as input", format!("{bin} < /"), "replay: standard input: Is a directory\n"),
+        ("a closed input", format!("{bin} <&-"), "replay: standard input: Bad file descriptor\n"),
+        ("an argument", format!("{bin} --help < {sample}"), "usage: replay < requests\n"),
+    ];
+    for (what, line, said) in lines {
+        let ran = t.shell(&line);
+        t.say(&format!("replay: {what}"), ran.0.is_empty() && ran.1 == said, &ran);
+    }
+}
+
 fn main() {
     let words: Vec<String> = std::env::args().collect();
-    let [_, bin, repository] = &words[..] else {
-        eprintln!("usage: programs BIN REPOSITORY");
+    let [_, bin, repository, scratch] = &words[..] else {
+        eprintln!("usage: programs BIN REPOSITORY SCRATCH");
         exit(2);
     };
-    let scratch = std::env::temp_dir().join(format!("programs-{}", std::process::id()));
-    fs::create_dir_all(&scratch).unwrap();
-    let mut t = Tried { bin: bin.clone(), scratch: scratch.display().to_string(), failed: 0 };
+    let mut t = Tried { bin: bin.clone(), scratch: scratch.clone(), failed: 0 };
     let path = format!("{repository}/examples/hub");
     let example = fs::read(&path).unwrap();
     hublog_prints(&mut t, &example);
@@ -286,7 +333,10 @@ fn main() {
     hublog_fails(&mut t, &path);
     hublog_does_not_wait(&mut t, &example);
     in_pieces(&mut t, "hublog", &reports(300));
-    fs::remove_dir_all(&scratch).unwrap();
+    let requests = recorded(repository);
+    replay_answers(&mut t, &requests);
+    replay_fails(&mut t, repository);
+    in_pieces(&mut t, "replay", &requests[..3_000]);
     if t.failed > 0 {
         println!("{} not as they should be", t.failed);
         exit(1);
