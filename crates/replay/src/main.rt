@@ -1,9 +1,10 @@
-// Reads requests from standard input, one a line, and prints what each comes to. A line is a letter and octets in hexadecimal; spaces are for the eye.
+// Reads requests from standard input, one a line, and prints what each comes to. A request is a letter and octets in hexadecimal, of either case, behind a
+// space; further spaces are for the eye, though not within an octet.
 //
 //     a area                             an area: how many records, or why not
 //     r room, area                       an area rewritten into `room` octets of FF
 //     w kind, value 2, room, data        a record written at 0 of `room` octets of FF, of 320 where that is FF; kinds 1 to 9 in the order of `AdStructure`, 16 more for a complete list
-//     d header 2, payload                a PDU read
+//     d header 2, payload                a PDU read; its header may be short
 //     b type, address 7, records         a PDU built; type 7 is a discoverable one. An address is its kind and six octets
 //     g TxAdd, RxAdd, length, header 2   a header set so
 //     i index                            a data channel: index, RF channel, frequency, start of whitening
@@ -17,7 +18,17 @@
 //     x                                  a stop
 //     k address 7, room, records         a beacon, made and sent
 //     c CRC, header 2, payload           a scanner that reports all senders
-//     #                                  a remark; its answer is empty
+//     #                                  a remark: anything may stand behind it. Its answer is empty
+//
+// Each line of the input is answered by one line, also the last where its line end is missing. The answer of a request begins with its letter, that of an
+// empty line is empty. A line that is none of these is answered `request 17: ` and why, 17 being its number among all lines, from 1, and has no other
+// effect. A line may be of any length, and a request has at most 320 octets. Of an octet that says one of two things, as CRC does, 01 is the one and all others
+// are the other; a type that the table does not name is taken as 7, a kind as 9.
+//
+// What is answered is written whenever all that was read is. A read or a write that fails ends the run, with a line on standard error.
+mod lines;
+mod print;
+
 use addresses::device_address::AddressKind;
 use addresses::device_address::DeviceAddress;
 use addresses::header::Header;
@@ -32,14 +43,20 @@ use beacon::beacon::Beacon;
 use beacon::beacon::BeaconScanner;
 use beacon::beacon::Broadcast;
 use beacon::beacon::Report;
+use bytes::scan::find;
 use channels::channel_map::ChannelMap;
 use channels::connection::Hop;
 use channels::connection::hop_channel;
 use channels::phy::AdvertisingChannel;
 use channels::phy::DataChannel;
 use channels::phy::Found;
+use libc::STDERR_FILENO;
 use libc::STDIN_FILENO;
-use libc::STDOUT_FILENO;
+use lines::Asked;
+use lines::Fault;
+use lines::Line;
+use lines::ended;
+use lines::read_on;
 use octets::bytes::ByteWriter;
 use octets::bytes::Written;
 use octets::bytes::u16_from_le_bytes;
@@ -47,6 +64,14 @@ use octets::bytes::u32_from_le_bytes;
 use octets::comp_id::CompanyId;
 use octets::error::Error;
 use octets::time::Instant;
+use print::STOPPED;
+use print::flush;
+use print::hex;
+use print::labelled;
+use print::number;
+use print::octets;
+use print::put;
+use print::text;
 use radio::link::Answer;
 use radio::link::Called;
 use radio::link::Device;
@@ -56,75 +81,49 @@ use records::ad_structure::write_record;
 use records::area::Area;
 use records::area::read_area;
 use records::area::rewrite_area;
+use std::num::wrapping_add_u64;
 ghost use Prim.Native.Nat.{_≤_};
 ghost use lib.ListN.{length};
 
-// What is printed
+// What is printed of the values of a request's answer, at a place of the output
 
-fn text(s: &[u8]) {
-    io::write_all(STDOUT_FILENO, s);
+fn refused(out: &mut [u8], at: usize, e: Error) -> usize {
+    labelled(out, at, b" refused", e.number() as u64)
 }
 
-fn number(n: u64) {
-    text(b" ");
-    io::print_decimal(STDOUT_FILENO, n);
-}
-
-fn hex(n: u64, digits: usize) {
-    text(b" ");
-    io::print_hex(STDOUT_FILENO, n, digits);
-}
-
-fn pair(b: u8) {
-    hex(b as u64, 2);
-}
-
-fn octets(s: &[u8]) {
-    for i in 0..s.len() {
-        pair(s[i]);
-    }
-}
-
-fn refused(e: Error) {
-    text(b" refused");
-    number(e.number() as u64);
-}
-
-fn outcome(o: Outcome) {
+fn outcome(out: &mut [u8], at: usize, o: Outcome) -> usize {
     match o {
-        Outcome::Accepted => text(b" accepted"),
-        Outcome::Refused(e) => refused(e),
+        Outcome::Accepted => text(out, at, b" accepted"),
+        Outcome::Refused(e) => refused(out, at, e),
     }
 }
 
-fn written(w: Written) {
+fn written(out: &mut [u8], at: usize, w: Written) -> usize {
     match w {
-        Written::To(next) => {
-            text(b" to");
-            number(next.at as u64);
-        }
-        Written::Refused(e) => refused(e),
+        Written::To(next) => labelled(out, at, b" to", next.at as u64),
+        Written::Refused(e) => refused(out, at, e),
     }
 }
 
-fn address(a: DeviceAddress) {
-    if a.is_random() {
-        text(b" random");
-    } else {
-        text(b" public");
+fn kind(out: &mut [u8], at: usize, is_random: bool) -> usize {
+    if is_random {
+        return text(out, at, b" random");
     }
+    text(out, at, b" public")
+}
+
+fn address(out: &mut [u8], at: usize, a: DeviceAddress) -> usize {
+    let next = kind(out, at, a.is_random());
     let raw = a.raw();
-    octets(&raw);
+    octets(out, next, &raw)
 }
 
-fn on(channel: AdvertisingChannel) {
-    text(b" on");
-    number(channel.channel() as u64);
+fn on(out: &mut [u8], at: usize, channel: AdvertisingChannel) -> usize {
+    labelled(out, at, b" on", channel.channel() as u64)
 }
 
-fn at_instant(at: Instant) {
-    text(b" at");
-    number(at.raw_micros() as u64);
+fn at_instant(out: &mut [u8], at: usize, instant: Instant) -> usize {
+    labelled(out, at, b" at", instant.raw_micros() as u64)
 }
 
 // What is read
@@ -136,6 +135,11 @@ fn octet(s: &[u8], at: usize) -> u8 {
 // The octets from a place on.
 fn rest(s: &[u8], at: usize) -> &[u8] {
     if at < s.len() { &s[at..] } else { &s[..0] }
+}
+
+// The first n octets.
+fn start(s: &[u8], n: usize) -> &[u8] {
+    if n < s.len() { &s[..n] } else { s }
 }
 
 fn word(s: &[u8], at: usize) -> u32 {
@@ -183,16 +187,11 @@ fn header_in(s: &[u8], at: usize) -> Header {
 
 // Records
 
-fn area(s: &[u8]) {
+fn area(out: &mut [u8], at: usize, s: &[u8]) -> usize {
     match read_area(s) {
-        Area::Accepted(count) => number(count as u64),
-        Area::Refused(e) => refused(e),
+        Area::Accepted(count) => number(out, at, count as u64),
+        Area::Refused(e) => refused(out, at, e),
     }
-}
-
-fn rewrite(s: &[u8], out: &mut [u8]) {
-    written(rewrite_area(rest(s, 1), out));
-    octets(out);
 }
 
 // A record of a kind, whose data are octets 4 on of the request.
@@ -236,67 +235,67 @@ fn structure(kind: u8, value: u16, len: usize) -> AdStructure {
     }
 }
 
-fn write(s: &[u8], out: &mut [u8]) {
+fn write(s: &[u8], lent: &mut [u8]) -> Written {
     let value = u16_from_le_bytes(octet(s, 1), octet(s, 2));
     let data = rest(s, 4);
     let ad = structure(octet(s, 0), value, data.len());
-    written(write_record(ad, s, ByteWriter::new(), out));
-    octets(out);
+    write_record(ad, s, ByteWriter::new(), lent)
 }
 
 // PDUs
 
-fn request(d: ConnectRequestData) {
-    hex(d.access_address() as u64, 8);
-    hex(d.crc_init() as u64, 6);
-    number(d.win_size() as u64);
-    number(d.win_offset() as u64);
-    number(d.interval() as u64);
-    number(d.slave_latency() as u64);
-    number(d.supervision_timeout() as u64);
+fn timing(out: &mut [u8], at: usize, d: ConnectRequestData) -> usize {
+    let mut next = number(out, at, d.win_size() as u64);
+    next = number(out, next, d.win_offset() as u64);
+    next = number(out, next, d.interval() as u64);
+    next = number(out, next, d.slave_latency() as u64);
+    number(out, next, d.supervision_timeout() as u64)
+}
+
+fn request(out: &mut [u8], at: usize, d: ConnectRequestData) -> usize {
     let map = d.channel_map();
     let raw = map.to_raw();
-    octets(&raw);
-    number(d.hop() as u64);
+    let mut next = hex(out, at, d.access_address() as u64, 8);
+    next = hex(out, next, d.crc_init() as u64, 6);
+    next = timing(out, next, d);
+    next = octets(out, next, &raw);
+    number(out, next, d.hop() as u64)
 }
 
-// A PDU by its type: a sender; a receiver, and a connect request's fields; or records.
-fn pdu(p: Pdu) {
-    let ty = p.ty();
-    text(b" type");
-    number(ty.to_u8() as u64);
-    address(p.sender());
+// Behind the sender: a receiver, and a connect request's fields; or records.
+fn behind_sender(out: &mut [u8], at: usize, p: Pdu) -> usize {
+    let place = p.adv_data;
     if p.has_receiver() {
-        text(b" to");
-        address(p.receiver());
-    } else {
-        let place = p.adv_data;
-        text(b" records");
-        number(place.count as u64);
+        let next = text(out, at, b" to");
+        return address(out, next, p.receiver());
     }
+    labelled(out, at, b" records", place.count as u64)
+}
+
+fn pdu(out: &mut [u8], at: usize, p: Pdu) -> usize {
+    let ty = p.ty();
+    let mut next = labelled(out, at, b" type", ty.to_u8() as u64);
+    next = address(out, next, p.sender());
+    next = behind_sender(out, next, p);
+    let lldata = p.lldata;
     match ty {
-        PduType::ConnectReq => {
-            let lldata = p.lldata;
-            request(lldata);
-        }
-        _ => {}
+        PduType::ConnectReq => request(out, next, lldata),
+        _ => next,
     }
 }
 
-fn decode(s: &[u8]) {
+fn decode(out: &mut [u8], at: usize, s: &[u8]) -> usize {
     match Header::parse(s) {
         HeaderMade::Header(header) => {
             let decoded = Pdu::from_header_and_payload(header, rest(s, 2));
             let found = decoded.outcome;
+            let p = decoded.pdu;
             match found {
-                Outcome::Accepted => {
-                    let p = decoded.pdu;
-                    pdu(p);
-                }
-                Outcome::Refused(e) => refused(e),
+                Outcome::Accepted => pdu(out, at, p),
+                Outcome::Refused(e) => refused(out, at, e),
             }
         }
-        HeaderMade::Refused(e) => refused(e),
+        HeaderMade::Refused(e) => refused(out, at, e),
     }
 }
 
@@ -311,150 +310,88 @@ fn built(ty: u8, a: DeviceAddress, records: &[u8]) -> Built {
 }
 
 // The header of a PDU and its payload.
-fn sent(p: PduBuf) {
-    let mut out = [0u8; 37];
-    hex(p.header().to_u16() as u64, 4);
-    p.write_payload(&mut out);
-    octets(&out);
+fn sent(out: &mut [u8], at: usize, p: PduBuf) -> usize {
+    let mut payload = [0u8; 37];
+    p.write_payload(&mut payload);
+    let next = hex(out, at, p.header().to_u16() as u64, 4);
+    octets(out, next, &payload)
 }
 
-fn build(s: &[u8]) {
+fn build(out: &mut [u8], at: usize, s: &[u8]) -> usize {
     let b = built(octet(s, 0), address_in(rest(s, 1)), rest(s, 8));
     let found = b.outcome;
-    outcome(found);
     let p = b.pdu;
-    sent(p);
+    let next = outcome(out, at, found);
+    sent(out, next, p)
 }
 
-fn set_header(s: &[u8]) {
+fn set_header(out: &mut [u8], at: usize, s: &[u8]) -> usize {
     let header = header_in(s, 3)
         .set_tx_add(octet(s, 0) == 1)
         .set_rx_add(octet(s, 1) == 1);
     match header.set_payload_length(octet(s, 2)) {
-        HeaderMade::Header(h) => hex(h.to_u16() as u64, 4),
-        HeaderMade::Refused(e) => refused(e),
+        HeaderMade::Header(h) => hex(out, at, h.to_u16() as u64, 4),
+        HeaderMade::Refused(e) => refused(out, at, e),
     }
 }
 
 // Channels
 
-fn data_channel(s: &[u8]) {
+fn data_channel(out: &mut [u8], at: usize, s: &[u8]) -> usize {
     match DataChannel::new(octet(s, 0)) {
         Found::Channel(channel) => {
-            number(channel.index() as u64);
-            number(channel.rf_channel() as u64);
-            number(channel.freq() as u64);
-            number(channel.whitening_iv() as u64);
+            let mut next = number(out, at, channel.index() as u64);
+            next = number(out, next, channel.rf_channel() as u64);
+            next = number(out, next, channel.freq() as u64);
+            number(out, next, channel.whitening_iv() as u64)
         }
-        Found::Refused(e) => refused(e),
+        Found::Refused(e) => refused(out, at, e),
     }
 }
 
-fn map(s: &[u8]) {
+fn map(out: &mut [u8], at: usize, s: &[u8]) -> usize {
     let m = map_in(s);
     let raw = m.to_raw();
-    number(m.num_used_channels() as u64);
-    octets(&raw);
+    let next = number(out, at, m.num_used_channels() as u64);
+    octets(out, next, &raw)
 }
 
-fn hop(s: &[u8]) {
+fn hop(out: &mut [u8], at: usize, s: &[u8]) -> usize {
     match hop_channel(map_in(s), octet(s, 5), octet(s, 6)) {
         Hop::To { unmapped, channel } => {
-            number(unmapped as u64);
-            number(channel.index() as u64);
+            let next = number(out, at, unmapped as u64);
+            number(out, next, channel.index() as u64)
         }
-        Hop::Refused(e) => refused(e),
+        Hop::Refused(e) => refused(out, at, e),
     }
-}
-
-// Calls on a device
-
-fn answer(a: Answer) {
-    match a {
-        Answer::Refused(e) => refused(e),
-        Answer::Sent {
-            header,
-            channel,
-            next_adv,
-        } => {
-            hex(header.to_u16() as u64, 4);
-            on(channel);
-            at_instant(next_adv);
-        }
-        Answer::Listen(channel) => {
-            text(b" listens");
-            on(channel);
-        }
-        Answer::Respond { header, channel } => {
-            hex(header.to_u16() as u64, 4);
-            on(channel);
-        }
-        Answer::FirstEvent {
-            channel,
-            at,
-            access_address,
-            crc_init,
-        } => {
-            number(channel.index() as u64);
-            at_instant(at);
-            hex(access_address as u64, 8);
-            hex(crc_init as u64, 6);
-        }
-        Answer::NextEvent(channel) => number(channel.index() as u64),
-        Answer::Stopped => text(b" stopped"),
-    }
-}
-
-// Prints what a call answered, and hands its device on.
-fn called(c: Called) -> Device {
-    let a = c.answer;
-    answer(a);
-    c.device
-}
-
-fn start(d: Device, s: &[u8], tx: &mut [u8]) -> Device {
-    let after = called(d.start_advertise(instant(s), word(s, 4), rest(s, 9), tx));
-    octets(tx);
-    after
-}
-
-fn tick(d: Device, tx: &mut [u8]) -> Device {
-    let after = called(d.update_timer(tx));
-    octets(tx);
-    after
-}
-
-fn packet(d: Device, s: &[u8]) -> Device {
-    called(d.process_adv_packet(instant(s), header_in(s, 5), rest(s, 7), octet(s, 4) == 1))
 }
 
 // Beacon and scanner
 
-fn broadcast(b: Broadcast) {
+fn broadcast(out: &mut [u8], at: usize, b: Broadcast) -> usize {
     match b {
         Broadcast::Transmit(header, all) => {
-            hex(header.to_u16() as u64, 4);
             let first = all.first;
             let second = all.second;
             let third = all.third;
-            on(first);
-            on(second);
-            on(third);
+            let mut next = hex(out, at, header.to_u16() as u64, 4);
+            next = on(out, next, first);
+            next = on(out, next, second);
+            on(out, next, third)
         }
-        Broadcast::Refused(e) => refused(e),
+        Broadcast::Refused(e) => refused(out, at, e),
     }
 }
 
-fn beacon(s: &[u8], tx: &mut [u8]) {
+fn beacon(out: &mut [u8], at: usize, s: &[u8], lent: &mut [u8]) -> usize {
     let made = Beacon::new(address_in(s), rest(s, 8));
     let found = made.outcome;
     let b = made.beacon;
-    outcome(found);
-    broadcast(b.broadcast(tx));
-    octets(tx);
+    let next = outcome(out, at, found);
+    broadcast(out, next, b.broadcast(lent))
 }
 
-fn scan(s: &[u8]) {
+fn scan(out: &mut [u8], at: usize, s: &[u8]) -> usize {
     let scanner = BeaconScanner::new();
     let payload = rest(s, 3);
     let scanned = scanner.process_adv_packet(
@@ -464,32 +401,102 @@ fn scan(s: &[u8]) {
         &payload[..0],
     );
     let report = scanned.report;
+    let sender = scanned.sender;
     match report {
         Report::Beacon => {
-            let sender = scanned.sender;
-            address(sender);
-            octets(scanned.advertising_data(payload));
+            let next = address(out, at, sender);
+            octets(out, next, scanned.advertising_data(payload))
         }
-        Report::Nothing => text(b" nothing"),
-        Report::Refused(e) => refused(e),
+        Report::Nothing => text(out, at, b" nothing"),
+        Report::Refused(e) => refused(out, at, e),
+    }
+}
+
+// Calls on a device
+
+fn answer(out: &mut [u8], at: usize, a: Answer) -> usize {
+    match a {
+        Answer::Refused(e) => refused(out, at, e),
+        Answer::Sent {
+            header,
+            channel,
+            next_adv,
+        } => {
+            let mut next = hex(out, at, header.to_u16() as u64, 4);
+            next = on(out, next, channel);
+            at_instant(out, next, next_adv)
+        }
+        Answer::Listen(channel) => {
+            let next = text(out, at, b" listens");
+            on(out, next, channel)
+        }
+        Answer::Respond { header, channel } => {
+            let next = hex(out, at, header.to_u16() as u64, 4);
+            on(out, next, channel)
+        }
+        Answer::FirstEvent {
+            channel,
+            at: instant,
+            access_address,
+            crc_init,
+        } => {
+            let mut next = number(out, at, channel.index() as u64);
+            next = at_instant(out, next, instant);
+            next = hex(out, next, access_address as u64, 8);
+            hex(out, next, crc_init as u64, 6)
+        }
+        Answer::NextEvent(channel) => number(out, at, channel.index() as u64),
+        Answer::Stopped => text(out, at, b" stopped"),
+    }
+}
+
+fn call(d: Device, letter: u8, s: &[u8], lent: &mut [u8]) -> Called {
+    match letter {
+        b'e' => d.event(),
+        b'p' => d.process_adv_packet(instant(s), header_in(s, 5), rest(s, 7), octet(s, 4) == 1),
+        b's' => d.start_advertise(instant(s), word(s, 4), rest(s, 9), lent),
+        b't' => d.update_timer(lent),
+        _ => d.stop(),
     }
 }
 
 // Requests
 
-// Those that need no device and write nothing.
-fn ask(letter: u8, s: &[u8]) {
+// The device after a request, and the place behind the answer.
+struct Step {
+    device: Device,
+    at: usize,
+}
+
+// Those that need no device.
+fn ask(out: &mut [u8], at: usize, letter: u8, s: &[u8], lent: &mut [u8]) -> usize {
     match letter {
-        b'#' => {}
-        b'a' => area(s),
-        b'b' => build(s),
-        b'c' => scan(s),
-        b'd' => decode(s),
-        b'g' => set_header(s),
-        b'h' => hop(s),
-        b'i' => data_channel(s),
-        b'm' => map(s),
-        _ => text(b" no request"),
+        b'a' => area(out, at, s),
+        b'b' => build(out, at, s),
+        b'c' => scan(out, at, s),
+        b'd' => decode(out, at, s),
+        b'g' => set_header(out, at, s),
+        b'h' => hop(out, at, s),
+        b'i' => data_channel(out, at, s),
+        b'k' => beacon(out, at, s, lent),
+        b'm' => map(out, at, s),
+        b'r' => written(out, at, rewrite_area(rest(s, 1), lent)),
+        b'w' => written(out, at, write(s, lent)),
+        _ => at,
+    }
+}
+
+fn is_call(letter: u8) -> bool {
+    match letter {
+        b'e' | b'p' | b's' | b't' | b'x' => true,
+        _ => false,
+    }
+}
+
+fn is_lent(letter: u8) -> bool {
+    match letter {
+        b'k' | b'r' | b's' | b't' | b'w' => true,
+        _ => false,
     }
 }
 
@@ -504,155 +511,233 @@ fn room_at(letter: u8) -> usize {
 }
 
 // A request: a call on the device hands on another one.
-fn take(d: Device, letter: u8, s: &[u8], out: &mut [u8]) -> Device {
-    match letter {
-        b'e' => called(d.event()),
-        b'k' => {
-            beacon(s, out);
-            d
-        }
-        b'n' => Device::new(address_in(s)),
-        b'p' => packet(d, s),
-        b'r' => {
-            rewrite(s, out);
-            d
-        }
-        b's' => start(d, s, out),
-        b't' => tick(d, out),
-        b'w' => {
-            write(s, out);
-            d
-        }
-        b'x' => called(d.stop()),
-        _ => {
-            ask(letter, s);
-            d
-        }
+fn take(out: &mut [u8], at: usize, d: Device, letter: u8, s: &[u8], lent: &mut [u8]) -> Step {
+    if is_call(letter) {
+        let called = call(d, letter, s, lent);
+        let a = called.answer;
+        let device = called.device;
+        return Step {
+            device,
+            at: answer(out, at, a),
+        };
+    }
+    if letter == b'n' {
+        return Step {
+            device: Device::new(address_in(s)),
+            at,
+        };
+    }
+    Step {
+        device: d,
+        at: ask(out, at, letter, s, lent),
     }
 }
 
-// The next octet of the input, or 256 at its end.
-fn next_octet() -> u16 {
-    let mut one = [0u8; 1];
-    if libc::read(STDIN_FILENO, &mut one) == 1 {
-        return wide(one[0]);
-    }
-    256
-}
-
-fn wide(b: u8) -> u16 {
-    b as u16
-}
-
-// The value of a digit, or 16.
-fn digit(c: u16) -> u8
-    ensures { λ r. ⌜ r ≤ 16 ⌝ }
+// The octets that a request is lent: as many as it says, or 320.
+fn room_of(letter: u8, s: &[u8]) -> usize
+    ensures { λ r. ⌜ r ≤ 320 ⌝ }
 {
-    if c < 48 {
-        return 16;
-    }
-    if c < 58 {
-        return (c - 48) as u8;
-    }
-    if c < 65 {
-        return 16;
-    }
-    if c < 71 {
-        return (c - 55) as u8;
-    }
-    16
-}
-
-// An octet more, where there is room.
-fn push(out: &mut [u8], n: usize, b: u8) -> usize
-    requires { ⌜ n ≤ length (now out) ⌝ }
-    ensures { λ r. ⌜ r ≤ length (now (out .entry)) ⌝ }
-{
-    if n < out.len() {
-        out[n] = b;
-        return n + 1;
-    }
-    n
-}
-
-// The octet of two digits, or 0 where one of them is none.
-fn both(high: u8, low: u8) -> u8 {
-    if high < 16 {
-        if low < 16 {
-            return high * 16 + low;
-        }
-    }
-    0
-}
-
-// Reads octets to the end of the line, as far as there is room, and answers how many.
-fn read_octets(out: &mut [u8]) -> usize
-    ensures { λ r. ⌜ r ≤ length (now (out .entry)) ⌝ }
-{
-    let mut n = 0;
-    let mut high = 16;
-    let mut left: u32 = 4000;
-    while 0 < left {
-        left -= 1;
-        let c = next_octet();
-        if c == 10 {
-            return n;
-        }
-        let low = digit(c);
-        if low < 16 {
-            if high < 16 {
-                n = push(out, n, both(high, low));
-                high = 16;
-            } else {
-                high = low;
-            }
-        }
-    }
-    n
-}
-
-// A request with a buffer of the room that it says; FF is all of it.
-fn lend(d: Device, letter: u8, s: &[u8], out: &mut [u8]) -> Device {
-    let room = octet(s, room_at(letter)) as usize;
+    let room = wide(octet(s, room_at(letter)));
     if room == 255 {
-        return take(d, letter, s, out);
+        return 320;
     }
-    if room < out.len() {
-        return take(d, letter, s, &mut out[..room]);
-    }
-    take(d, letter, s, out)
+    room
 }
 
-// Answers a request, and hands the device on.
-fn serve(d: Device, letter: u8, s: &[u8]) -> Device {
-    let mut out = [0xFFu8; 320];
-    text(&[letter]);
-    let after = lend(d, letter, s, &mut out);
-    text(b"\n");
+fn wide(b: u8) -> usize
+    ensures { λ r. ⌜ r ≤ 255 ⌝ }
+{
+    b as usize
+}
+
+// A request, and the octets that it was lent.
+fn take_and_show(
+    out: &mut [u8],
+    at: usize,
+    d: Device,
+    letter: u8,
+    s: &[u8],
+    lent: &mut [u8],
+) -> Step {
+    let step = take(out, at, d, letter, s, lent);
+    if is_lent(letter) {
+        let device = step.device;
+        return Step {
+            device,
+            at: octets(out, step.at, lent),
+        };
+    }
+    step
+}
+
+fn serve(out: &mut [u8], at: usize, d: Device, letter: u8, s: &[u8]) -> Step {
+    let mut lent = [0xFFu8; 320];
+    let room = room_of(letter, s);
+    let next = put(out, at, letter);
+    take_and_show(out, next, d, letter, s, &mut lent[..room])
+}
+
+// Lines
+
+fn words(out: &mut [u8], at: usize, fault: Fault) -> usize {
+    match fault {
+        Fault::NoRequest => text(out, at, b"no such request"),
+        Fault::NoSpace => text(out, at, b"no space behind its letter"),
+        Fault::NoNumber => text(out, at, b"an octet that is no number"),
+        Fault::OneDigit => text(out, at, b"an octet of one digit"),
+        Fault::Return => text(out, at, b"a carriage return"),
+        Fault::TooMany => text(out, at, b"too many octets"),
+        Fault::TooFew => text(out, at, b"too few octets"),
+    }
+}
+
+fn wrong(out: &mut [u8], at: usize, n: u64, fault: Fault) -> usize {
+    let mut next = labelled(out, at, b"request", n);
+    next = text(out, next, b": ");
+    words(out, next, fault)
+}
+
+// Where a run stands: the device, the line that is read, how many lines are answered, and the place in the output.
+struct Run {
+    device: Device,
+    line: Line,
+    lines: u64,
+    at: usize,
+}
+
+// What line n asks.
+fn answer_line(out: &mut [u8], at: usize, d: Device, line: Asked, n: u64, args: &[u8]) -> Step {
+    match line {
+        Asked::Nothing => Step { device: d, at },
+        Asked::Request(letter, count) => serve(out, at, d, letter, start(args, count)),
+        Asked::Wrong(fault) => Step {
+            device: d,
+            at: wrong(out, at, n, fault),
+        },
+    }
+}
+
+// The line ends.
+fn end_line(run: Run, args: &[u8], out: &mut [u8]) -> Run {
+    let n = wrapping_add_u64(run.lines, 1);
+    let before = run.device;
+    let line = run.line;
+    let step = answer_line(out, run.at, before, ended(line), n, args);
+    let device = step.device;
+    Run {
+        device,
+        line: Line::Start,
+        lines: n,
+        at: put(out, step.at, b'\n'),
+    }
+}
+
+// Takes in some of a line, or the last of it.
+fn go_on(run: Run, s: &[u8], is_last: bool, args: &mut [u8], out: &mut [u8]) -> Run {
+    let device = run.device;
+    let before = run.line;
+    let line = read_on(before, s, args);
+    let read = Run {
+        device,
+        line,
+        lines: run.lines,
+        at: run.at,
+    };
+    if is_last {
+        return end_line(read, args, out);
+    }
+    read
+}
+
+// Takes in some of the input, line by line.
+fn take_in(run: Run, s: &[u8], args: &mut [u8], out: &mut [u8]) -> Run {
+    let mut after = run;
+    let mut from = 0;
+    while from < s.len() {
+        let end = find(s, from, s.len(), b'\n');
+        after = go_on(after, &s[from..end], end < s.len(), args, out);
+        if s.len() <= end {
+            return after;
+        }
+        from = end + 1;
+    }
     after
 }
 
-fn serve_line(d: Device, letter: u8, args: &mut [u8]) -> Device {
-    let n = read_octets(args);
-    serve(d, letter, &args[..n])
+// The run goes on from a place in the output.
+fn placed(run: Run, at: usize) -> Run {
+    let device = run.device;
+    let line = run.line;
+    Run {
+        device,
+        line,
+        lines: run.lines,
+        at,
+    }
 }
 
-// A line with room for 320 octets.
-fn request_line(d: Device, letter: u8) -> Device {
-    let mut args = [0u8; 320];
-    serve_line(d, letter, &mut args)
+// At the end of the input a line that has begun ends too.
+fn end_input(run: Run, args: &[u8], out: &mut [u8]) -> Run {
+    let line = run.line;
+    match line {
+        Line::Start => placed(run, STOPPED),
+        _ => {
+            let last = end_line(run, args, out);
+            flush(out, last.at);
+            placed(last, STOPPED)
+        }
+    }
+}
+
+// What was read comes to: nothing is read at the end of the input.
+fn take_read(run: Run, s: &[u8], args: &mut [u8], out: &mut [u8]) -> Run {
+    if s.len() == 0 {
+        return end_input(run, args, out);
+    }
+    let after = take_in(run, s, args, out);
+    placed(after, flush(out, after.at))
+}
+
+fn next_turn(run: Run, input: &mut [u8], args: &mut [u8], out: &mut [u8]) -> Run {
+    let got = libc::read(STDIN_FILENO, input);
+    if got < 0 {
+        os::fail(b"replay: standard input");
+        return placed(run, STOPPED);
+    }
+    let n = io::count(got, input);
+    take_read(run, &input[..n], args, out)
+}
+
+fn new_run() -> Run {
+    let address = DeviceAddress::new([0, 0, 0, 0, 0, 0], AddressKind::Public);
+    Run {
+        device: Device::new(address),
+        line: Line::Start,
+        lines: 0,
+        at: 0,
+    }
+}
+
+// A proved loop has to end, and nothing says that the input does. So the loop counts its turns down, from a number that no run uses up.
+fn replay(input: &mut [u8], args: &mut [u8], out: &mut [u8]) {
+    let mut run = new_run();
+    let mut turns = u64::MAX;
+    while 0 < turns {
+        turns -= 1;
+        run = next_turn(run, input, args, out);
+        if run.at == STOPPED {
+            return;
+        }
+    }
 }
 
 fn main() {
-    let mut d = Device::new(DeviceAddress::new([0, 0, 0, 0, 0, 0], AddressKind::Public));
-    // A proved loop has to end: no input has so many lines.
-    let mut lines = u64::MAX;
-    while 0 < lines {
-        lines -= 1;
-        let letter = next_octet();
-        if 255 < letter {
-            return;
-        }
-        d = request_line(d, letter as u8);
+    if 1 < os::arg_count() {
+        io::write_all(STDERR_FILENO, b"usage: replay < requests\n");
+        return;
     }
+    let mut input = io::large_buffer();
+    let mut out = io::large_buffer();
+    let mut args = [0u8; 320];
+    replay(&mut input, &mut args, &mut out);
 }
