@@ -139,7 +139,7 @@ fn behind_octets(letter: u8, n: usize, c: u8) -> Line {
 }
 
 // The second digit of an octet, which is kept.
-fn behind_digit(letter: u8, n: usize, high: u8, c: u8, octets: &mut [u8]) -> Line {
+fn behind_digit(letter: u8, n: usize, high: u8, c: u8, octets: &mut [u8; 320]) -> Line {
     if c == b' ' {
         return Line::Broken(Fault::OneDigit);
     }
@@ -150,7 +150,7 @@ fn behind_digit(letter: u8, n: usize, high: u8, c: u8, octets: &mut [u8]) -> Lin
     if most(letter) <= n {
         return Line::Broken(Fault::TooMany);
     }
-    if octets.len() <= n {
+    if 320 <= n {
         return Line::Broken(Fault::TooMany);
     }
     octets[n] = high % 16 * 16 + low;
@@ -158,7 +158,7 @@ fn behind_digit(letter: u8, n: usize, high: u8, c: u8, octets: &mut [u8]) -> Lin
 }
 
 // A line, a character later.
-fn after(line: Line, c: u8, octets: &mut [u8]) -> Line {
+fn after(line: Line, c: u8, octets: &mut [u8; 320]) -> Line {
     match line {
         Line::Start => first(c),
         Line::Remark => Line::Remark,
@@ -170,7 +170,7 @@ fn after(line: Line, c: u8, octets: &mut [u8]) -> Line {
 }
 
 // A line, some characters later.
-pub fn read_on(line: Line, s: &[u8], octets: &mut [u8]) -> Line {
+pub fn read_on(line: Line, s: &[u8], octets: &mut [u8; 320]) -> Line {
     let mut so_far = line;
     for i in 0..s.len() {
         so_far = after(so_far, s[i], octets);

@@ -43,11 +43,13 @@ use beacon::beacon::Beacon;
 use beacon::beacon::BeaconScanner;
 use beacon::beacon::Broadcast;
 use beacon::beacon::Report;
+use beacon::beacon::Scanned;
 use bytes::scan::find;
 use channels::channel_map::ChannelMap;
 use channels::connection::Hop;
 use channels::connection::hop_channel;
 use channels::phy::AdvertisingChannel;
+use channels::phy::AllChannels;
 use channels::phy::DataChannel;
 use channels::phy::Found;
 use libc::STDERR_FILENO;
@@ -64,13 +66,16 @@ use octets::bytes::u32_from_le_bytes;
 use octets::comp_id::CompanyId;
 use octets::error::Error;
 use octets::time::Instant;
+use print::Page;
 use print::STOPPED;
+use print::Word;
 use print::flush;
 use print::hex;
 use print::labelled;
 use print::number;
 use print::octets;
 use print::put;
+use print::say;
 use print::text;
 use radio::link::Answer;
 use radio::link::Called;
@@ -85,45 +90,49 @@ use std::num::wrapping_add_u64;
 ghost use Prim.Native.Nat.{_≤_};
 ghost use lib.ListN.{length};
 
-// What is printed of the values of a request's answer, at a place of the output
+// What is printed of a value
 
-fn refused(out: &mut [u8], at: usize, e: Error) -> usize {
-    labelled(out, at, b" refused", e.number() as u64)
+fn refused(out: &mut Page, at: usize, e: Error) -> usize {
+    labelled(out, at, Word::Refused, e.number() as u64)
 }
 
-fn outcome(out: &mut [u8], at: usize, o: Outcome) -> usize {
+fn outcome(out: &mut Page, at: usize, o: Outcome) -> usize {
     match o {
-        Outcome::Accepted => text(out, at, b" accepted"),
+        Outcome::Accepted => say(out, at, Word::Accepted),
         Outcome::Refused(e) => refused(out, at, e),
     }
 }
 
-fn written(out: &mut [u8], at: usize, w: Written) -> usize {
+fn written(out: &mut Page, at: usize, w: Written) -> usize {
     match w {
-        Written::To(next) => labelled(out, at, b" to", next.at as u64),
+        Written::To(next) => labelled(out, at, Word::To, next.at as u64),
         Written::Refused(e) => refused(out, at, e),
     }
 }
 
-fn kind(out: &mut [u8], at: usize, is_random: bool) -> usize {
-    if is_random {
-        return text(out, at, b" random");
+fn kind(a: DeviceAddress) -> Word {
+    if a.is_random() {
+        return Word::Random;
     }
-    text(out, at, b" public")
+    Word::Public
 }
 
-fn address(out: &mut [u8], at: usize, a: DeviceAddress) -> usize {
-    let next = kind(out, at, a.is_random());
+fn address(out: &mut Page, at: usize, a: DeviceAddress) -> usize {
     let raw = a.raw();
+    let next = say(out, at, kind(a));
     octets(out, next, &raw)
 }
 
-fn on(out: &mut [u8], at: usize, channel: AdvertisingChannel) -> usize {
-    labelled(out, at, b" on", channel.channel() as u64)
+fn header_of(out: &mut Page, at: usize, header: Header) -> usize {
+    hex(out, at, header.to_u16() as u64, 4)
 }
 
-fn at_instant(out: &mut [u8], at: usize, instant: Instant) -> usize {
-    labelled(out, at, b" at", instant.raw_micros() as u64)
+fn on(out: &mut Page, at: usize, channel: AdvertisingChannel) -> usize {
+    labelled(out, at, Word::On, channel.channel() as u64)
+}
+
+fn at_instant(out: &mut Page, at: usize, instant: Instant) -> usize {
+    labelled(out, at, Word::At, instant.raw_micros() as u64)
 }
 
 // What is read
@@ -187,7 +196,7 @@ fn header_in(s: &[u8], at: usize) -> Header {
 
 // Records
 
-fn area(out: &mut [u8], at: usize, s: &[u8]) -> usize {
+fn area(out: &mut Page, at: usize, s: &[u8]) -> usize {
     match read_area(s) {
         Area::Accepted(count) => number(out, at, count as u64),
         Area::Refused(e) => refused(out, at, e),
@@ -244,7 +253,7 @@ fn write(s: &[u8], lent: &mut [u8]) -> Written {
 
 // PDUs
 
-fn timing(out: &mut [u8], at: usize, d: ConnectRequestData) -> usize {
+fn timing(out: &mut Page, at: usize, d: ConnectRequestData) -> usize {
     let mut next = number(out, at, d.win_size() as u64);
     next = number(out, next, d.win_offset() as u64);
     next = number(out, next, d.interval() as u64);
@@ -252,29 +261,33 @@ fn timing(out: &mut [u8], at: usize, d: ConnectRequestData) -> usize {
     number(out, next, d.supervision_timeout() as u64)
 }
 
-fn request(out: &mut [u8], at: usize, d: ConnectRequestData) -> usize {
+fn hops(out: &mut Page, at: usize, d: ConnectRequestData) -> usize {
     let map = d.channel_map();
     let raw = map.to_raw();
-    let mut next = hex(out, at, d.access_address() as u64, 8);
-    next = hex(out, next, d.crc_init() as u64, 6);
-    next = timing(out, next, d);
-    next = octets(out, next, &raw);
+    let next = octets(out, at, &raw);
     number(out, next, d.hop() as u64)
 }
 
-// Behind the sender: a receiver, and a connect request's fields; or records.
-fn behind_sender(out: &mut [u8], at: usize, p: Pdu) -> usize {
-    let place = p.adv_data;
-    if p.has_receiver() {
-        let next = text(out, at, b" to");
-        return address(out, next, p.receiver());
-    }
-    labelled(out, at, b" records", place.count as u64)
+fn request(out: &mut Page, at: usize, d: ConnectRequestData) -> usize {
+    let mut next = hex(out, at, d.access_address() as u64, 8);
+    next = hex(out, next, d.crc_init() as u64, 6);
+    next = timing(out, next, d);
+    hops(out, next, d)
 }
 
-fn pdu(out: &mut [u8], at: usize, p: Pdu) -> usize {
+// Behind the sender: a receiver, and a connect request's fields; or records.
+fn behind_sender(out: &mut Page, at: usize, p: Pdu) -> usize {
+    let place = p.adv_data;
+    if p.has_receiver() {
+        let next = say(out, at, Word::To);
+        return address(out, next, p.receiver());
+    }
+    labelled(out, at, Word::Records, place.count as u64)
+}
+
+fn pdu(out: &mut Page, at: usize, p: Pdu) -> usize {
     let ty = p.ty();
-    let mut next = labelled(out, at, b" type", ty.to_u8() as u64);
+    let mut next = labelled(out, at, Word::Type, ty.to_u8() as u64);
     next = address(out, next, p.sender());
     next = behind_sender(out, next, p);
     let lldata = p.lldata;
@@ -284,17 +297,19 @@ fn pdu(out: &mut [u8], at: usize, p: Pdu) -> usize {
     }
 }
 
-fn decode(out: &mut [u8], at: usize, s: &[u8]) -> usize {
+fn payload(out: &mut Page, at: usize, header: Header, s: &[u8]) -> usize {
+    let decoded = Pdu::from_header_and_payload(header, s);
+    let found = decoded.outcome;
+    let p = decoded.pdu;
+    match found {
+        Outcome::Accepted => pdu(out, at, p),
+        Outcome::Refused(e) => refused(out, at, e),
+    }
+}
+
+fn decode(out: &mut Page, at: usize, s: &[u8]) -> usize {
     match Header::parse(s) {
-        HeaderMade::Header(header) => {
-            let decoded = Pdu::from_header_and_payload(header, rest(s, 2));
-            let found = decoded.outcome;
-            let p = decoded.pdu;
-            match found {
-                Outcome::Accepted => pdu(out, at, p),
-                Outcome::Refused(e) => refused(out, at, e),
-            }
-        }
+        HeaderMade::Header(header) => payload(out, at, header, rest(s, 2)),
         HeaderMade::Refused(e) => refused(out, at, e),
     }
 }
@@ -310,14 +325,14 @@ fn built(ty: u8, a: DeviceAddress, records: &[u8]) -> Built {
 }
 
 // The header of a PDU and its payload.
-fn sent(out: &mut [u8], at: usize, p: PduBuf) -> usize {
+fn sent(out: &mut Page, at: usize, p: PduBuf) -> usize {
     let mut payload = [0u8; 37];
     p.write_payload(&mut payload);
     let next = hex(out, at, p.header().to_u16() as u64, 4);
     octets(out, next, &payload)
 }
 
-fn build(out: &mut [u8], at: usize, s: &[u8]) -> usize {
+fn build(out: &mut Page, at: usize, s: &[u8]) -> usize {
     let b = built(octet(s, 0), address_in(rest(s, 1)), rest(s, 8));
     let found = b.outcome;
     let p = b.pdu;
@@ -325,7 +340,7 @@ fn build(out: &mut [u8], at: usize, s: &[u8]) -> usize {
     sent(out, next, p)
 }
 
-fn set_header(out: &mut [u8], at: usize, s: &[u8]) -> usize {
+fn set_header(out: &mut Page, at: usize, s: &[u8]) -> usize {
     let header = header_in(s, 3)
         .set_tx_add(octet(s, 0) == 1)
         .set_rx_add(octet(s, 1) == 1);
@@ -337,53 +352,59 @@ fn set_header(out: &mut [u8], at: usize, s: &[u8]) -> usize {
 
 // Channels
 
-fn data_channel(out: &mut [u8], at: usize, s: &[u8]) -> usize {
+fn channel(out: &mut Page, at: usize, c: DataChannel) -> usize {
+    let mut next = number(out, at, c.index() as u64);
+    next = number(out, next, c.rf_channel() as u64);
+    next = number(out, next, c.freq() as u64);
+    number(out, next, c.whitening_iv() as u64)
+}
+
+fn data_channel(out: &mut Page, at: usize, s: &[u8]) -> usize {
     match DataChannel::new(octet(s, 0)) {
-        Found::Channel(channel) => {
-            let mut next = number(out, at, channel.index() as u64);
-            next = number(out, next, channel.rf_channel() as u64);
-            next = number(out, next, channel.freq() as u64);
-            number(out, next, channel.whitening_iv() as u64)
-        }
+        Found::Channel(c) => channel(out, at, c),
         Found::Refused(e) => refused(out, at, e),
     }
 }
 
-fn map(out: &mut [u8], at: usize, s: &[u8]) -> usize {
+fn map(out: &mut Page, at: usize, s: &[u8]) -> usize {
     let m = map_in(s);
     let raw = m.to_raw();
     let next = number(out, at, m.num_used_channels() as u64);
     octets(out, next, &raw)
 }
 
-fn hop(out: &mut [u8], at: usize, s: &[u8]) -> usize {
+fn hopped(out: &mut Page, at: usize, unmapped: u8, c: DataChannel) -> usize {
+    let next = number(out, at, unmapped as u64);
+    number(out, next, c.index() as u64)
+}
+
+fn hop(out: &mut Page, at: usize, s: &[u8]) -> usize {
     match hop_channel(map_in(s), octet(s, 5), octet(s, 6)) {
-        Hop::To { unmapped, channel } => {
-            let next = number(out, at, unmapped as u64);
-            number(out, next, channel.index() as u64)
-        }
+        Hop::To { unmapped, channel } => hopped(out, at, unmapped, channel),
         Hop::Refused(e) => refused(out, at, e),
     }
 }
 
 // Beacon and scanner
 
-fn broadcast(out: &mut [u8], at: usize, b: Broadcast) -> usize {
+fn transmit(out: &mut Page, at: usize, header: Header, all: AllChannels) -> usize {
+    let first = all.first;
+    let second = all.second;
+    let third = all.third;
+    let mut next = header_of(out, at, header);
+    next = on(out, next, first);
+    next = on(out, next, second);
+    on(out, next, third)
+}
+
+fn broadcast(out: &mut Page, at: usize, b: Broadcast) -> usize {
     match b {
-        Broadcast::Transmit(header, all) => {
-            let first = all.first;
-            let second = all.second;
-            let third = all.third;
-            let mut next = hex(out, at, header.to_u16() as u64, 4);
-            next = on(out, next, first);
-            next = on(out, next, second);
-            on(out, next, third)
-        }
+        Broadcast::Transmit(header, all) => transmit(out, at, header, all),
         Broadcast::Refused(e) => refused(out, at, e),
     }
 }
 
-fn beacon(out: &mut [u8], at: usize, s: &[u8], lent: &mut [u8]) -> usize {
+fn beacon(out: &mut Page, at: usize, s: &[u8], lent: &mut [u8]) -> usize {
     let made = Beacon::new(address_in(s), rest(s, 8));
     let found = made.outcome;
     let b = made.beacon;
@@ -391,7 +412,20 @@ fn beacon(out: &mut [u8], at: usize, s: &[u8], lent: &mut [u8]) -> usize {
     broadcast(out, next, b.broadcast(lent))
 }
 
-fn scan(out: &mut [u8], at: usize, s: &[u8]) -> usize {
+fn report(out: &mut Page, at: usize, scanned: Scanned, s: &[u8]) -> usize {
+    let found = scanned.report;
+    let sender = scanned.sender;
+    match found {
+        Report::Beacon => {
+            let next = address(out, at, sender);
+            octets(out, next, scanned.advertising_data(s))
+        }
+        Report::Nothing => say(out, at, Word::Nothing),
+        Report::Refused(e) => refused(out, at, e),
+    }
+}
+
+fn scan(out: &mut Page, at: usize, s: &[u8]) -> usize {
     let scanner = BeaconScanner::new();
     let payload = rest(s, 3);
     let scanned = scanner.process_adv_packet(
@@ -400,61 +434,80 @@ fn scan(out: &mut [u8], at: usize, s: &[u8]) -> usize {
         octet(s, 0) == 1,
         &payload[..0],
     );
-    let report = scanned.report;
-    let sender = scanned.sender;
-    match report {
-        Report::Beacon => {
-            let next = address(out, at, sender);
-            octets(out, next, scanned.advertising_data(payload))
-        }
-        Report::Nothing => text(out, at, b" nothing"),
-        Report::Refused(e) => refused(out, at, e),
-    }
+    report(out, at, scanned, payload)
 }
 
 // Calls on a device
 
-fn answer(out: &mut [u8], at: usize, a: Answer) -> usize {
+fn first_event(
+    out: &mut Page,
+    at: usize,
+    channel: DataChannel,
+    instant: Instant,
+    access_address: u32,
+    crc_init: u32,
+) -> usize {
+    let mut next = number(out, at, channel.index() as u64);
+    next = at_instant(out, next, instant);
+    next = hex(out, next, access_address as u64, 8);
+    hex(out, next, crc_init as u64, 6)
+}
+
+fn response(out: &mut Page, at: usize, header: Header, channel: AdvertisingChannel) -> usize {
+    let next = header_of(out, at, header);
+    on(out, next, channel)
+}
+
+fn advertisement(
+    out: &mut Page,
+    at: usize,
+    header: Header,
+    channel: AdvertisingChannel,
+    next_adv: Instant,
+) -> usize {
+    let next = response(out, at, header, channel);
+    at_instant(out, next, next_adv)
+}
+
+fn listening(out: &mut Page, at: usize, channel: AdvertisingChannel) -> usize {
+    let next = say(out, at, Word::Listens);
+    on(out, next, channel)
+}
+
+fn answer(out: &mut Page, at: usize, a: Answer) -> usize {
     match a {
         Answer::Refused(e) => refused(out, at, e),
         Answer::Sent {
             header,
             channel,
             next_adv,
-        } => {
-            let mut next = hex(out, at, header.to_u16() as u64, 4);
-            next = on(out, next, channel);
-            at_instant(out, next, next_adv)
-        }
-        Answer::Listen(channel) => {
-            let next = text(out, at, b" listens");
-            on(out, next, channel)
-        }
-        Answer::Respond { header, channel } => {
-            let next = hex(out, at, header.to_u16() as u64, 4);
-            on(out, next, channel)
-        }
+        } => advertisement(out, at, header, channel, next_adv),
+        Answer::Listen(channel) => listening(out, at, channel),
+        Answer::Respond { header, channel } => response(out, at, header, channel),
         Answer::FirstEvent {
             channel,
             at: instant,
             access_address,
             crc_init,
-        } => {
-            let mut next = number(out, at, channel.index() as u64);
-            next = at_instant(out, next, instant);
-            next = hex(out, next, access_address as u64, 8);
-            hex(out, next, crc_init as u64, 6)
-        }
+        } => first_event(out, at, channel, instant, access_address, crc_init),
         Answer::NextEvent(channel) => number(out, at, channel.index() as u64),
-        Answer::Stopped => text(out, at, b" stopped"),
+        Answer::Stopped => say(out, at, Word::Stopped),
     }
+}
+
+fn start_advertise(d: Device, s: &[u8], lent: &mut [u8]) -> Called {
+    d.start_advertise(instant(s), word(s, 4), rest(s, 9), lent)
+}
+
+fn packet(d: Device, s: &[u8]) -> Called {
+    d.process_adv_packet(instant(s), header_in(s, 5), rest(s, 7), octet(s, 4) == 1)
 }
 
 fn call(d: Device, letter: u8, s: &[u8], lent: &mut [u8]) -> Called {
     match letter {
         b'e' => d.event(),
-        b'p' => d.process_adv_packet(instant(s), header_in(s, 5), rest(s, 7), octet(s, 4) == 1),
-        b's' => d.start_advertise(instant(s), word(s, 4), rest(s, 9), lent),
+        b'p' => packet(d, s),
+        b's' => start_advertise(d, s, lent),
         b't' => d.update_timer(lent),
         _ => d.stop(),
     }
@@ -468,21 +521,34 @@ struct Step {
     at: usize,
 }
 
-// Those that need no device.
-fn ask(out: &mut [u8], at: usize, letter: u8, s: &[u8], lent: &mut [u8]) -> usize {
+// Those that need no device and are lent nothing.
+fn look(out: &mut Page, at: usize, letter: u8, s: &[u8]) -> usize {
     match letter {
         b'a' => area(out, at, s),
         b'b' => build(out, at, s),
         b'c' => scan(out, at, s),
         b'd' => decode(out, at, s),
+        _ => work_out(out, at, letter, s),
+    }
+}
+
+fn work_out(out: &mut Page, at: usize, letter: u8, s: &[u8]) -> usize {
+    match letter {
         b'g' => set_header(out, at, s),
         b'h' => hop(out, at, s),
         b'i' => data_channel(out, at, s),
-        b'k' => beacon(out, at, s, lent),
         b'm' => map(out, at, s),
+        _ => at,
+    }
+}
+
+// Those that need no device.
+fn ask(out: &mut Page, at: usize, letter: u8, s: &[u8], lent: &mut [u8]) -> usize {
+    match letter {
+        b'k' => beacon(out, at, s, lent),
         b'r' => written(out, at, rewrite_area(rest(s, 1), lent)),
         b'w' => written(out, at, write(s, lent)),
-        _ => at,
+        _ => look(out, at, letter, s),
     }
 }
 
@@ -510,16 +576,20 @@ fn room_at(letter: u8) -> usize {
     }
 }
 
-// A request: a call on the device hands on another one.
-fn take(out: &mut [u8], at: usize, d: Device, letter: u8, s: &[u8], lent: &mut [u8]) -> Step {
+// A call on the device, which hands on another one.
+fn take_call(out: &mut Page, at: usize, d: Device, letter: u8, s: &[u8], lent: &mut [u8]) -> Step {
+    let called = call(d, letter, s, lent);
+    let a = called.answer;
+    let device = called.device;
+    Step {
+        device,
+        at: answer(out, at, a),
+    }
+}
+
+fn take(out: &mut Page, at: usize, d: Device, letter: u8, s: &[u8], lent: &mut [u8]) -> Step {
     if is_call(letter) {
-        let called = call(d, letter, s, lent);
-        let a = called.answer;
-        let device = called.device;
-        return Step {
-            device,
-            at: answer(out, at, a),
-        };
+        return take_call(out, at, d, letter, s, lent);
     }
     if letter == b'n' {
         return Step {
@@ -550,9 +620,16 @@ fn wide(b: u8) -> usize
     b as usize
 }
 
-// A request, and the octets that it was lent.
+// The octets that were lent, where some were.
+fn show_lent(out: &mut Page, at: usize, letter: u8, lent: &[u8]) -> usize {
+    if is_lent(letter) {
+        return octets(out, at, lent);
+    }
+    at
+}
+
 fn take_and_show(
-    out: &mut [u8],
+    out: &mut Page,
     at: usize,
     d: Device,
     letter: u8,
@@ -560,17 +637,14 @@ fn take_and_show(
     lent: &mut [u8],
 ) -> Step {
     let step = take(out, at, d, letter, s, lent);
-    if is_lent(letter) {
-        let device = step.device;
-        return Step {
-            device,
-            at: octets(out, step.at, lent),
-        };
+    let device = step.device;
+    Step {
+        device,
+        at: show_lent(out, step.at, letter, lent),
     }
-    step
 }
 
-fn serve(out: &mut [u8], at: usize, d: Device, letter: u8, s: &[u8]) -> Step {
+fn serve(out: &mut Page, at: usize, d: Device, letter: u8, s: &[u8]) -> Step {
     let mut lent = [0xFFu8; 320];
     let room = room_of(letter, s);
     let next = put(out, at, letter);
@@ -579,22 +653,24 @@ fn serve(out: &mut [u8], at: usize, d: Device, letter: u8, s: &[u8]) -> Step {
 
 // Lines
 
-fn words(out: &mut [u8], at: usize, fault: Fault) -> usize {
+fn why(fault: Fault) -> [u8; 26] {
     match fault {
-        Fault::NoRequest => text(out, at, b"no such request"),
-        Fault::NoSpace => text(out, at, b"no space behind its letter"),
-        Fault::NoNumber => text(out, at, b"an octet that is no number"),
-        Fault::OneDigit => text(out, at, b"an octet of one digit"),
-        Fault::Return => text(out, at, b"a carriage return"),
-        Fault::TooMany => text(out, at, b"too many octets"),
-        Fault::TooFew => text(out, at, b"too few octets"),
+        Fault::NoRequest => *b"no such request\0\0\0\0\0\0\0\0\0\0\0",
+        Fault::NoSpace => *b"no space behind its letter",
+        Fault::NoNumber => *b"an octet that is no number",
+        Fault::OneDigit => *b"an octet of one digit\0\0\0\0\0",
+        Fault::Return => *b"a carriage return\0\0\0\0\0\0\0\0\0",
+        Fault::TooMany => *b"too many octets\0\0\0\0\0\0\0\0\0\0\0",
+        Fault::TooFew => *b"too few octets\0\0\0\0\0\0\0\0\0\0\0\0",
     }
 }
 
-fn wrong(out: &mut [u8], at: usize, n: u64, fault: Fault) -> usize {
-    let mut next = labelled(out, at, b"request", n);
-    next = text(out, next, b": ");
-    words(out, next, fault)
+fn wrong(out: &mut Page, at: usize, n: u64, fault: Fault) -> usize {
+    let words = why(fault);
+    let mut next = labelled(out, at, Word::Request, n);
+    next = put(out, next, b':');
+    next = put(out, next, b' ');
+    text(out, next, &words)
 }
 
 // Where a run stands: the device, the line that is read, how many lines are answered, and the place in the output.
@@ -606,7 +682,14 @@ struct Run {
 }
 
 // What line n asks.
-fn answer_line(out: &mut [u8], at: usize, d: Device, line: Asked, n: u64, args: &[u8]) -> Step {
+fn answer_line(
+    out: &mut Page,
+    at: usize,
+    d: Device,
+    line: Asked,
+    n: u64,
+    args: &[u8; 320],
+) -> Step {
     match line {
         Asked::Nothing => Step { device: d, at },
         Asked::Request(letter, count) => serve(out, at, d, letter, start(args, count)),
@@ -618,7 +701,7 @@ fn answer_line(out: &mut [u8], at: usize, d: Device, line: Asked, n: u64, args: 
 }
 
 // The line ends.
-fn end_line(run: Run, args: &[u8], out: &mut [u8]) -> Run {
+fn end_line(run: Run, args: &[u8; 320], out: &mut Page) -> Run {
     let n = wrapping_add_u64(run.lines, 1);
     let before = run.device;
     let line = run.line;
@@ -633,7 +716,7 @@ fn end_line(run: Run, args: &[u8], out: &mut [u8]) -> Run {
 }
 
 // Takes in some of a line, or the last of it.
-fn go_on(run: Run, s: &[u8], is_last: bool, args: &mut [u8], out: &mut [u8]) -> Run {
+fn go_on(run: Run, s: &[u8], is_last: bool, args: &mut [u8; 320], out: &mut Page) -> Run {
     let device = run.device;
     let before = run.line;
     let line = read_on(before, s, args);
@@ -650,7 +733,7 @@ fn go_on(run: Run, s: &[u8], is_last: bool, args: &mut [u8], out: &mut [u8]) -> 
 }
 
 // Takes in some of the input, line by line.
-fn take_in(run: Run, s: &[u8], args: &mut [u8], out: &mut [u8]) -> Run {
+fn take_in(run: Run, s: &[u8], args: &mut [u8; 320], out: &mut Page) -> Run {
     let mut after = run;
     let mut from = 0;
     while from < s.len() {
@@ -677,7 +760,7 @@ fn placed(run: Run, at: usize) -> Run {
 }
 
 // At the end of the input a line that has begun ends too.
-fn end_input(run: Run, args: &[u8], out: &mut [u8]) -> Run {
+fn end_input(run: Run, args: &[u8; 320], out: &mut Page) -> Run {
     let line = run.line;
     match line {
         Line::Start => placed(run, STOPPED),
@@ -690,7 +773,7 @@ fn end_input(run: Run, args: &[u8], out: &mut [u8]) -> Run {
 }
 
 // What was read comes to: nothing is read at the end of the input.
-fn take_read(run: Run, s: &[u8], args: &mut [u8], out: &mut [u8]) -> Run {
+fn take_read(run: Run, s: &[u8], args: &mut [u8; 320], out: &mut Page) -> Run {
     if s.len() == 0 {
         return end_input(run, args, out);
     }
@@ -698,7 +781,7 @@ fn take_read(run: Run, s: &[u8], args: &mut [u8], out: &mut [u8]) -> Run {
     placed(after, flush(out, after.at))
 }
 
-fn next_turn(run: Run, input: &mut [u8], args: &mut [u8], out: &mut [u8]) -> Run {
+fn next_turn(run: Run, input: &mut [u8], args: &mut [u8; 320], out: &mut Page) -> Run {
     let got = libc::read(STDIN_FILENO, input);
     if got < 0 {
         os::fail(b"replay: standard input");
@@ -719,7 +802,7 @@ fn new_run() -> Run {
 }
 
 // A proved loop has to end, and nothing says that the input does. So the loop counts its turns down, from a number that no run uses up.
-fn replay(input: &mut [u8], args: &mut [u8], out: &mut [u8]) {
+fn replay(input: &mut [u8], args: &mut [u8; 320], out: &mut Page) {
     let mut run = new_run();
     let mut turns = u64::MAX;
     while 0 < turns {

@@ -1,9 +1,48 @@
-// Printing through a buffer. Each function writes to `out` from the place `at` on, and answers the place behind what it wrote. A full buffer is written
-// out on the way. Where that fails, standard error has a line that says so, and the place is `STOPPED` from there on: nothing more is printed.
+// Printing through a buffer. Each function that does writes to `out` from the place `at` on, and answers the place behind what it wrote. A full buffer is
+// written out on the way. Where that fails, standard error has a line that says so, and the place is `STOPPED` from there on: nothing more is printed.
 use libc::STDOUT_FILENO;
+
+// The buffer. All of it is lent from function to function.
+pub type Page = [u8; 65536];
 
 // A place of no buffer.
 pub const STOPPED: usize = usize::MAX;
+
+// What is said in answers.
+pub enum Word {
+    Accepted,
+    At,
+    Listens,
+    Nothing,
+    On,
+    Public,
+    Random,
+    Records,
+    Refused,
+    Request,
+    Stopped,
+    To,
+    Type,
+}
+
+// A word's letters, and the space before it.
+fn spelled(word: Word) -> [u8; 9] {
+    match word {
+        Word::Accepted => *b" accepted",
+        Word::At => *b" at\0\0\0\0\0\0",
+        Word::Listens => *b" listens\0",
+        Word::Nothing => *b" nothing\0",
+        Word::On => *b" on\0\0\0\0\0\0",
+        Word::Public => *b" public\0\0",
+        Word::Random => *b" random\0\0",
+        Word::Records => *b" records\0",
+        Word::Refused => *b" refused\0",
+        Word::Request => *b"request\0\0",
+        Word::Stopped => *b" stopped\0",
+        Word::To => *b" to\0\0\0\0\0\0",
+        Word::Type => *b" type\0\0\0\0",
+    }
+}
 
 // Writes out what stands before `at`, and answers where to go on.
 pub fn flush(out: &[u8], at: usize) -> usize {
@@ -13,56 +52,65 @@ pub fn flush(out: &[u8], at: usize) -> usize {
     if io::write_all(STDOUT_FILENO, &out[..at]) {
         return 0;
     }
-    os::fail(b"replay: standard output");
+    os::fail(b"replay: output");
     STOPPED
 }
 
 // An octet, where there is room for it.
-fn put_here(out: &mut [u8], at: usize, b: u8) -> usize {
-    if at < out.len() {
+fn put_here(out: &mut Page, at: usize, b: u8) -> usize {
+    if at < 65536 {
         out[at] = b;
         return at + 1;
     }
     at
 }
 
-pub fn put(out: &mut [u8], at: usize, b: u8) -> usize {
-    if at < out.len() {
+pub fn put(out: &mut Page, at: usize, b: u8) -> usize {
+    if at < 65536 {
         return put_here(out, at, b);
     }
     let next = flush(out, at);
     put_here(out, next, b)
 }
 
-pub fn text(out: &mut [u8], at: usize, s: &[u8]) -> usize {
+fn put_letter(out: &mut Page, at: usize, b: u8) -> usize {
+    if b == 0 {
+        return at;
+    }
+    put(out, at, b)
+}
+
+// A text, whose end may be filled up with 0.
+pub fn text(out: &mut Page, at: usize, s: &[u8]) -> usize {
     let mut next = at;
     for i in 0..s.len() {
-        next = put(out, next, s[i]);
+        next = put_letter(out, next, s[i]);
     }
     next
 }
 
-// A number, in decimal.
-pub fn decimal(out: &mut [u8], at: usize, n: u64) -> usize {
-    let mut digits = [0u8; 20];
-    let k = io::decimal(n, &mut digits);
-    text(out, at, &digits[..k])
+// A word.
+pub fn say(out: &mut Page, at: usize, word: Word) -> usize {
+    let letters = spelled(word);
+    text(out, at, &letters)
 }
 
 // A space and a number.
-pub fn number(out: &mut [u8], at: usize, n: u64) -> usize {
+pub fn number(out: &mut Page, at: usize, n: u64) -> usize {
+    let mut digits = [0u8; 20];
+    let k = io::decimal(n, &mut digits);
     let next = put(out, at, b' ');
-    decimal(out, next, n)
+    text(out, next, &digits[..k])
 }
 
 // A word and a number.
-pub fn labelled(out: &mut [u8], at: usize, word: &[u8], n: u64) -> usize {
-    let next = text(out, at, word);
+pub fn labelled(out: &mut Page, at: usize, word: Word, n: u64) -> usize {
+    let next = say(out, at, word);
     number(out, next, n)
 }
 
 // A space and a number of so many hexadecimal digits.
-pub fn hex(out: &mut [u8], at: usize, n: u64, width: usize) -> usize {
+pub fn hex(out: &mut Page, at: usize, n: u64, width: usize) -> usize {
     let mut digits = [0u8; 16];
     let k = io::hex(n, width, &mut digits);
     let next = put(out, at, b' ');
@@ -78,13 +126,13 @@ fn digit(n: u8) -> u8 {
 }
 
 // A space and an octet.
-fn pair(out: &mut [u8], at: usize, b: u8) -> usize {
-    let high = put(out, at, b' ');
-    let low = put(out, high, digit(b / 16));
-    put(out, low, digit(b % 16))
+fn pair(out: &mut Page, at: usize, b: u8) -> usize {
+    let mut next = put(out, at, b' ');
+    next = put(out, next, digit(b / 16));
+    put(out, next, digit(b % 16))
 }
 
-pub fn octets(out: &mut [u8], at: usize, s: &[u8]) -> usize {
+pub fn octets(out: &mut Page, at: usize, s: &[u8]) -> usize {
     let mut next = at;
     for i in 0..s.len() {
         next = pair(out, next, s[i]);

@@ -6,8 +6,7 @@ use Rattle.replay.proofs.replay.Statement.{statement}
 use Rattle.replay.proofs.replay.Tie as tie
 
 abbrev Inv-loop : tie.InvT-loop
-Inv-loop input₀ args₀ out₀ run₀ turns₀ input args out run turns =
-    (length input ≡ length input₀) × ((length args ≡ length args₀) × (length out ≡ length out₀))
+Inv-loop input₀ args₀ out₀ run₀ turns₀ input args out run turns = length input ≡ length input₀
 
 abbrev μ-loop : tie.MeasureT-loop
 μ-loop input₀ args₀ out₀ run₀ turns₀ input args out run turns = turns
@@ -22,10 +21,6 @@ replay-spec =
     (λ c. search needs)
     (λ c. search needs)
     (λ c κs. search needs)
-    (λ c. search needs)
-    (λ c. search needs)
-    (λ c. search needs)
-    (λ c. search needs)
     (λ c. search needs)
     (λ c. search needs)
     (λ c. search needs)

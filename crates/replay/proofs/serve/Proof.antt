@@ -18,5 +18,4 @@ serve-spec =
     (λ c. search needs)
     slice-aggregate-take-and-show
     (λ c κs. search needs)
-    (λ c. search needs)
     (λ c. search needs))

@@ -7,7 +7,7 @@ use Rattle.replay.proofs.lines.read_on.Statement.{statement}
 use Rattle.replay.proofs.lines.read_on.Tie as tie
 
 abbrev Inv-loop : tie.InvT-loop
-Inv-loop s octets₀ so-far₀ i₀ i-end octets so-far i = (i-end ≡ length s) × (length octets ≡ length octets₀)
+Inv-loop s octets₀ so-far₀ i₀ i-end octets so-far i = i-end ≡ length s
 
 abbrev μ-loop : tie.MeasureT-loop
 μ-loop s octets₀ so-far₀ i₀ i-end octets so-far i = i-end - i
@@ -21,7 +21,6 @@ read-on-spec =
     (λ c. search needs)
     (λ c. search needs)
     (λ c κs. search needs)
-    (λ c. search needs)
     (λ c. search needs)
     (λ c. search needs)
     (λ c. search needs)
