@@ -3,7 +3,7 @@
 //
 //     a area                             an area: how many records, or why not
 //     r room, area                       an area rewritten into `room` octets of FF
-//     w kind, value 2, room, data        a record written at 0 of `room` octets of FF, of 320 where that is FF; kinds 1 to 9 in the order of `AdStructure`, 16 more for a complete list
+//     w kind, value 2, room, data        a record written at 0 of `room` octets of FF; kinds 1 to 9 in the order of `AdStructure`, 16 more for a complete list
 //     d header 2, payload                a PDU read; its header may be short
 //     b type, address 7, records         a PDU built; type 7 is a discoverable one. An address is its kind and six octets
 //     g TxAdd, RxAdd, length, header 2   a header set so
@@ -20,12 +20,22 @@
 //     c CRC, header 2, payload           a scanner that reports all senders
 //     #                                  a remark: anything may stand behind it. Its answer is empty
 //
-// Each line of the input is answered by one line, also the last where its line end is missing. The answer of a request begins with its letter, that of an
-// empty line is empty. A line that is none of these is answered `request 17: ` and why, 17 being its number among all lines, from 1, and has no other
-// effect. A line may be of any length, and a request has at most 320 octets. Of an octet that says one of two things, as CRC does, 01 is the one and all others
-// are the other; a type that the table does not name is taken as 7, a kind as 9.
+// Each line of the input is answered by one line, also the last where its line end is missing. The answer of a request begins with its letter; that of an
+// empty line is empty. Any other line changes nothing, and is answered `request 17: ` and what is met first in it, 17 being its number among all lines, from 1:
 //
-// What is answered is written whenever all that was read is. A read or a write that fails ends the run, with a line on standard error.
+//     no such request               it begins with none of these letters
+//     no space behind its letter
+//     an octet that is no number    something else than a digit or a space
+//     an octet of one digit
+//     a carriage return             before the line end too
+//     too many octets               more than the request has, or than 320
+//     too few octets                fewer than it has
+//
+// A line may be of any length. A room of FF is 320 octets. Of an octet that says one of two things, as CRC does, 01 is the one and all others are the other; a
+// type that the table does not name is taken as 7, a kind as 9.
+//
+// Answers are written as soon as all that was read is answered. A read or a write that fails ends the run, with a line on standard error. An argument is
+// answered there by the usage, and nothing is read.
 mod lines;
 mod print;
 
@@ -772,7 +782,7 @@ fn end_input(run: Run, args: &[u8; 320], out: &mut Page) -> Run {
     }
 }
 
-// What was read comes to: nothing is read at the end of the input.
+// Answers what was read: nothing is, at the end of the input.
 fn take_read(run: Run, s: &[u8], args: &mut [u8; 320], out: &mut Page) -> Run {
     if s.len() == 0 {
         return end_input(run, args, out);

@@ -1,6 +1,11 @@
-// Printing through a buffer. Each function that does writes to `out` from the place `at` on, and answers the place behind what it wrote. A full buffer is
+// Printing through a buffer. Each function writes to `out` from the place `at` on, and answers the place behind what it wrote. A full buffer is
 // written out on the way. Where that fails, standard error has a line that says so, and the place is `STOPPED` from there on: nothing more is printed.
 use libc::STDOUT_FILENO;
+ghost use mathlib.Core.Path.{_≡_};
+ghost use mathlib.Core.Bool.{cond};
+ghost use Prim.Native.Nat.{_+_, _<_};
+ghost use lib.Dec.{ltb};
+ghost use lib.ListN.{set};
 
 // The buffer. All of it is lent from function to function.
 pub type Page = [u8; 65536];
@@ -52,12 +57,14 @@ pub fn flush(out: &[u8], at: usize) -> usize {
     if io::write_all(STDOUT_FILENO, &out[..at]) {
         return 0;
     }
-    os::fail(b"replay: output");
+    os::fail(b"replay: standard output");
     STOPPED
 }
 
 // An octet, where there is room for it.
-fn put_here(out: &mut Page, at: usize, b: u8) -> usize {
+fn put_here(out: &mut Page, at: usize, b: u8) -> usize
+    ensures { λ r. ⌜ (r ≡ cond (ltb at 65536) (at + 1) at) × (now (out .exit) ≡ cond (ltb at 65536) (set (now (out .entry)) at b) (now (out .entry))) ⌝ }
+{
     if at < 65536 {
         out[at] = b;
         return at + 1;
@@ -65,7 +72,10 @@ fn put_here(out: &mut Page, at: usize, b: u8) -> usize {
     at
 }
 
-pub fn put(out: &mut Page, at: usize, b: u8) -> usize {
+// An octet. Where there is room for it, nothing else of the buffer changes.
+pub fn put(out: &mut Page, at: usize, b: u8) -> usize
+    ensures { λ r. ⌜ (at < 65536 → (r ≡ at + 1) × (now (out .exit) ≡ set (now (out .entry)) at b)) ⌝ }
+{
     if at < 65536 {
         return put_here(out, at, b);
     }
