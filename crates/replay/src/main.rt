@@ -1,9 +1,10 @@
-// Reads requests from standard input, one a line, and prints what each comes to. A line is a letter and octets in hexadecimal; spaces are for the eye.
+// Reads requests from standard input, one a line, and prints what each comes to. A request is a letter and octets in hexadecimal, of either case, behind a
+// space; further spaces are for the eye, though not within an octet.
 //
 //     a area                             an area: how many records, or why not
 //     r room, area                       an area rewritten into `room` octets of FF
-//     w kind, value 2, room, data        a record written at 0 of `room` octets of FF, of 320 where that is FF; kinds 1 to 9 in the order of `AdStructure`, 16 more for a complete list
-//     d header 2, payload                a PDU read
+//     w kind, value 2, room, data        a record written at 0 of `room` octets of FF; kinds 1 to 9 in the order of `AdStructure`, 16 more for a complete list
+//     d header 2, payload                a PDU read; its header may be short
 //     b type, address 7, records         a PDU built; type 7 is a discoverable one. An address is its kind and six octets
 //     g TxAdd, RxAdd, length, header 2   a header set so
 //     i index                            a data channel: index, RF channel, frequency, start of whitening
@@ -17,7 +18,27 @@
 //     x                                  a stop
 //     k address 7, room, records         a beacon, made and sent
 //     c CRC, header 2, payload           a scanner that reports all senders
-//     #                                  a remark; its answer is empty
+//     #                                  a remark: anything may stand behind it. Its answer is empty
+//
+// Each line of the input is answered by one line, also the last where its line end is missing. The answer of a request begins with its letter; that of an
+// empty line is empty. Any other line changes nothing, and is answered `request 17: ` and what is met first in it, 17 being its number among all lines, from 1:
+//
+//     no such request               it begins with none of these letters
+//     no space behind its letter
+//     an octet that is no number    something else than a digit or a space
+//     an octet of one digit
+//     a carriage return             before the line end too
+//     too many octets               more than the request has, or than 320
+//     too few octets                fewer than it has
+//
+// A line may be of any length. A room of FF is 320 octets. Of an octet that says one of two things, as CRC does, 01 is the one and all others are the other; a
+// type that the table does not name is taken as 7, a kind as 9.
+//
+// Answers are written as soon as all that was read is answered. A read or a write that fails ends the run, with a line on standard error. An argument is
+// answered there by the usage, and nothing is read.
+mod lines;
+mod print;
+
 use addresses::device_address::AddressKind;
 use addresses::device_address::DeviceAddress;
 use addresses::header::Header;
@@ -32,14 +53,22 @@ use beacon::beacon::Beacon;
 use beacon::beacon::BeaconScanner;
 use beacon::beacon::Broadcast;
 use beacon::beacon::Report;
+use beacon::beacon::Scanned;
+use bytes::scan::find;
 use channels::channel_map::ChannelMap;
 use channels::connection::Hop;
 use channels::connection::hop_channel;
 use channels::phy::AdvertisingChannel;
+use channels::phy::AllChannels;
 use channels::phy::DataChannel;
 use channels::phy::Found;
+use libc::STDERR_FILENO;
 use libc::STDIN_FILENO;
-use libc::STDOUT_FILENO;
+use lines::Asked;
+use lines::Fault;
+use lines::Line;
+use lines::ended;
+use lines::read_on;
 use octets::bytes::ByteWriter;
 use octets::bytes::Written;
 use octets::bytes::u16_from_le_bytes;
@@ -47,6 +76,17 @@ use octets::bytes::u32_from_le_bytes;
 use octets::comp_id::CompanyId;
 use octets::error::Error;
 use octets::time::Instant;
+use print::Page;
+use print::STOPPED;
+use print::Word;
+use print::flush;
+use print::hex;
+use print::labelled;
+use print::number;
+use print::octets;
+use print::put;
+use print::say;
+use print::text;
 use radio::link::Answer;
 use radio::link::Called;
 use radio::link::Device;
@@ -56,75 +96,53 @@ use records::ad_structure::write_record;
 use records::area::Area;
 use records::area::read_area;
 use records::area::rewrite_area;
+use std::num::wrapping_add_u64;
 ghost use Prim.Native.Nat.{_≤_};
 ghost use lib.ListN.{length};
 
-// What is printed
+// What is printed of a value
 
-fn text(s: &[u8]) {
-    io::write_all(STDOUT_FILENO, s);
+fn refused(out: &mut Page, at: usize, e: Error) -> usize {
+    labelled(out, at, Word::Refused, e.number() as u64)
 }
 
-fn number(n: u64) {
-    text(b" ");
-    io::print_decimal(STDOUT_FILENO, n);
-}
-
-fn hex(n: u64, digits: usize) {
-    text(b" ");
-    io::print_hex(STDOUT_FILENO, n, digits);
-}
-
-fn pair(b: u8) {
-    hex(b as u64, 2);
-}
-
-fn octets(s: &[u8]) {
-    for i in 0..s.len() {
-        pair(s[i]);
-    }
-}
-
-fn refused(e: Error) {
-    text(b" refused");
-    number(e.number() as u64);
-}
-
-fn outcome(o: Outcome) {
+fn outcome(out: &mut Page, at: usize, o: Outcome) -> usize {
     match o {
-        Outcome::Accepted => text(b" accepted"),
-        Outcome::Refused(e) => refused(e),
+        Outcome::Accepted => say(out, at, Word::Accepted),
+        Outcome::Refused(e) => refused(out, at, e),
     }
 }
 
-fn written(w: Written) {
+fn written(out: &mut Page, at: usize, w: Written) -> usize {
     match w {
-        Written::To(next) => {
-            text(b" to");
-            number(next.at as u64);
-        }
-        Written::Refused(e) => refused(e),
+        Written::To(next) => labelled(out, at, Word::To, next.at as u64),
+        Written::Refused(e) => refused(out, at, e),
     }
 }
 
-fn address(a: DeviceAddress) {
+fn kind(a: DeviceAddress) -> Word {
     if a.is_random() {
-        text(b" random");
-    } else {
-        text(b" public");
+        return Word::Random;
     }
+    Word::Public
+}
+
+fn address(out: &mut Page, at: usize, a: DeviceAddress) -> usize {
     let raw = a.raw();
-    octets(&raw);
+    let next = say(out, at, kind(a));
+    octets(out, next, &raw)
 }
 
-fn on(channel: AdvertisingChannel) {
-    text(b" on");
-    number(channel.channel() as u64);
+fn header_of(out: &mut Page, at: usize, header: Header) -> usize {
+    hex(out, at, header.to_u16() as u64, 4)
 }
 
-fn at_instant(at: Instant) {
-    text(b" at");
-    number(at.raw_micros() as u64);
+fn on(out: &mut Page, at: usize, channel: AdvertisingChannel) -> usize {
+    labelled(out, at, Word::On, channel.channel() as u64)
+}
+
+fn at_instant(out: &mut Page, at: usize, instant: Instant) -> usize {
+    labelled(out, at, Word::At, instant.raw_micros() as u64)
 }
 
 // What is read
@@ -136,6 +154,11 @@ fn octet(s: &[u8], at: usize) -> u8 {
 // The octets from a place on.
 fn rest(s: &[u8], at: usize) -> &[u8] {
     if at < s.len() { &s[at..] } else { &s[..0] }
+}
+
+// The first n octets.
+fn start(s: &[u8], n: usize) -> &[u8] {
+    if n < s.len() { &s[..n] } else { s }
 }
 
 fn word(s: &[u8], at: usize) -> u32 {
@@ -183,16 +206,11 @@ fn header_in(s: &[u8], at: usize) -> Header {
 
 // Records
 
-fn area(s: &[u8]) {
+fn area(out: &mut Page, at: usize, s: &[u8]) -> usize {
     match read_area(s) {
-        Area::Accepted(count) => number(count as u64),
-        Area::Refused(e) => refused(e),
+        Area::Accepted(count) => number(out, at, count as u64),
+        Area::Refused(e) => refused(out, at, e),
     }
-}
-
-fn rewrite(s: &[u8], out: &mut [u8]) {
-    written(rewrite_area(rest(s, 1), out));
-    octets(out);
 }
 
 // A record of a kind, whose data are octets 4 on of the request.
@@ -236,67 +254,73 @@ fn structure(kind: u8, value: u16, len: usize) -> AdStructure {
     }
 }
 
-fn write(s: &[u8], out: &mut [u8]) {
+fn write(s: &[u8], lent: &mut [u8]) -> Written {
     let value = u16_from_le_bytes(octet(s, 1), octet(s, 2));
     let data = rest(s, 4);
     let ad = structure(octet(s, 0), value, data.len());
-    written(write_record(ad, s, ByteWriter::new(), out));
-    octets(out);
+    write_record(ad, s, ByteWriter::new(), lent)
 }
 
 // PDUs
 
-fn request(d: ConnectRequestData) {
-    hex(d.access_address() as u64, 8);
-    hex(d.crc_init() as u64, 6);
-    number(d.win_size() as u64);
-    number(d.win_offset() as u64);
-    number(d.interval() as u64);
-    number(d.slave_latency() as u64);
-    number(d.supervision_timeout() as u64);
+fn timing(out: &mut Page, at: usize, d: ConnectRequestData) -> usize {
+    let mut next = number(out, at, d.win_size() as u64);
+    next = number(out, next, d.win_offset() as u64);
+    next = number(out, next, d.interval() as u64);
+    next = number(out, next, d.slave_latency() as u64);
+    number(out, next, d.supervision_timeout() as u64)
+}
+
+fn hops(out: &mut Page, at: usize, d: ConnectRequestData) -> usize {
     let map = d.channel_map();
     let raw = map.to_raw();
-    octets(&raw);
-    number(d.hop() as u64);
+    let next = octets(out, at, &raw);
+    number(out, next, d.hop() as u64)
 }
 
-// A PDU by its type: a sender; a receiver, and a connect request's fields; or records.
-fn pdu(p: Pdu) {
-    let ty = p.ty();
-    text(b" type");
-    number(ty.to_u8() as u64);
-    address(p.sender());
+fn request(out: &mut Page, at: usize, d: ConnectRequestData) -> usize {
+    let mut next = hex(out, at, d.access_address() as u64, 8);
+    next = hex(out, next, d.crc_init() as u64, 6);
+    next = timing(out, next, d);
+    hops(out, next, d)
+}
+
+// Behind the sender: a receiver, and a connect request's fields; or records.
+fn behind_sender(out: &mut Page, at: usize, p: Pdu) -> usize {
+    let place = p.adv_data;
     if p.has_receiver() {
-        text(b" to");
-        address(p.receiver());
-    } else {
-        let place = p.adv_data;
-        text(b" records");
-        number(place.count as u64);
+        let next = say(out, at, Word::To);
+        return address(out, next, p.receiver());
     }
+    labelled(out, at, Word::Records, place.count as u64)
+}
+
+fn pdu(out: &mut Page, at: usize, p: Pdu) -> usize {
+    let ty = p.ty();
+    let mut next = labelled(out, at, Word::Type, ty.to_u8() as u64);
+    next = address(out, next, p.sender());
+    next = behind_sender(out, next, p);
+    let lldata = p.lldata;
     match ty {
-        PduType::ConnectReq => {
-            let lldata = p.lldata;
-            request(lldata);
-        }
-        _ => {}
+        PduType::ConnectReq => request(out, next, lldata),
+        _ => next,
     }
 }
 
-fn decode(s: &[u8]) {
+fn payload(out: &mut Page, at: usize, header: Header, s: &[u8]) -> usize {
+    let decoded = Pdu::from_header_and_payload(header, s);
+    let found = decoded.outcome;
+    let p = decoded.pdu;
+    match found {
+        Outcome::Accepted => pdu(out, at, p),
+        Outcome::Refused(e) => refused(out, at, e),
+    }
+}
+
+fn decode(out: &mut Page, at: usize, s: &[u8]) -> usize {
     match Header::parse(s) {
-        HeaderMade::Header(header) => {
-            let decoded = Pdu::from_header_and_payload(header, rest(s, 2));
-            let found = decoded.outcome;
-            match found {
-                Outcome::Accepted => {
-                    let p = decoded.pdu;
-                    pdu(p);
-                }
-                Outcome::Refused(e) => refused(e),
-            }
-        }
-        HeaderMade::Refused(e) => refused(e),
+        HeaderMade::Header(header) => payload(out, at, header, rest(s, 2)),
+        HeaderMade::Refused(e) => refused(out, at, e),
     }
 }
 
@@ -311,150 +335,107 @@ fn built(ty: u8, a: DeviceAddress, records: &[u8]) -> Built {
 }
 
 // The header of a PDU and its payload.
-fn sent(p: PduBuf) {
-    let mut out = [0u8; 37];
-    hex(p.header().to_u16() as u64, 4);
-    p.write_payload(&mut out);
-    octets(&out);
+fn sent(out: &mut Page, at: usize, p: PduBuf) -> usize {
+    let mut payload = [0u8; 37];
+    p.write_payload(&mut payload);
+    let next = hex(out, at, p.header().to_u16() as u64, 4);
+    octets(out, next, &payload)
 }
 
-fn build(s: &[u8]) {
+fn build(out: &mut Page, at: usize, s: &[u8]) -> usize {
     let b = built(octet(s, 0), address_in(rest(s, 1)), rest(s, 8));
     let found = b.outcome;
-    outcome(found);
     let p = b.pdu;
-    sent(p);
+    let next = outcome(out, at, found);
+    sent(out, next, p)
 }
 
-fn set_header(s: &[u8]) {
+fn set_header(out: &mut Page, at: usize, s: &[u8]) -> usize {
     let header = header_in(s, 3)
         .set_tx_add(octet(s, 0) == 1)
         .set_rx_add(octet(s, 1) == 1);
     match header.set_payload_length(octet(s, 2)) {
-        HeaderMade::Header(h) => hex(h.to_u16() as u64, 4),
-        HeaderMade::Refused(e) => refused(e),
+        HeaderMade::Header(h) => hex(out, at, h.to_u16() as u64, 4),
+        HeaderMade::Refused(e) => refused(out, at, e),
     }
 }
 
 // Channels
 
-fn data_channel(s: &[u8]) {
+fn channel(out: &mut Page, at: usize, c: DataChannel) -> usize {
+    let mut next = number(out, at, c.index() as u64);
+    next = number(out, next, c.rf_channel() as u64);
+    next = number(out, next, c.freq() as u64);
+    number(out, next, c.whitening_iv() as u64)
+}
+
+fn data_channel(out: &mut Page, at: usize, s: &[u8]) -> usize {
     match DataChannel::new(octet(s, 0)) {
-        Found::Channel(channel) => {
-            number(channel.index() as u64);
-            number(channel.rf_channel() as u64);
-            number(channel.freq() as u64);
-            number(channel.whitening_iv() as u64);
-        }
-        Found::Refused(e) => refused(e),
+        Found::Channel(c) => channel(out, at, c),
+        Found::Refused(e) => refused(out, at, e),
     }
 }
 
-fn map(s: &[u8]) {
+fn map(out: &mut Page, at: usize, s: &[u8]) -> usize {
     let m = map_in(s);
     let raw = m.to_raw();
-    number(m.num_used_channels() as u64);
-    octets(&raw);
+    let next = number(out, at, m.num_used_channels() as u64);
+    octets(out, next, &raw)
 }
 
-fn hop(s: &[u8]) {
+fn hopped(out: &mut Page, at: usize, unmapped: u8, c: DataChannel) -> usize {
+    let next = number(out, at, unmapped as u64);
+    number(out, next, c.index() as u64)
+}
+
+fn hop(out: &mut Page, at: usize, s: &[u8]) -> usize {
     match hop_channel(map_in(s), octet(s, 5), octet(s, 6)) {
-        Hop::To { unmapped, channel } => {
-            number(unmapped as u64);
-            number(channel.index() as u64);
-        }
-        Hop::Refused(e) => refused(e),
+        Hop::To { unmapped, channel } => hopped(out, at, unmapped, channel),
+        Hop::Refused(e) => refused(out, at, e),
     }
-}
-
-// Calls on a device
-
-fn answer(a: Answer) {
-    match a {
-        Answer::Refused(e) => refused(e),
-        Answer::Sent {
-            header,
-            channel,
-            next_adv,
-        } => {
-            hex(header.to_u16() as u64, 4);
-            on(channel);
-            at_instant(next_adv);
-        }
-        Answer::Listen(channel) => {
-            text(b" listens");
-            on(channel);
-        }
-        Answer::Respond { header, channel } => {
-            hex(header.to_u16() as u64, 4);
-            on(channel);
-        }
-        Answer::FirstEvent {
-            channel,
-            at,
-            access_address,
-            crc_init,
-        } => {
-            number(channel.index() as u64);
-            at_instant(at);
-            hex(access_address as u64, 8);
-            hex(crc_init as u64, 6);
-        }
-        Answer::NextEvent(channel) => number(channel.index() as u64),
-        Answer::Stopped => text(b" stopped"),
-    }
-}
-
-// Prints what a call answered, and hands its device on.
-fn called(c: Called) -> Device {
-    let a = c.answer;
-    answer(a);
-    c.device
-}
-
-fn start(d: Device, s: &[u8], tx: &mut [u8]) -> Device {
-    let after = called(d.start_advertise(instant(s), word(s, 4), rest(s, 9), tx));
-    octets(tx);
-    after
-}
-
-fn tick(d: Device, tx: &mut [u8]) -> Device {
-    let after = called(d.update_timer(tx));
-    octets(tx);
-    after
-}
-
-fn packet(d: Device, s: &[u8]) -> Device {
-    called(d.process_adv_packet(instant(s), header_in(s, 5), rest(s, 7), octet(s, 4) == 1))
 }
 
 // Beacon and scanner
 
-fn broadcast(b: Broadcast) {
+fn transmit(out: &mut Page, at: usize, header: Header, all: AllChannels) -> usize {
+    let first = all.first;
+    let second = all.second;
+    let third = all.third;
+    let mut next = header_of(out, at, header);
+    next = on(out, next, first);
+    next = on(out, next, second);
+    on(out, next, third)
+}
+
+fn broadcast(out: &mut Page, at: usize, b: Broadcast) -> usize {
     match b {
-        Broadcast::Transmit(header, all) => {
-            hex(header.to_u16() as u64, 4);
-            let first = all.first;
-            let second = all.second;
-            let third = all.third;
-            on(first);
-            on(second);
-            on(third);
-        }
-        Broadcast::Refused(e) => refused(e),
+        Broadcast::Transmit(header, all) => transmit(out, at, header, all),
+        Broadcast::Refused(e) => refused(out, at, e),
     }
 }
 
-fn beacon(s: &[u8], tx: &mut [u8]) {
+fn beacon(out: &mut Page, at: usize, s: &[u8], lent: &mut [u8]) -> usize {
     let made = Beacon::new(address_in(s), rest(s, 8));
     let found = made.outcome;
     let b = made.beacon;
-    outcome(found);
-    broadcast(b.broadcast(tx));
-    octets(tx);
+    let next = outcome(out, at, found);
+    broadcast(out, next, b.broadcast(lent))
 }
 
-fn scan(s: &[u8]) {
+fn report(out: &mut Page, at: usize, scanned: Scanned, s: &[u8]) -> usize {
+    let found = scanned.report;
+    let sender = scanned.sender;
+    match found {
+        Report::Beacon => {
+            let next = address(out, at, sender);
+            octets(out, next, scanned.advertising_data(s))
+        }
+        Report::Nothing => say(out, at, Word::Nothing),
+        Report::Refused(e) => refused(out, at, e),
+    }
+}
+
+fn scan(out: &mut Page, at: usize, s: &[u8]) -> usize {
     let scanner = BeaconScanner::new();
     let payload = rest(s, 3);
     let scanned = scanner.process_adv_packet(
@@ -463,33 +444,135 @@ fn scan(s: &[u8]) {
         octet(s, 0) == 1,
         &payload[..0],
     );
-    let report = scanned.report;
-    match report {
-        Report::Beacon => {
-            let sender = scanned.sender;
-            address(sender);
-            octets(scanned.advertising_data(payload));
-        }
-        Report::Nothing => text(b" nothing"),
-        Report::Refused(e) => refused(e),
+    report(out, at, scanned, payload)
+}
+
+// Calls on a device
+
+fn first_event(
+    out: &mut Page,
+    at: usize,
+    channel: DataChannel,
+    instant: Instant,
+    access_address: u32,
+    crc_init: u32,
+) -> usize {
+    let mut next = number(out, at, channel.index() as u64);
+    next = at_instant(out, next, instant);
+    next = hex(out, next, access_address as u64, 8);
+    hex(out, next, crc_init as u64, 6)
+}
+
+fn response(out: &mut Page, at: usize, header: Header, channel: AdvertisingChannel) -> usize {
+    let next = header_of(out, at, header);
+    on(out, next, channel)
+}
+
+fn advertisement(
+    out: &mut Page,
+    at: usize,
+    header: Header,
+    channel: AdvertisingChannel,
+    next_adv: Instant,
+) -> usize {
+    let next = response(out, at, header, channel);
+    at_instant(out, next, next_adv)
+}
+
+fn listening(out: &mut Page, at: usize, channel: AdvertisingChannel) -> usize {
+    let next = say(out, at, Word::Listens);
+    on(out, next, channel)
+}
+
+fn answer(out: &mut Page, at: usize, a: Answer) -> usize {
+    match a {
+        Answer::Refused(e) => refused(out, at, e),
+        Answer::Sent {
+            header,
+            channel,
+            next_adv,
+        } => advertisement(out, at, header, channel, next_adv),
+        Answer::Listen(channel) => listening(out, at, channel),
+        Answer::Respond { header, channel } => response(out, at, header, channel),
+        Answer::FirstEvent {
+            channel,
+            at: instant,
+            access_address,
+            crc_init,
+        } => first_event(out, at, channel, instant, access_address, crc_init),
+        Answer::NextEvent(channel) => number(out, at, channel.index() as u64),
+        Answer::Stopped => say(out, at, Word::Stopped),
+    }
+}
+
+fn start_advertise(d: Device, s: &[u8], lent: &mut [u8]) -> Called {
+    d.start_advertise(instant(s), word(s, 4), rest(s, 9), lent)
+}
+
+fn packet(d: Device, s: &[u8]) -> Called {
+    d.process_adv_packet(instant(s), header_in(s, 5), rest(s, 7), octet(s, 4) == 1)
+}
+
+fn call(d: Device, letter: u8, s: &[u8], lent: &mut [u8]) -> Called {
+    match letter {
+        b'e' => d.event(),
+        b'p' => packet(d, s),
+        b's' => start_advertise(d, s, lent),
+        b't' => d.update_timer(lent),
+        _ => d.stop(),
     }
 }
 
 // Requests
 
-// Those that need no device and write nothing.
-fn ask(letter: u8, s: &[u8]) {
+// The device after a request, and the place behind the answer.
+struct Step {
+    device: Device,
+    at: usize,
+}
+
+// Those that need no device and are lent nothing.
+fn look(out: &mut Page, at: usize, letter: u8, s: &[u8]) -> usize {
     match letter {
-        b'#' => {}
-        b'a' => area(s),
-        b'b' => build(s),
-        b'c' => scan(s),
-        b'd' => decode(s),
-        b'g' => set_header(s),
-        b'h' => hop(s),
-        b'i' => data_channel(s),
-        b'm' => map(s),
-        _ => text(b" no request"),
+        b'a' => area(out, at, s),
+        b'b' => build(out, at, s),
+        b'c' => scan(out, at, s),
+        b'd' => decode(out, at, s),
+        _ => work_out(out, at, letter, s),
+    }
+}
+
+fn work_out(out: &mut Page, at: usize, letter: u8, s: &[u8]) -> usize {
+    match letter {
+        b'g' => set_header(out, at, s),
+        b'h' => hop(out, at, s),
+        b'i' => data_channel(out, at, s),
+        b'm' => map(out, at, s),
+        _ => at,
+    }
+}
+
+// Those that need no device.
+fn ask(out: &mut Page, at: usize, letter: u8, s: &[u8], lent: &mut [u8]) -> usize {
+    match letter {
+        b'k' => beacon(out, at, s, lent),
+        b'r' => written(out, at, rewrite_area(rest(s, 1), lent)),
+        b'w' => written(out, at, write(s, lent)),
+        _ => look(out, at, letter, s),
+    }
+}
+
+fn is_call(letter: u8) -> bool {
+    match letter {
+        b'e' | b'p' | b's' | b't' | b'x' => true,
+        _ => false,
+    }
+}
+
+fn is_lent(letter: u8) -> bool {
+    match letter {
+        b'k' | b'r' | b's' | b't' | b'w' => true,
+        _ => false,
     }
 }
 
@@ -503,156 +586,251 @@ fn room_at(letter: u8) -> usize {
     }
 }
 
-// A request: a call on the device hands on another one.
-fn take(d: Device, letter: u8, s: &[u8], out: &mut [u8]) -> Device {
-    match letter {
-        b'e' => called(d.event()),
-        b'k' => {
-            beacon(s, out);
-            d
-        }
-        b'n' => Device::new(address_in(s)),
-        b'p' => packet(d, s),
-        b'r' => {
-            rewrite(s, out);
-            d
-        }
-        b's' => start(d, s, out),
-        b't' => tick(d, out),
-        b'w' => {
-            write(s, out);
-            d
-        }
-        b'x' => called(d.stop()),
-        _ => {
-            ask(letter, s);
-            d
-        }
+// A call on the device, which hands on another one.
+fn take_call(out: &mut Page, at: usize, d: Device, letter: u8, s: &[u8], lent: &mut [u8]) -> Step {
+    let called = call(d, letter, s, lent);
+    let a = called.answer;
+    let device = called.device;
+    Step {
+        device,
+        at: answer(out, at, a),
     }
 }
 
-// The next octet of the input, or 256 at its end.
-fn next_octet() -> u16 {
-    let mut one = [0u8; 1];
-    if libc::read(STDIN_FILENO, &mut one) == 1 {
-        return wide(one[0]);
+fn take(out: &mut Page, at: usize, d: Device, letter: u8, s: &[u8], lent: &mut [u8]) -> Step {
+    if is_call(letter) {
+        return take_call(out, at, d, letter, s, lent);
     }
-    256
+    if letter == b'n' {
+        return Step {
+            device: Device::new(address_in(s)),
+            at,
+        };
+    }
+    Step {
+        device: d,
+        at: ask(out, at, letter, s, lent),
+    }
 }
 
-fn wide(b: u8) -> u16 {
-    b as u16
-}
-
-// The value of a digit, or 16.
-fn digit(c: u16) -> u8
-    ensures { λ r. ⌜ r ≤ 16 ⌝ }
+// The octets that a request is lent: as many as it says, or 320.
+fn room_of(letter: u8, s: &[u8]) -> usize
+    ensures { λ r. ⌜ r ≤ 320 ⌝ }
 {
-    if c < 48 {
-        return 16;
-    }
-    if c < 58 {
-        return (c - 48) as u8;
-    }
-    if c < 65 {
-        return 16;
-    }
-    if c < 71 {
-        return (c - 55) as u8;
-    }
-    16
-}
-
-// An octet more, where there is room.
-fn push(out: &mut [u8], n: usize, b: u8) -> usize
-    requires { ⌜ n ≤ length (now out) ⌝ }
-    ensures { λ r. ⌜ r ≤ length (now (out .entry)) ⌝ }
-{
-    if n < out.len() {
-        out[n] = b;
-        return n + 1;
-    }
-    n
-}
-
-// The octet of two digits, or 0 where one of them is none.
-fn both(high: u8, low: u8) -> u8 {
-    if high < 16 {
-        if low < 16 {
-            return high * 16 + low;
-        }
-    }
-    0
-}
-
-// Reads octets to the end of the line, as far as there is room, and answers how many.
-fn read_octets(out: &mut [u8]) -> usize
-    ensures { λ r. ⌜ r ≤ length (now (out .entry)) ⌝ }
-{
-    let mut n = 0;
-    let mut high = 16;
-    let mut left: u32 = 4000;
-    while 0 < left {
-        left -= 1;
-        let c = next_octet();
-        if c == 10 {
-            return n;
-        }
-        let low = digit(c);
-        if low < 16 {
-            if high < 16 {
-                n = push(out, n, both(high, low));
-                high = 16;
-            } else {
-                high = low;
-            }
-        }
-    }
-    n
-}
-
-// A request with a buffer of the room that it says; FF is all of it.
-fn lend(d: Device, letter: u8, s: &[u8], out: &mut [u8]) -> Device {
-    let room = octet(s, room_at(letter)) as usize;
+    let room = wide(octet(s, room_at(letter)));
     if room == 255 {
-        return take(d, letter, s, out);
+        return 320;
     }
-    if room < out.len() {
-        return take(d, letter, s, &mut out[..room]);
-    }
-    take(d, letter, s, out)
+    room
 }
 
-// Answers a request, and hands the device on.
-fn serve(d: Device, letter: u8, s: &[u8]) -> Device {
-    let mut out = [0xFFu8; 320];
-    text(&[letter]);
-    let after = lend(d, letter, s, &mut out);
-    text(b"\n");
+fn wide(b: u8) -> usize
+    ensures { λ r. ⌜ r ≤ 255 ⌝ }
+{
+    b as usize
+}
+
+// The octets that were lent, where some were.
+fn show_lent(out: &mut Page, at: usize, letter: u8, lent: &[u8]) -> usize {
+    if is_lent(letter) {
+        return octets(out, at, lent);
+    }
+    at
+}
+
+fn take_and_show(
+    out: &mut Page,
+    at: usize,
+    d: Device,
+    letter: u8,
+    s: &[u8],
+    lent: &mut [u8],
+) -> Step {
+    let step = take(out, at, d, letter, s, lent);
+    let device = step.device;
+    Step {
+        device,
+        at: show_lent(out, step.at, letter, lent),
+    }
+}
+
+fn serve(out: &mut Page, at: usize, d: Device, letter: u8, s: &[u8]) -> Step {
+    let mut lent = [0xFFu8; 320];
+    let room = room_of(letter, s);
+    let next = put(out, at, letter);
+    take_and_show(out, next, d, letter, s, &mut lent[..room])
+}
+
+// Lines
+
+fn why(fault: Fault) -> [u8; 26] {
+    match fault {
+        Fault::NoRequest => *b"no such request\0\0\0\0\0\0\0\0\0\0\0",
+        Fault::NoSpace => *b"no space behind its letter",
+        Fault::NoNumber => *b"an octet that is no number",
+        Fault::OneDigit => *b"an octet of one digit\0\0\0\0\0",
+        Fault::Return => *b"a carriage return\0\0\0\0\0\0\0\0\0",
+        Fault::TooMany => *b"too many octets\0\0\0\0\0\0\0\0\0\0\0",
+        Fault::TooFew => *b"too few octets\0\0\0\0\0\0\0\0\0\0\0\0",
+    }
+}
+
+fn wrong(out: &mut Page, at: usize, n: u64, fault: Fault) -> usize {
+    let words = why(fault);
+    let mut next = labelled(out, at, Word::Request, n);
+    next = put(out, next, b':');
+    next = put(out, next, b' ');
+    text(out, next, &words)
+}
+
+// Where a run stands: the device, the line that is read, how many lines are answered, and the place in the output.
+struct Run {
+    device: Device,
+    line: Line,
+    lines: u64,
+    at: usize,
+}
+
+// What line n asks.
+fn answer_line(
+    out: &mut Page,
+    at: usize,
+    d: Device,
+    line: Asked,
+    n: u64,
+    args: &[u8; 320],
+) -> Step {
+    match line {
+        Asked::Nothing => Step { device: d, at },
+        Asked::Request(letter, count) => serve(out, at, d, letter, start(args, count)),
+        Asked::Wrong(fault) => Step {
+            device: d,
+            at: wrong(out, at, n, fault),
+        },
+    }
+}
+
+// The line ends.
+fn end_line(run: Run, args: &[u8; 320], out: &mut Page) -> Run {
+    let n = wrapping_add_u64(run.lines, 1);
+    let before = run.device;
+    let line = run.line;
+    let step = answer_line(out, run.at, before, ended(line), n, args);
+    let device = step.device;
+    Run {
+        device,
+        line: Line::Start,
+        lines: n,
+        at: put(out, step.at, b'\n'),
+    }
+}
+
+// Takes in some of a line, or the last of it.
+fn go_on(run: Run, s: &[u8], is_last: bool, args: &mut [u8; 320], out: &mut Page) -> Run {
+    let device = run.device;
+    let before = run.line;
+    let line = read_on(before, s, args);
+    let read = Run {
+        device,
+        line,
+        lines: run.lines,
+        at: run.at,
+    };
+    if is_last {
+        return end_line(read, args, out);
+    }
+    read
+}
+
+// Takes in some of the input, line by line.
+fn take_in(run: Run, s: &[u8], args: &mut [u8; 320], out: &mut Page) -> Run {
+    let mut after = run;
+    let mut from = 0;
+    while from < s.len() {
+        let end = find(s, from, s.len(), b'\n');
+        after = go_on(after, &s[from..end], end < s.len(), args, out);
+        if s.len() <= end {
+            return after;
+        }
+        from = end + 1;
+    }
     after
 }
 
-fn serve_line(d: Device, letter: u8, args: &mut [u8]) -> Device {
-    let n = read_octets(args);
-    serve(d, letter, &args[..n])
+// The run goes on from a place in the output.
+fn placed(run: Run, at: usize) -> Run {
+    let device = run.device;
+    let line = run.line;
+    Run {
+        device,
+        line,
+        lines: run.lines,
+        at,
+    }
 }
 
-// A line with room for 320 octets.
-fn request_line(d: Device, letter: u8) -> Device {
-    let mut args = [0u8; 320];
-    serve_line(d, letter, &mut args)
+// At the end of the input a line that has begun ends too.
+fn end_input(run: Run, args: &[u8; 320], out: &mut Page) -> Run {
+    let line = run.line;
+    match line {
+        Line::Start => placed(run, STOPPED),
+        _ => {
+            let last = end_line(run, args, out);
+            flush(out, last.at);
+            placed(last, STOPPED)
+        }
+    }
+}
+
+// Answers what was read: nothing is, at the end of the input.
+fn take_read(run: Run, s: &[u8], args: &mut [u8; 320], out: &mut Page) -> Run {
+    if s.len() == 0 {
+        return end_input(run, args, out);
+    }
+    let after = take_in(run, s, args, out);
+    placed(after, flush(out, after.at))
+}
+
+fn next_turn(run: Run, input: &mut [u8], args: &mut [u8; 320], out: &mut Page) -> Run {
+    let got = libc::read(STDIN_FILENO, input);
+    if got < 0 {
+        os::fail(b"replay: standard input");
+        return placed(run, STOPPED);
+    }
+    let n = io::count(got, input);
+    take_read(run, &input[..n], args, out)
+}
+
+fn new_run() -> Run {
+    let address = DeviceAddress::new([0, 0, 0, 0, 0, 0], AddressKind::Public);
+    Run {
+        device: Device::new(address),
+        line: Line::Start,
+        lines: 0,
+        at: 0,
+    }
+}
+
+// A proved loop has to end, and nothing says that the input does. So the loop counts its turns down, from a number that no run uses up.
+fn replay(input: &mut [u8], args: &mut [u8; 320], out: &mut Page) {
+    let mut run = new_run();
+    let mut turns = u64::MAX;
+    while 0 < turns {
+        turns -= 1;
+        run = next_turn(run, input, args, out);
+        if run.at == STOPPED {
+            return;
+        }
+    }
 }
 
 fn main() {
-    let mut d = Device::new(DeviceAddress::new([0, 0, 0, 0, 0, 0], AddressKind::Public));
-    // A proved loop has to end: no input has so many lines.
-    let mut lines = u64::MAX;
-    while 0 < lines {
-        lines -= 1;
-        let letter = next_octet();
-        if 255 < letter {
-            return;
-        }
-        d = request_line(d, letter as u8);
+    if 1 < os::arg_count() {
+        io::write_all(STDERR_FILENO, b"usage: replay < requests\n");
+        return;
     }
+    let mut input = io::large_buffer();
+    let mut out = io::large_buffer();
+    let mut args = [0u8; 320];
+    replay(&mut input, &mut args, &mut out);
 }

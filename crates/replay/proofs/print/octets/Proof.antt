@@ -1,16 +1,16 @@
--- `replay::octets` meets its contract: the index stays below the length. Assumes nothing.
+-- `replay::print::octets` meets its contract: the index stays below the length. Assumes nothing.
 use mathlib.Core.Path.{_≡_}
 use Prim.Native.Nat.{_-_}
 use lib.ListN.{length}
 use borrow.Author.Needs.{needs}
-use Rattle.replay.proofs.octets.Statement.{statement}
-use Rattle.replay.proofs.octets.Tie as tie
+use Rattle.replay.proofs.print.octets.Statement.{statement}
+use Rattle.replay.proofs.print.octets.Tie as tie
 
 abbrev Inv-loop : tie.InvT-loop
-Inv-loop s i₀ i-end i = i-end ≡ length s
+Inv-loop out₀ at s next₀ i₀ i-end out next i = i-end ≡ length s
 
 abbrev μ-loop : tie.MeasureT-loop
-μ-loop s i₀ i-end i = i-end - i
+μ-loop out₀ at s next₀ i₀ i-end out next i = i-end - i
 
 pub octets-spec : {M : Type 1} → statement M
 octets-spec =
