@@ -2,7 +2,7 @@
 ghost use Prim.Native.Nat.{_≤_};
 
 // Why a line is no request: what is met first.
-pub enum Fault {
+pub(crate) enum Fault {
     // A letter that names no request.
     NoRequest,
     // A letter, and something else than a space behind it.
@@ -20,7 +20,7 @@ pub enum Fault {
 }
 
 // How far a line is read.
-pub enum Line {
+pub(crate) enum Line {
     // Nothing is.
     Start,
     Remark,
@@ -34,7 +34,7 @@ pub enum Line {
 }
 
 // What a whole line asks.
-pub enum Asked {
+pub(crate) enum Asked {
     // It is empty.
     Nothing,
     // A letter, and so many octets. A remark has none.
@@ -170,7 +170,7 @@ fn after(line: Line, c: u8, octets: &mut [u8; 320]) -> Line {
 }
 
 // A line, some characters later.
-pub fn read_on(line: Line, s: &[u8], octets: &mut [u8; 320]) -> Line {
+pub(crate) fn read_on(line: Line, s: &[u8], octets: &mut [u8; 320]) -> Line {
     let mut so_far = line;
     for i in 0..s.len() {
         so_far = after(so_far, s[i], octets);
@@ -186,7 +186,7 @@ fn whole(letter: u8, n: usize) -> Asked {
 }
 
 // What a line asks that ends here.
-pub fn ended(line: Line) -> Asked {
+pub(crate) fn ended(line: Line) -> Asked {
     match line {
         Line::Start => Asked::Nothing,
         Line::Remark => Asked::Request(b'#', 0),

@@ -11,10 +11,10 @@ ghost use lib.ListN.{set};
 pub type Page = [u8; 65536];
 
 // A place of no buffer.
-pub const STOPPED: usize = usize::MAX;
+pub(crate) const STOPPED: usize = usize::MAX;
 
 // What is said in answers.
-pub enum Word {
+pub(crate) enum Word {
     Accepted,
     At,
     Listens,
@@ -50,7 +50,7 @@ fn spelled(word: Word) -> [u8; 9] {
 }
 
 // Writes out what stands before `at`, and answers where to go on.
-pub fn flush(out: &[u8], at: usize) -> usize {
+pub(crate) fn flush(out: &[u8], at: usize) -> usize {
     if out.len() < at {
         return at;
     }
@@ -73,7 +73,7 @@ fn put_here(out: &mut Page, at: usize, b: u8) -> usize
 }
 
 // An octet. Where there is room for it, nothing else of the buffer changes.
-pub fn put(out: &mut Page, at: usize, b: u8) -> usize
+pub(crate) fn put(out: &mut Page, at: usize, b: u8) -> usize
     ensures { λ r. ⌜ (at < 65536 → (r ≡ at + 1) × (now (out .exit) ≡ set (now (out .entry)) at b)) ⌝ }
 {
     if at < 65536 {
@@ -91,7 +91,7 @@ fn put_letter(out: &mut Page, at: usize, b: u8) -> usize {
 }
 
 // A text, whose end may be filled up with 0.
-pub fn text(out: &mut Page, at: usize, s: &[u8]) -> usize {
+pub(crate) fn text(out: &mut Page, at: usize, s: &[u8]) -> usize {
     let mut next = at;
     for i in 0..s.len() {
         next = put_letter(out, next, s[i]);
@@ -100,13 +100,13 @@ pub fn text(out: &mut Page, at: usize, s: &[u8]) -> usize {
 }
 
 // A word.
-pub fn say(out: &mut Page, at: usize, word: Word) -> usize {
+pub(crate) fn say(out: &mut Page, at: usize, word: Word) -> usize {
     let letters = spelled(word);
     text(out, at, &letters)
 }
 
 // A space and a number.
-pub fn number(out: &mut Page, at: usize, n: u64) -> usize {
+pub(crate) fn number(out: &mut Page, at: usize, n: u64) -> usize {
     let mut digits = [0u8; 20];
     let k = io::decimal(n, &mut digits);
     let next = put(out, at, b' ');
@@ -114,13 +114,13 @@ pub fn number(out: &mut Page, at: usize, n: u64) -> usize {
 }
 
 // A word and a number.
-pub fn labelled(out: &mut Page, at: usize, word: Word, n: u64) -> usize {
+pub(crate) fn labelled(out: &mut Page, at: usize, word: Word, n: u64) -> usize {
     let next = say(out, at, word);
     number(out, next, n)
 }
 
 // A space and a number of so many hexadecimal digits.
-pub fn hex(out: &mut Page, at: usize, n: u64, width: usize) -> usize {
+pub(crate) fn hex(out: &mut Page, at: usize, n: u64, width: usize) -> usize {
     let mut digits = [0u8; 16];
     let k = io::hex(n, width, &mut digits);
     let next = put(out, at, b' ');
@@ -142,7 +142,7 @@ fn pair(out: &mut Page, at: usize, b: u8) -> usize {
     put(out, next, digit(b % 16))
 }
 
-pub fn octets(out: &mut Page, at: usize, s: &[u8]) -> usize {
+pub(crate) fn octets(out: &mut Page, at: usize, s: &[u8]) -> usize {
     let mut next = at;
     for i in 0..s.len() {
         next = pair(out, next, s[i]);
