@@ -1,11 +1,11 @@
 // Reads requests from standard input, one a line, and prints what each comes to. A request is a letter and octets in hexadecimal, of either case, behind a
-// space; further spaces are for the eye, though not within an octet.
+// space; further spaces are for the eye, though not within an octet. Of a number's octets the least one comes first.
 //
 //     a area                             an area: how many records, or why not
 //     r room, area                       an area rewritten into `room` octets of FF
 //     w kind, value 2, room, data        a record written at 0 of `room` octets of FF; kinds 1 to 9 in the order of `AdStructure`, 16 more for a complete list
 //     d header 2, payload                a PDU read; its header may be short
-//     b type, address 7, records         a PDU built; type 7 is a discoverable one. An address is its kind and six octets
+//     b type, address 7, records         a PDU built: of type 0, 2, 4 or 6, any other is a discoverable one. An address is its kind and six octets
 //     g TxAdd, RxAdd, length, header 2   a header set so
 //     i index                            a data channel: index, RF channel, frequency, start of whitening
 //     m octets 5                         a channel map
@@ -18,7 +18,7 @@
 //     x                                  a stop
 //     k address 7, room, records         a beacon, made and sent
 //     c CRC, header 2, payload           a scanner that reports all senders
-//     #                                  a remark: anything may stand behind it. Its answer is empty
+//     #                                  a remark: anything may stand behind it. Its answer is the letter alone, as of `n`
 //
 // Each line of the input is answered by one line, also the last where its line end is missing. The answer of a request begins with its letter; that of an
 // empty line is empty. Any other line changes nothing, and is answered `request 17: ` and what is met first in it, 17 being its number among all lines, from 1:
@@ -31,8 +31,8 @@
 //     too many octets               more than the request has, or than 320
 //     too few octets                fewer than it has
 //
-// A line may be of any length. A room of FF is 320 octets. Of an octet that says one of two things, as CRC does, 01 is the one and all others are the other; a
-// type that the table does not name is taken as 7, a kind as 9.
+// A line may be of any length. A room of FF is 320 octets. Of an octet that says one of two things, as CRC does, 01 is the one and all others are the other; of
+// `w` any other kind is 9.
 //
 // Answers are written as soon as all that was read is answered. A read or a write that fails ends the run, with a line on standard error. An argument is
 // answered there by the usage, and nothing is read.
