@@ -44,12 +44,13 @@ typedef struct BoardGot {
 
 /* --- libdecode.a --- */
 
-/* A PDU. ty: its type; receiver: of types 1, 3 and 5; its records are `count`, in the payload's `len` octets from `start` on. The rest is a connect
- * request's, times in microseconds:
+/* A PDU. ty: its type; receiver: of types 1, 3 and 5, which has_receiver says; its records are `count`, in the `len` octets of the payload from its
+ * octet `start` on. The rest is a connect request's, times in microseconds:
  *   window_end     win_offset + win_size + 1250, from the end of the request on     map        as BoardMap has it, map_count its marks
  *   latency        how many events may be slept through                             hop        0 to 31
  *   timeout        so long without a packet ends the connection                     crc_init   24 bits
- *   sca            the clock's accuracy: 0 251 to 500 ppm, 1 to 250, 2 to 150, 3 to 100, 4 to 75, 5 to 50, 6 to 30, 7 0 to 20
+ *   interval       from one event to the next                                       sca        a code, 0 the worst clock, 7 the best
+ *   sca 0 to 7: the clock is off by up to 500, 250, 150, 100, 75, 50, 30 and 20 parts per million
  * After a refusal `ty` is 15, and without a connect request `window_end` is 1250. */
 typedef struct BoardPacket {
     uint8_t number;
@@ -97,7 +98,7 @@ typedef struct BoardHead {
 /* What the first two octets say. */
 BoardHead board_header(const uint8_t *raw, size_t raw_len);
 
-/* first: a header of a type, and one that is given, with TxAdd, RxAdd and length set. Bits 4 and 5 of `ty` are set too. */
+/* first: a header of a type, and one that is given, with TxAdd, RxAdd and length set. Bits 4 and 5 of `ty` go into the header too. */
 BoardGot board_new_header(uint8_t ty, bool tx_add, bool rx_add, uint8_t length);
 BoardGot board_set_header(const uint8_t *raw, size_t raw_len, bool tx_add, bool rx_add, uint8_t length);
 
@@ -162,13 +163,13 @@ typedef struct BoardListened {
 
 /* An entry for a scanner after the entries before it. An entry, numbers least significant octet first:
  *   | 0 kind | 1 CRC good | 2 0 | 3 length n | 4 time 4 | 8 interval 4 | 12 header 2 | 14 payload, n of 258 |
- * kind: 0 configure, 1 timer update, otherwise a packet. CRC good: 1, and no other number. time: of a configure or a timer update. A packet of the
- * list changes nothing. */
+ * kind: 0 configure, 1 timer update, otherwise a packet. CRC good: 1, and no other number. time: of a configure or a timer update. interval: of a
+ * configure, kept until the next. A packet of the list changes nothing. */
 BoardListened board_scanner_call(bool filtered, const uint8_t *list, size_t list_len, const uint8_t *entries, size_t entries_len, const uint8_t *entry, size_t entry_len);
 
-/* What a call answers, and the mode after it. kind: 0 refused, 1 sent, 2 listen, 3 respond, 4 first event, 5 next event, 6 stopped. header: to
- * transmit with the buffer that the last start or tick wrote (1, 3); channel: where (1, 3), and to listen on (1 to 5); at: when the next tick is due (1),
- * or until when to listen for the first event (4); access_address and crc_init: the connection's (4). */
+/* What a call answers, and the mode after it, standby where neither bool is 1. kind: 0 refused, 1 sent, 2 listen, 3 respond, 4 first event, 5 next
+ * event, 6 stopped. header: to transmit with the buffer that the last start or tick wrote (1, 3); channel: where to do so, and to listen (1 to 5); at: when
+ * the next tick is due (1), or until when to listen for the first event (4); access_address and crc_init: the connection's (4). */
 typedef struct BoardSaid {
     uint8_t number;
     uint8_t kind;
@@ -289,7 +290,7 @@ BoardGot board_skip(const uint8_t *s, size_t s_len, size_t at, size_t n);
 /* first: how many octets are left, second: 1 where there are none. */
 BoardGot board_bytes_left(const uint8_t *s, size_t s_len, size_t at);
 
-/* A part of s, and the position behind it. */
+/* A part of s: its `len` octets from `start` on; next: the position behind it. */
 typedef struct BoardPart {
     uint8_t number;
     size_t start;
@@ -303,7 +304,7 @@ BoardPart board_read_slice(const uint8_t *s, size_t s_len, size_t at, size_t n);
 /* Fills dst; first: the position behind what was read. */
 BoardGot board_read_into(const uint8_t *s, size_t s_len, size_t at, uint8_t *dst, size_t dst_len);
 
-/* Octets that were read, and the position behind them. */
+/* Octets that were read; next: the position behind them. */
 typedef struct BoardFive {
     uint8_t number;
     uint8_t octets[5];
@@ -343,7 +344,7 @@ BoardGot board_write_slice_truncate(uint8_t *out, size_t out_len, size_t at, con
 
 /* --- libbasics.a: UUIDs, headers and PDUs at a position --- */
 
-/* The 16 octets of a UUID as they stand, and the position behind them. */
+/* The 16 octets of a UUID as they stand; next: the position behind them. */
 typedef struct BoardUuidRead {
     uint8_t number;
     uint8_t octets[16];
