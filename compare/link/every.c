@@ -1,4 +1,5 @@
-/* Calls every function once, so that each field of the header is held to a known answer: every.out, whose values are document 01's. */
+/* Calls every function, so that each field of the header is held to a known answer: every.out, whose values are document 01's. What the header says of
+ * `which`, kinds, refusals and lists that are cut is tried one by one. */
 #include "board.h"
 #include <stdio.h>
 #include <string.h>
@@ -45,6 +46,15 @@ static void frame(const char *name, BoardFrame f) {
 
 static void structure(const char *name, BoardStructure r) {
     printf("%s %d %d %d %x %zu %zu %zu\n", name, r.number, r.kind, r.complete, r.value, r.start, r.len, r.next);
+}
+
+static void flags(BoardFlagsSaid f) {
+    printf("board_flags %x %d %d %d %d %d\n", f.bits, f.classic, f.limited, f.general, f.controller, f.host);
+}
+
+static void said(BoardSaid d) {
+    printf("board_call %d %d %d %d %d %04x %u %x %x", d.number, d.kind, d.advertising, d.connected, d.channel, d.header, d.at, d.access_address,
+           d.crc_init);
 }
 
 static void listened(BoardListened l) {
@@ -119,8 +129,7 @@ static void areas(void) {
     wrote("board_write", board_write(5, false, 0x180F, 0, 1, S(bits), 1, S(out)));
     wrote("board_rewrite", board_rewrite(S(area), S(out)));
     got("board_uuid_at", board_uuid_at(area + 5, 4, 2));
-    BoardFlagsSaid f = board_flags(0x86);
-    printf("board_flags %x %d %d %d %d %d\n", f.bits, f.classic, f.limited, f.general, f.controller, f.host);
+    flags(board_flags(0x86));
 }
 
 static void positions(void) {
@@ -165,14 +174,129 @@ static void air(void) {
     listened(board_scanner_call(true, S(list), S(calls), S(call)));
     listened(board_scanner_call(true, S(list), calls, 272, calls + 272, 272));
     call_of(call, 2, 232, 3, request, request + 2, 34);
-    BoardSaid d = board_call(other, true, S(calls), S(call), S(first), S(second));
-    printf("board_call %d %d %d %d %d %04x %u %x %x", d.number, d.kind, d.advertising, d.connected, d.channel, d.header, d.at, d.access_address,
-           d.crc_init);
+    said(board_call(other, true, S(calls), S(call), S(first), S(second)));
     octets(first, 9), printf("\n");
+}
+
+/* Every `which`, and one more; a header of a type above 15; each bit of Flags. */
+static void builders(void) {
+    for (int which = 0; which <= 6; which++)
+        printf("%d ", which), frame("board_build", board_build((uint8_t)which, own, true, records + 6, 3));
+    got("board_new_header", board_new_header(0xFF, false, true, 6));
+    for (int b = 0; b < 8; b++)
+        flags(board_flags((uint8_t)(1 << b)));
+}
+
+/* Every kind, and one more, of complete lists and of others. Flags are the low five bits, a type is the low octet. */
+static void writes(void) {
+    static uint8_t to[24];
+    for (int i = 0; i <= 21; i++) {
+        int kind = i / 2;
+        bool complete = i % 2 == 1;
+        memset(to, 0xFF, sizeof to);
+        BoardGot g = board_write((uint8_t)kind, complete, 0x1287, 0, 16, S(full), 1, S(to));
+        printf("%d %d board_write %d %zu %zu", kind, complete, g.number, g.first, g.second), octets(S(to)), printf("\n");
+        structure("board_record", board_record(to, g.first, 1));
+        structure("board_known", board_known(to, g.first, 1));
+    }
+    structure("end board_record", board_record(S(area), sizeof area));
+    structure("end board_known", board_known(S(area), sizeof area));
+    got("end board_uuid_at", board_uuid_at(area + 5, 4, 4));
+}
+
+static void ran(const char *name, const uint8_t *calls, size_t calls_len, const uint8_t *call, size_t call_len) {
+    uint8_t first[37], second[37];
+    memset(first, 0xFF, sizeof first), memset(second, 0xFF, sizeof second);
+    printf("%s ", name);
+    said(board_call(other, true, calls, calls_len, call, call_len, S(first), S(second)));
+    printf(",");
+    octets(first, 12), printf(","), octets(second, 12), printf("\n");
+}
+
+/* Every call, and one more, in each mode; octets 1 and 2 of a call; a connect request that marks no channel; lists and calls that are cut. */
+static void device(void) {
+    static uint8_t calls[2 * 272], call[272], scan[14] = {0x83, 0x0C};
+    memcpy(scan + 8, other, 6);
+    call_of(calls, 0, 5, 30, beacon, records + 6, 3), call_of(calls + 272, 2, 232, 3, request, request + 2, 34);
+    const char *modes[3] = {"standby", "advertising", "connected"};
+    for (size_t mode = 0; mode < 3; mode++)
+        for (int kind = 0; kind <= 5; kind++) {
+            call_of(call, (uint8_t)kind, 7, 50, scan, scan + 2, kind == 0 ? 0 : 12);
+            printf("%d ", kind), ran(modes[mode], calls, 272 * mode, S(call));
+        }
+    for (int n = 0; n <= 2; n++) {
+        call_of(call, 2, 7, 50, scan, scan + 2, 12), call[1] = (uint8_t)n;
+        printf("%d ", n), ran("CRC", calls, 272, S(call));
+        call_of(call, 1, 7, 50, scan, scan + 2, 12), call[2] = (uint8_t)n;
+        printf("%d ", n), ran("buffer", calls, 272, S(call));
+    }
+    call_of(call, 2, 232, 3, request, request + 2, 34), memset(call + 14 + 28, 0, 5);
+    ran("unmarked", calls, 272, S(call));
+    call_of(call, 3, 0, 0, beacon, bits, 0);
+    ran("271", calls, 271, S(call));
+    ran("543", calls, 543, S(call));
+    ran("544", calls, 544, S(call));
+    ran("empty", calls, 0, call, 0);
+    call_of(call, 0, 5, 30, beacon, bits, 0), call[3] = 20;
+    ran("20", calls, 0, call, 20);
+    call_of(call, 2, 5, 30, scan, scan + 2, 12);
+    ran("25", calls, 272, call, 25);
+    ran("13", calls, 272, call, 13);
+}
+
+/* Every entry of a scanner, and one more, before and after a configure; the CRC; a list and an entry that are cut. */
+static void scanner(void) {
+    static uint8_t entries[272], entry[272];
+    call_of(entries, 0, 5, 30, beacon, bits, 0), entries[0] = 1, listened(board_scanner_call(false, S(list), entries, 0, S(entries)));
+    call_of(entries, 0, 5, 30, beacon, bits, 0);
+    for (int kind = 0; kind <= 3; kind++) {
+        call_of(entry, (uint8_t)kind, 200, 9, beacon, records, 9);
+        listened(board_scanner_call(false, list, 6, S(entries), S(entry)));
+        listened(board_scanner_call(true, list, 6, S(entries), S(entry)));
+    }
+    for (int n = 0; n <= 2; n++)
+        entry[1] = (uint8_t)n, listened(board_scanner_call(false, S(list), S(entries), S(entry)));
+    entry[0] = 1;
+    listened(board_scanner_call(false, S(list), entries, 271, S(entry)));
+    listened(board_scanner_call(false, S(list), S(entries), entry, 5));
+    for (int n = 0; n <= 4; n++)
+        got("board_scanner", board_scanner(100, 20, (uint8_t)n)), channel("board_advertising_channel", board_advertising_channel((uint8_t)n));
+}
+
+/* A call for each refusal's number, and what it leaves. */
+static void refusals(void) {
+    static const uint8_t name[] = {2, 9, 0xFF}, zero[] = {0}, none[5], long_data[255], bad[7] = {2}, unknown[] = {0x47, 0x09};
+    static uint8_t to[300];
+    wrote("1", board_read_into(S(bits), 1, out, 8));
+    wrote("1", board_write_slice(S(out), 15, S(beacon)));
+    wrote("1", board_write(9, false, 7, 0, 15, S(full), 0, S(out)));
+    wrote("1", board_rewrite(S(area), out, 8));
+    got("2", board_area(S(zero)));
+    packet("2", board_decode(S(beacon), records, 8));
+    packet("3", board_decode(S(unknown), S(records)));
+    structure("3", board_known(S(name), 0));
+    got("3", board_whitelist(S(bad), own, true));
+    BoardHead h = board_header(beacon, 1);
+    printf("4 %d %04x %d %d %d %d %d %d\n", h.number, h.raw, h.ty, h.tx_add, h.rx_add, h.length, h.is_beacon, h.allows_adv_data);
+    packet("4", board_decode(beacon, 1, S(records)));
+    BoardHeard s = board_scan(false, S(list), 1, beacon, 1, S(records), true);
+    printf("4 %d %d %d\n", s.number, s.reported, s.channel);
+    got("6", board_hop(none, 36, 5));
+    got("7", board_new_header(2, true, false, 5));
+    got("8", board_hop(none, 37, 5));
+    channel("8", board_data_channel(37));
+    got("8", board_is_used(two, 37));
+    got("8", board_by_index(two, 2));
+    got("9", board_write(9, false, 7, 0, 255, S(long_data), 0, S(to)));
+    frame("2", board_build(0, own, true, S(zero)));
+    BoardSent b = board_beacon(own, true, records + 6, 3, out, 8);
+    printf("1 %d %04x %d %d %d", b.number, b.header, b.first, b.second, b.third), octets(S(out)), printf("\n");
 }
 
 int main(void) {
     memset(out, 0xFF, sizeof out);
     leaves(), packets(), areas(), positions(), air();
+    memset(out, 0xFF, sizeof out);
+    builders(), writes(), device(), scanner(), refusals();
     return 0;
 }

@@ -1,4 +1,5 @@
--- A PDU that was read, as numbers: the refusal's (document 01), or 0, and all fields; those that the type lacks are 0, `window_end` 1250.
+-- A PDU that was read, as numbers: the refusal's (document 01), or 0, and all fields; those that the type lacks are 0, `window_end`
+-- 1250. After a refusal the type is 15, and no field has a meaning.
 use Prim.Native.Nat.{ℕ}
 use Rattle.addresses.specs.Address.{isRandom}
 use Rattle.addresses.specs.Header.{typeCode}

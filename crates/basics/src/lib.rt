@@ -1,4 +1,4 @@
-// What rubble is compared with (compare/), the smaller parts, in the form of `exports`: octets, UUIDs, headers and PDUs at a position, instants,
+// Functions to link in the form of `exports`, the smaller parts: octets, UUIDs, headers and PDUs at a position, instants,
 // channels, maps and hops, records and filters.
 pub mod areas;
 pub mod at;
