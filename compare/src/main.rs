@@ -108,7 +108,12 @@ fn asked() -> (u64, Vec<Suite>) {
     let mut words = std::env::args().skip(1);
     let seed = words.next().map_or(1, |w| w.parse().unwrap_or_else(|_| refuse(&format!("{w}: a seed is a number"))));
     let named = |w: String| *SUITES.iter().find(|s| s.0 == w).unwrap_or_else(|| refuse(&format!("{w}: no such part")));
-    let parts: Vec<Suite> = words.map(named).collect();
+    let mut parts: Vec<Suite> = Vec::new();
+    for part in words.map(named) {
+        if parts.iter().all(|p| p.0 != part.0) {
+            parts.push(part);
+        }
+    }
     (seed, if parts.is_empty() { SUITES.to_vec() } else { parts })
 }
 
@@ -155,6 +160,10 @@ fn run(suite: Suite, seed: u64, shares: u64, all: &Mutex<Counts>) {
     });
     let made = MADE.load(Ordering::Relaxed) - before;
     println!("{}: {made} comparisons, {:.1} s", said_of(suite.0), begun.elapsed().as_secs_f64());
+    if made == 0 {
+        println!("{}: no comparison was made", suite.0);
+        exit(2);
+    }
 }
 
 fn main() {
@@ -169,10 +178,6 @@ fn main() {
         run(suite, seed, shares, &counts);
     }
     let counts = counts.into_inner().expect("no thread fails with it");
-    if counts.total() == 0 {
-        println!("no comparison was made");
-        exit(2);
-    }
     counts.print();
     println!("{} comparisons, no difference, {:.1} s", counts.total(), begun.elapsed().as_secs_f64());
 }
