@@ -1,7 +1,7 @@
 //! The translation's answers, from libexports.a, libdecode.a and libbasics.a.
 mod basics;
 
-use crate::request::{Kind, Request, CALL};
+use crate::request::{last_asked, Kind, Request, CALL};
 
 // A slice crosses as a pointer and a length.
 type In = *const u8;
@@ -332,7 +332,7 @@ pub fn answer(r: &Request, out: &mut Vec<u8>) {
                 let m = board_map(&raw);
                 out.extend(m.raw);
                 out.push(m.count);
-                for c in 0..39 {
+                for c in 0..=last_asked(&raw) {
                     got(board_is_used(&raw, c), out);
                     got(board_by_index(&raw, c), out);
                 }

@@ -108,6 +108,11 @@ impl Kind {
     }
 }
 
+/// The last channel and place that a map is asked for: two behind the last one, for some maps all that an octet holds.
+pub fn last_asked(map: &[u8]) -> u8 {
+    if map[1] == 0x5A { 255 } else { 38 }
+}
+
 /// Octets of a call in a list of calls, on a device or on a scanner.
 pub const CALL: usize = 272;
 

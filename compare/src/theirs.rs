@@ -2,7 +2,7 @@
 mod basics;
 
 use crate::ours::{pattern, BEHIND};
-use crate::request::{Kind, Request, CALL};
+use crate::request::{last_asked, Kind, Request, CALL};
 use rubble::beacon::{Beacon, BeaconScanner, ScanCallback};
 use rubble::bytes::{ByteReader, ByteWriter, BytesOr, FromBytes, ToBytes};
 use rubble::config::Config;
@@ -862,7 +862,7 @@ pub fn answer(r: &Request, out: &mut Vec<u8>) {
             out.push(map.num_used_channels());
             let marked: Vec<u8> = map.iter_used().map(|c| c.index()).collect();
             assert!(marked.len() == map.num_used_channels() as usize);
-            for c in 0..39 {
+            for c in 0..=last_asked(&p[0]) {
                 match c {
                     0..=36 => got(0, map.is_used(DataChannel::new(c)) as u64, 0, out),
                     // `DataChannel::new` panics: see `DataChannel`.
