@@ -128,6 +128,16 @@ impl Request {
         Request { kind, numbers: numbers.to_vec(), parts: parts.iter().map(|p| p.to_vec()).collect() }
     }
 
+    /// What a part is made of, in octets: calls, addresses of a filter list, octets.
+    pub fn units(&self, part: usize) -> &'static [usize] {
+        use Kind::*;
+        match (self.kind, part) {
+            (Calls | ScannerCalls, 1) => &[CALL],
+            (Whitelist | MayScan | MayConnect | ShouldScan | Scan | ScannerCalls, 0) => &[7, 1],
+            _ => &[1],
+        }
+    }
+
     /// Parts whose length is fixed: addresses and maps.
     pub fn fixed(&self, part: usize) -> bool {
         match self.kind {

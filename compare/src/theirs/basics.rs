@@ -89,7 +89,8 @@ fn read(n: &[u64], s: &[u8], out: &mut Vec<u8>) {
     }
 }
 
-/// Writes at a position of a new buffer, which is answered whole, with the octets behind it; before the buffer what `write` says, then the position behind what was written.
+/// Writes at a position of a new buffer, which is answered whole, with the octets behind it; before the buffer what `write` says, then the position
+/// behind what was written.
 fn written<T: Into<Option<u64>>>(
     at: u64,
     space: u64,
