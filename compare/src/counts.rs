@@ -1,5 +1,6 @@
 //! What was compared: comparisons and refusals by kind, lengths of payloads, near misses, connections and events of lists.
 use crate::inputs::marks_any;
+use crate::ours::BEHIND;
 use crate::request::{Kind, Request, CALL, KINDS};
 
 /// Classes of lengths, each from its first to before the next one's.
@@ -22,9 +23,11 @@ const EVENTS: [(&str, usize); 5] = [("none", 0), ("1-9", 1), ("10-99", 10), ("10
 
 const LIVED: [(&str, usize); 4] = [("none", 0), ("1-9", 1), ("10-99", 10), ("100-400", 100)];
 
-/// The octets of a call's answer before both buffers, and of a scanner's.
+/// The octets of an answer of two numbers, of a record, of a call before both buffers, and of a scanner.
+const GOT: usize = 17;
+const RECORD: usize = 29;
 const CALL_ANSWER: usize = 19;
-const SCANNER_ANSWER: usize = 17;
+const SCANNER_ANSWER: usize = 38;
 
 pub struct Counts {
     /// For each kind how often it was answered with each number; 0 is no refusal.
@@ -74,8 +77,8 @@ impl Counts {
         match r.kind {
             Kind::Calls => return self.count_list(r, answer),
             Kind::Events => {
-                let events = answer.len() / 2;
-                row[answer[2 * events - 2] as usize % 10] += 1;
+                let events = answer.len() / GOT;
+                row[answer[answer.len() - GOT] as usize % 10] += 1;
                 row[0] += events as u64 - 1;
                 return events as u64;
             }
@@ -87,12 +90,19 @@ impl Counts {
             }
             _ => {}
         }
-        self.answers[r.kind as usize][if r.kind.has_number() { answer[0] as usize % 10 } else { 0 }] += 1;
+        // Records and UUIDs are read one by one: the last answer is the end, or the refusal.
+        let number = match r.kind {
+            Kind::Records | Kind::Known => answer[answer.len() - RECORD],
+            Kind::UuidList => answer[answer.len() - GOT],
+            kind if kind.has_number() => answer[0],
+            _ => 0,
+        };
+        self.answers[r.kind as usize][number as usize % 10] += 1;
         1
     }
 
     fn count_list(&mut self, r: &Request, answer: &[u8]) -> u64 {
-        let size = CALL_ANSWER + (r.numbers[1] + r.numbers[2]) as usize;
+        let size = CALL_ANSWER + (r.numbers[1] + r.numbers[2]) as usize + 2 * BEHIND;
         let (mut connections, mut events) = (0, 0);
         for (c, a) in r.parts[1].chunks_exact(CALL).zip(answer.chunks_exact(size)) {
             self.answers[Kind::Calls as usize][a[0] as usize % 10] += 1;

@@ -174,3 +174,27 @@ pub fn filter(rng: &mut Rng, address: &[u8], random: u64) -> Vec<u8> {
     }
     list
 }
+
+/// Filter lists of up to 20 entries. The address stands in one of them, mostly, sometimes with a bit or its kind off; one entry has a kind that is
+/// none, sometimes.
+pub fn long_filter(rng: &mut Rng, address: &[u8], random: u64) -> Vec<u8> {
+    let entries = rng.below(21);
+    let mut list = rng.octets(7 * entries);
+    list.iter_mut().step_by(7).for_each(|kind| *kind &= 1);
+    if entries == 0 {
+        return list;
+    }
+    let at = 7 * rng.below(entries);
+    if !rng.one_in(8) {
+        list[at] = random as u8;
+        list[at + 1..at + 7].copy_from_slice(address);
+    }
+    match rng.below(16) {
+        0 => list[at] ^= 1,
+        1 => list[at + 1 + rng.below(6)] ^= 1 << rng.below(8),
+        2 | 3 => list[7 * rng.below(entries)] = 2 + rng.octet() % 254,
+        4 => damage(rng, &mut list),
+        _ => {}
+    }
+    list
+}

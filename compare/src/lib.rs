@@ -9,3 +9,4 @@ pub mod rng;
 pub mod scanner;
 pub mod shrink;
 pub mod theirs;
+pub mod wide;

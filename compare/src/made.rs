@@ -3,7 +3,7 @@ use crate::device;
 use crate::inputs::{area, damage, packet, payload};
 use crate::request::{Kind, Request};
 use crate::rng::Rng;
-use crate::scanner::{heard, life};
+use crate::scanner::{heard, life, Heard};
 
 /// A share of the requests: those whose place is `mine` modulo `shares`.
 pub struct Share {
@@ -18,7 +18,7 @@ impl Share {
         rng.next();
         rng
     }
-    fn has(&self, place: u64) -> bool {
+    pub fn has(&self, place: u64) -> bool {
         place % self.shares == self.mine
     }
 }
@@ -216,17 +216,22 @@ pub fn long_lists(share: &Share, count: u64, each: Each) {
     }
 }
 
+/// Each filter asked by itself for a packet's sender.
+pub fn filters(rng: &mut Rng, h: &Heard, each: Each) {
+    let (random, sender) = (h.random(), h.sender());
+    each(&Request::new(Kind::Whitelist, &[random], &[&h.list, &sender]));
+    for kind in [Kind::MayScan, Kind::MayConnect] {
+        each(&Request::new(kind, &[rng.bit(), rng.bit(), random], &[&h.list, &sender]));
+    }
+    each(&Request::new(Kind::ShouldScan, &[rng.bit(), random], &[&h.list, &sender]));
+}
+
 /// A packet for a new scanner, which filters or not, and the filter asked by itself; each 64th time with too short a header.
 pub fn scans(share: &Share, count: u64, each: Each) {
     let mut rng = share.rng(8);
     for turn in 0..count / share.shares {
         let mut h = heard(&mut rng);
-        let (random, sender) = (h.random(), h.sender());
-        each(&Request::new(Kind::Whitelist, &[random], &[&h.list, &sender]));
-        for kind in [Kind::MayScan, Kind::MayConnect] {
-            each(&Request::new(kind, &[rng.bit(), rng.bit(), random], &[&h.list, &sender]));
-        }
-        each(&Request::new(Kind::ShouldScan, &[rng.bit(), random], &[&h.list, &sender]));
+        filters(&mut rng, &h, each);
         let filters = !rng.one_in(3) as u64;
         let numbers = [filters, rng.below(4) as u64, h.crc_ok as u64];
         each(&Request::new(Kind::Scan, &numbers, &[&h.list, &h.header, &h.payload]));
@@ -297,7 +302,7 @@ fn writes(rng: &mut Rng, space: u64, at: u64, each: Each) {
 /// Readers and writers at each position of slices of up to 24 octets and of a longer one, and past the end.
 pub fn positions(share: &Share, rounds: u64, each: Each) {
     let mut rng = share.rng(13);
-    for round in 0..rounds / share.shares {
+    for round in 0..rounds.div_ceil(share.shares) {
         let longer = 25 + rng.below(276);
         for len in (0..=24).chain([longer]) {
             let s = rng.octets(len);
@@ -311,11 +316,29 @@ pub fn positions(share: &Share, rounds: u64, each: Each) {
     }
 }
 
+/// Instants and spans around their limits.
+fn instants(each: Each) {
+    let edges = [0, 1, 1249, 1250, 299_999_999, 300_000_000, 300_000_001, 0x7FFF_FFFF, 0x8000_0000, 0xFFFF_FFFE, 0xFFFF_FFFF];
+    for a in edges {
+        for b in edges {
+            for kind in [Kind::Later, Kind::Since] {
+                each(&Request::new(kind, &[a, b], &[]));
+            }
+            for updates in 0..4 {
+                each(&Request::new(Kind::Scanner, &[a, b, updates], &[]));
+            }
+        }
+    }
+}
+
 /// Headers, UUIDs, channels, Flags, instants and UTF-8: all of each where that is a small number.
 pub fn small_things(share: &Share, each: Each) {
     let mut rng = share.rng(9);
-    each(&Request::new(Kind::NamedFlags, &[], &[]));
-    each(&Request::new(Kind::AllChannels, &[], &[]));
+    if share.has(0) {
+        each(&Request::new(Kind::NamedFlags, &[], &[]));
+        each(&Request::new(Kind::AllChannels, &[], &[]));
+        instants(each);
+    }
     for value in (0..=0xFFFFu64).filter(|v| share.has(*v)) {
         let raw = (value as u16).to_le_bytes();
         each(&Request::new(Kind::Header, &[], &[&raw]));
@@ -345,17 +368,6 @@ pub fn small_things(share: &Share, each: Each) {
         }
         each(&Request::new(Kind::Header, &[], &[&[value as u8]]));
         each(&Request::new(Kind::SetHeader, &[1, 0, 6], &[&[value as u8]]));
-    }
-    let edges = [0, 1, 1249, 1250, 299_999_999, 300_000_000, 300_000_001, 0x7FFF_FFFF, 0x8000_0000, 0xFFFF_FFFE, 0xFFFF_FFFF];
-    for a in edges {
-        for b in edges {
-            for kind in [Kind::Later, Kind::Since] {
-                each(&Request::new(kind, &[a, b], &[]));
-            }
-            for updates in 0..4 {
-                each(&Request::new(Kind::Scanner, &[a, b, updates], &[]));
-            }
-        }
     }
     for _ in 0..400_000 / share.shares {
         let (a, b) = (rng.next() & 0xFFFF_FFFF, rng.next() & 0xFFFF_FFFF);

@@ -3,7 +3,7 @@ use compare::counts::Counts;
 use compare::made::{self, Each, Share};
 use compare::request::{brief, hex, line, Request, CALL};
 use compare::shrink::smallest;
-use compare::{ours, theirs};
+use compare::{ours, theirs, wide};
 use std::io::IsTerminal;
 use std::panic::{catch_unwind, AssertUnwindSafe};
 use std::process::exit;
@@ -20,15 +20,34 @@ const SUITES: [Suite; 13] = [
     ("headers", |s, e| made::all_headers(s, e)),
     ("packets", |s, e| made::packets(s, 8_000_000, e)),
     ("few-octets", |s, e| made::small_areas(s, e)),
-    ("areas", |s, e| made::areas(s, 2_000, e)),
-    ("writers", |s, e| made::writers(s, 40, e)),
+    ("areas", |s, e| {
+        made::areas(s, 2_000, e);
+        wide::built(s, 400, e);
+    }),
+    ("writers", |s, e| {
+        made::writers(s, 40, e);
+        wide::writers(s, 400, e);
+    }),
     ("maps", |s, e| made::maps(s, 40, e)),
-    ("lists", |s, e| made::lists(s, 450_000, e)),
+    ("lists", |s, e| {
+        made::lists(s, 450_000, e);
+        wide::lists(s, 50_000, e);
+    }),
     ("long-lists", |s, e| made::long_lists(s, 6_000, e)),
-    ("scans", |s, e| made::scans(s, 2_000_000, e)),
-    ("scanners", |s, e| made::scanners(s, 150_000, e)),
+    ("scans", |s, e| {
+        made::scans(s, 2_000_000, e);
+        wide::scans(s, 500_000, e);
+    }),
+    ("scanners", |s, e| {
+        made::scanners(s, 150_000, e);
+        wide::scanners(s, 40_000, e);
+    }),
     ("positions", |s, e| made::positions(s, 200, e)),
-    ("small", |s, e| made::small_things(s, e)),
+    ("small", |s, e| {
+        made::small_things(s, e);
+        wide::lengths(s, e);
+        wide::updates(s, 200, e);
+    }),
     ("utf8", |s, e| made::strings(s, e)),
 ];
 
@@ -108,7 +127,12 @@ fn asked() -> (u64, Vec<Suite>) {
     let mut words = std::env::args().skip(1);
     let seed = words.next().map_or(1, |w| w.parse().unwrap_or_else(|_| refuse(&format!("{w}: a seed is a number"))));
     let named = |w: String| *SUITES.iter().find(|s| s.0 == w).unwrap_or_else(|| refuse(&format!("{w}: no such part")));
-    let parts: Vec<Suite> = words.map(named).collect();
+    let mut parts: Vec<Suite> = Vec::new();
+    for part in words.map(named) {
+        if parts.iter().all(|p| p.0 != part.0) {
+            parts.push(part);
+        }
+    }
     (seed, if parts.is_empty() { SUITES.to_vec() } else { parts })
 }
 
@@ -155,6 +179,10 @@ fn run(suite: Suite, seed: u64, shares: u64, all: &Mutex<Counts>) {
     });
     let made = MADE.load(Ordering::Relaxed) - before;
     println!("{}: {made} comparisons, {:.1} s", said_of(suite.0), begun.elapsed().as_secs_f64());
+    if made == 0 {
+        println!("{}: no comparison was made", suite.0);
+        exit(2);
+    }
 }
 
 fn main() {
@@ -169,10 +197,6 @@ fn main() {
         run(suite, seed, shares, &counts);
     }
     let counts = counts.into_inner().expect("no thread fails with it");
-    if counts.total() == 0 {
-        println!("no comparison was made");
-        exit(2);
-    }
     counts.print();
     println!("{} comparisons, no difference, {:.1} s", counts.total(), begun.elapsed().as_secs_f64());
 }

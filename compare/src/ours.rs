@@ -1,7 +1,7 @@
 //! The translation's answers, from libexports.a, libdecode.a and libbasics.a.
 mod basics;
 
-use crate::request::{Kind, Request, CALL};
+use crate::request::{last_asked, Kind, Request, CALL};
 
 // A slice crosses as a pointer and a length.
 type In = *const u8;
@@ -199,14 +199,28 @@ pub fn pattern(len: usize) -> Vec<u8> {
     (0..len).map(|i| 0xA5 ^ (i as u8).wrapping_mul(7)).collect()
 }
 
+/// Octets behind each buffer that is lent for writing. They are no part of it, and stand behind it in the answer: a write past the end shows.
+pub const BEHIND: usize = 8;
+
+/// A buffer of so many octets, and those behind it.
+fn lent(len: u64) -> Vec<u8> {
+    pattern(len as usize + BEHIND)
+}
+
 pub fn decode(header: &[u8], payload: &[u8]) -> Packet {
     unsafe { board_decode(header.as_ptr(), header.len(), payload.as_ptr(), payload.len()) }
 }
 
 fn got(g: Got, out: &mut Vec<u8>) {
     out.push(g.number);
-    out.extend((g.first as u64).to_le_bytes());
-    out.extend((g.second as u64).to_le_bytes());
+    sizes([g.first, g.second], out);
+}
+
+/// Numbers of the machine's size, all octets of each.
+fn sizes<const N: usize>(of: [usize; N], out: &mut Vec<u8>) {
+    for n in of {
+        out.extend((n as u64).to_le_bytes());
+    }
 }
 
 fn array<const N: usize>(part: &[u8]) -> [u8; N] {
@@ -219,26 +233,22 @@ fn structures(s: &[u8], read: unsafe extern "C" fn(In, usize, usize) -> Structur
         let r = unsafe { read(s.as_ptr(), s.len(), at) };
         out.extend([r.number, r.kind, r.complete as u8]);
         out.extend(r.value.to_le_bytes());
-        out.extend([r.start as u16, r.len as u16, r.next as u16].iter().flat_map(|n| n.to_le_bytes()));
-        if r.number != 0 || r.kind == 0 {
+        sizes([r.start, r.len, r.next], out);
+        if r.number != 0 || r.kind == 0 || r.next <= at {
             return;
         }
         at = r.next;
     }
 }
 
-/// A PDU with the fields that its type has; those that it does not have are to be blank.
+/// A PDU, also a refused one; the fields that its type does not have are to be blank.
 fn packet(p: Packet, out: &mut Vec<u8>) {
-    out.push(p.number);
-    if p.number != 0 {
-        return;
-    }
-    out.extend([p.ty, p.sender_random as u8]);
+    out.extend([p.number, p.ty, p.sender_random as u8]);
     out.extend(p.sender);
     out.push(p.has_receiver as u8);
     out.push(p.receiver_random as u8);
     out.extend(p.receiver);
-    out.extend([p.start as u8, p.len as u8, p.count as u8]);
+    sizes([p.start, p.len, p.count], out);
     let request = [
         p.access_address, p.crc_init, p.win_size, p.win_offset, p.window_end, p.interval, p.latency as u32, p.timeout,
     ];
@@ -281,17 +291,17 @@ pub fn answer(r: &Request, out: &mut Vec<u8>) {
             Kind::Records => structures(&p[0], board_record, out),
             Kind::Known => structures(&p[0], board_known, out),
             Kind::Write => {
-                let mut buffer = pattern(n[6] as usize);
+                let mut buffer = lent(n[6]);
                 let g = board_write(
                     n[0] as u8, n[1] == 1, n[2] as u16, n[3] as usize, n[4] as usize, p[0].as_ptr(), p[0].len(),
-                    n[5] as usize, buffer.as_mut_ptr(), buffer.len(),
+                    n[5] as usize, buffer.as_mut_ptr(), n[6] as usize,
                 );
                 got(g, out);
                 out.extend(buffer);
             }
             Kind::Rewrite => {
-                let mut buffer = pattern(n[0] as usize);
-                got(board_rewrite(p[0].as_ptr(), p[0].len(), buffer.as_mut_ptr(), buffer.len()), out);
+                let mut buffer = lent(n[0]);
+                got(board_rewrite(p[0].as_ptr(), p[0].len(), buffer.as_mut_ptr(), n[0] as usize), out);
                 out.extend(buffer);
             }
             Kind::Flags => {
@@ -306,11 +316,10 @@ pub fn answer(r: &Request, out: &mut Vec<u8>) {
                 let mut at = 0;
                 loop {
                     let g = board_uuid_at(p[0].as_ptr(), p[0].len(), at);
-                    out.push(g.number);
-                    if g.number != 0 || g.second == at {
+                    got(g, out);
+                    if g.number != 0 || g.second <= at {
                         return;
                     }
-                    out.extend((g.first as u16).to_le_bytes());
                     at = g.second;
                 }
             }
@@ -323,10 +332,9 @@ pub fn answer(r: &Request, out: &mut Vec<u8>) {
                 let m = board_map(&raw);
                 out.extend(m.raw);
                 out.push(m.count);
-                for c in 0..39 {
-                    let used = board_is_used(&raw, c);
-                    let place = board_by_index(&raw, c);
-                    out.extend([used.number, used.first as u8, place.number, place.first as u8]);
+                for c in 0..=last_asked(&raw) {
+                    got(board_is_used(&raw, c), out);
+                    got(board_by_index(&raw, c), out);
                 }
             }
             Kind::Events => {
@@ -334,7 +342,7 @@ pub fn answer(r: &Request, out: &mut Vec<u8>) {
                 let mut unmapped = 0;
                 for _ in 0..n[1] {
                     let g = board_hop(&raw, unmapped, n[0] as u8);
-                    out.extend([g.number, g.second as u8]);
+                    got(g, out);
                     if g.number != 0 {
                         return;
                     }
@@ -342,9 +350,9 @@ pub fn answer(r: &Request, out: &mut Vec<u8>) {
                 }
             }
             Kind::Beacon => {
-                let mut tx = pattern(n[1] as usize);
+                let mut tx = lent(n[1]);
                 let own = array(&p[0]);
-                let s = board_beacon(&own, n[0] == 1, p[1].as_ptr(), p[1].len(), tx.as_mut_ptr(), tx.len());
+                let s = board_beacon(&own, n[0] == 1, p[1].as_ptr(), p[1].len(), tx.as_mut_ptr(), n[1] as usize);
                 out.push(s.number);
                 out.extend(s.header.to_le_bytes());
                 out.extend([s.first, s.second, s.third]);
@@ -357,7 +365,8 @@ pub fn answer(r: &Request, out: &mut Vec<u8>) {
                 );
                 out.extend([h.number, h.reported as u8, h.random as u8]);
                 out.extend(h.sender);
-                out.extend([h.start as u8, h.len as u8, h.count as u8, h.channel]);
+                sizes([h.start, h.len, h.count], out);
+                out.push(h.channel);
             }
             Kind::Scanner => got(board_scanner(n[0] as u32, n[1] as u32, n[2] as u8), out),
             Kind::ScannerCalls => scanner_calls(r.numbers[0] == 1, &r.parts[0], &r.parts[1], out),
@@ -382,12 +391,12 @@ fn calls(r: &Request, out: &mut Vec<u8>) {
     let own = array(&r.parts[0]);
     let list = &r.parts[1];
     for at in (0..list.len() / CALL).map(|i| i * CALL) {
-        let mut first = pattern(r.numbers[1] as usize);
-        let mut second = pattern(r.numbers[2] as usize);
+        let (first_len, second_len) = (r.numbers[1], r.numbers[2]);
+        let (mut first, mut second) = (lent(first_len), lent(second_len));
         let s = unsafe {
             board_call(
-                &own, r.numbers[0] == 1, list.as_ptr(), at, list[at..].as_ptr(), CALL, first.as_mut_ptr(), first.len(),
-                second.as_mut_ptr(), second.len(),
+                &own, r.numbers[0] == 1, list.as_ptr(), at, list[at..].as_ptr(), CALL, first.as_mut_ptr(),
+                first_len as usize, second.as_mut_ptr(), second_len as usize,
             )
         };
         out.extend([s.number, s.kind, s.advertising as u8, s.connected as u8, s.channel]);
@@ -409,7 +418,8 @@ fn scanner_calls(filters: bool, list: &[u8], entries: &[u8], out: &mut Vec<u8>) 
         };
         out.extend([l.number, l.reported as u8, l.random as u8]);
         out.extend(l.sender);
-        out.extend([l.start as u8, l.len as u8, l.count as u8, l.channel]);
+        sizes([l.start, l.len, l.count], out);
+        out.push(l.channel);
         out.extend(l.next.to_le_bytes());
     }
 }

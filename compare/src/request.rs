@@ -108,6 +108,11 @@ impl Kind {
     }
 }
 
+/// The last channel and place that a map is asked for: two behind the last one, for some maps all that an octet holds.
+pub fn last_asked(map: &[u8]) -> u8 {
+    if map[1] == 0x5A { 255 } else { 38 }
+}
+
 /// Octets of a call in a list of calls, on a device or on a scanner.
 pub const CALL: usize = 272;
 
@@ -121,6 +126,16 @@ pub struct Request {
 impl Request {
     pub fn new(kind: Kind, numbers: &[u64], parts: &[&[u8]]) -> Self {
         Request { kind, numbers: numbers.to_vec(), parts: parts.iter().map(|p| p.to_vec()).collect() }
+    }
+
+    /// What a part is made of, in octets: calls, addresses of a filter list, octets.
+    pub fn units(&self, part: usize) -> &'static [usize] {
+        use Kind::*;
+        match (self.kind, part) {
+            (Calls | ScannerCalls, 1) => &[CALL],
+            (Whitelist | MayScan | MayConnect | ShouldScan | Scan | ScannerCalls, 0) => &[7, 1],
+            _ => &[1],
+        }
     }
 
     /// Parts whose length is fixed: addresses and maps.

@@ -124,6 +124,11 @@ pub fn life(rng: &mut Rng, entries: usize) -> Request {
     let address = rng.octets(6);
     let random = rng.bit();
     let list = filter(rng, &address, random);
+    lived(rng, entries, &list)
+}
+
+/// The same with a list.
+pub fn lived(rng: &mut Rng, entries: usize, list: &[u8]) -> Request {
     let mut calls = Vec::new();
     for at in 0..entries {
         let kind = match rng.below(16) {
@@ -133,11 +138,11 @@ pub fn life(rng: &mut Rng, entries: usize) -> Request {
         };
         let kind = if at == 0 && !rng.one_in(8) { 0 } else { kind };
         let h = if kind == 2 {
-            from_listed(rng, &list)
+            from_listed(rng, list)
         } else {
             Heard { list: Vec::new(), header: vec![0; 2], payload: Vec::new(), crc_ok: true }
         };
         calls.extend(entry(rng, kind, &h));
     }
-    Request::new(Kind::ScannerCalls, &[!rng.one_in(3) as u64], &[&list, &calls])
+    Request::new(Kind::ScannerCalls, &[!rng.one_in(3) as u64], &[list, &calls])
 }

@@ -7,8 +7,10 @@ pub fn smallest(found: &Request, differs: Differs) -> Request {
     let mut least = found.clone();
     loop {
         let before = least.clone();
-        for part in 0..least.parts.len() {
-            shorten(&mut least, part, differs);
+        for part in (0..least.parts.len()).filter(|part| !found.fixed(*part)) {
+            for unit in found.units(part) {
+                shorten(&mut least, part, *unit, differs);
+            }
         }
         count_less(&mut least, differs);
         blank_address(&mut least, differs);
@@ -30,12 +32,8 @@ fn attempt(least: &mut Request, differs: Differs, change: impl FnOnce(&mut Reque
     less
 }
 
-/// Takes octets out of a part, or calls out of a list: all, halves, quarters, down to one.
-fn shorten(least: &mut Request, part: usize, differs: Differs) {
-    if least.fixed(part) {
-        return;
-    }
-    let unit = if least.kind.is_list() && part == 1 { CALL } else { 1 };
+/// Takes octets, calls or addresses out of a part: all, halves, quarters, down to one.
+fn shorten(least: &mut Request, part: usize, unit: usize, differs: Differs) {
     let mut size = least.parts[part].len() / unit;
     while size > 0 {
         let mut at = 0;

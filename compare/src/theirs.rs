@@ -1,8 +1,8 @@
 //! rubble's answers. Where it panics, the number that document 01 gives (its rows marked P).
 mod basics;
 
-use crate::ours::pattern;
-use crate::request::{Kind, Request, CALL};
+use crate::ours::{pattern, BEHIND};
+use crate::request::{last_asked, Kind, Request, CALL};
 use rubble::beacon::{Beacon, BeaconScanner, ScanCallback};
 use rubble::bytes::{ByteReader, ByteWriter, BytesOr, FromBytes, ToBytes};
 use rubble::config::Config;
@@ -39,6 +39,19 @@ fn got(number: u8, first: u64, second: u64, out: &mut Vec<u8>) {
     out.push(number);
     out.extend(first.to_le_bytes());
     out.extend(second.to_le_bytes());
+}
+
+/// A lent buffer, and the octets behind it, which stay as they were.
+fn whole(buffer: &[u8], out: &mut Vec<u8>) {
+    out.extend(buffer);
+    out.extend(&pattern(buffer.len() + BEHIND)[buffer.len()..]);
+}
+
+/// Numbers of the machine's size, all octets of each.
+fn sizes<const N: usize>(of: [usize; N], out: &mut Vec<u8>) {
+    for n in of {
+        out.extend((n as u64).to_le_bytes());
+    }
 }
 
 fn kind(random: bool) -> AddressKind {
@@ -95,8 +108,23 @@ const ACCURACIES: [&str; 8] = [
 fn packet(header: Header, payload: &[u8], out: &mut Vec<u8>) {
     match Pdu::from_header_and_payload(header, &mut ByteReader::new(payload)) {
         Ok(pdu) => packet_of(pdu, payload.len(), out),
-        Err(e) => out.push(number(e)),
+        Err(e) => no_packet(number(e), out),
     }
+}
+
+/// What stands in the answer of a refused PDU: a type that is none, and blank fields.
+fn no_packet(number: u8, out: &mut Vec<u8>) {
+    out.extend([number, 15]);
+    out.extend([0; 15]);
+    sizes([0; 3], out);
+    no_request(out);
+}
+
+/// The fields of a connect request where there is none: all blank, so that the window ends after the delay alone.
+fn no_request(out: &mut Vec<u8>) {
+    out.extend([0; 16]);
+    out.extend(1250u32.to_le_bytes());
+    out.extend([0; 20]);
 }
 
 /// A PDU that was read from a payload of so many octets.
@@ -112,8 +140,8 @@ fn packet_of(pdu: Pdu<'_>, len: usize, out: &mut Vec<u8>) {
         None => out.extend([0; 8]),
     }
     match pdu.advertising_data() {
-        Some(records) => out.extend([6, (len - 6) as u8, records.count() as u8]),
-        None => out.extend([0; 3]),
+        Some(records) => sizes([6, len - 6, records.count()], out),
+        None => sizes([0; 3], out),
     }
     match pdu {
         Pdu::ConnectRequest { lldata, .. } => {
@@ -134,19 +162,14 @@ fn packet_of(pdu: Pdu<'_>, len: usize, out: &mut Vec<u8>) {
             let sca = ACCURACIES.iter().position(|a| *a == sca).expect("an accuracy") as u8;
             out.extend([lldata.channel_map().num_used_channels(), lldata.hop(), sca]);
         }
-        _ => {
-            // No request: all fields blank, so that the window ends after the delay alone.
-            out.extend([0; 16]);
-            out.extend(1250u32.to_le_bytes());
-            out.extend([0; 20]);
-        }
+        _ => no_request(out),
     }
 }
 
 fn structure(number: u8, kind: u8, complete: bool, value: u16, place: [usize; 3], out: &mut Vec<u8>) {
     out.extend([number, kind, complete as u8]);
     out.extend(value.to_le_bytes());
-    out.extend(place.iter().flat_map(|n| (*n as u16).to_le_bytes()));
+    sizes(place, out);
 }
 
 /// Type and data read on, as rubble's types of lists and Rust's `str` read them. Of service data and manufacturer specific data there is no
@@ -269,7 +292,7 @@ fn write(n: &[u64], s: &[u8], out: &mut Vec<u8>) {
             buffer = pattern(space);
         }
     }
-    out.extend(buffer);
+    whole(&buffer, out);
 }
 
 fn written(ad: AdStructure<'_>, at: usize, buffer: &mut [u8]) -> Result<usize, u8> {
@@ -524,12 +547,13 @@ fn calls(r: &Request, out: &mut Vec<u8>) {
         out.extend([s.number, s.kind, mode[0], mode[1], s.channel]);
         out.extend(s.header.to_le_bytes());
         out.extend([s.at, s.access_address, s.crc_init].iter().flat_map(|n| n.to_le_bytes()));
-        out.extend(&first);
-        out.extend(&second);
+        whole(&first, out);
+        whole(&second, out);
     }
 }
 
-/// The channels of a connection's events, by a connect request to a device that advertises.
+/// The channels of a connection's events, by a connect request to a device that advertises. rubble keeps the unmapped channel to itself: it is
+/// counted from the hop's lower five bits.
 fn events(hop: u8, count: u64, map: &[u8], out: &mut Vec<u8>) {
     let own = [1, 2, 3, 4, 5, 6];
     let mut layer = LinkLayer::<Board>::new(address(&own, false), Clock(0));
@@ -549,9 +573,11 @@ fn events(hop: u8, count: u64, map: &[u8], out: &mut Vec<u8>) {
             }
         });
         match cmd {
-            Ok(Cmd { radio: RadioCmd::ListenData { channel, .. }, .. }) => out.extend([0, channel.index()]),
+            Ok(Cmd { radio: RadioCmd::ListenData { channel, .. }, .. }) => {
+                got(0, (event + 1) * (hop % 32) as u64 % 37, channel.index() as u64, out)
+            }
             Ok(other) => panic!("an event answers {other:?}"),
-            Err(n) => return out.extend([n, 0]),
+            Err(n) => return got(n, 0, 0, out),
         }
     }
 }
@@ -584,19 +610,18 @@ fn heard(report: Option<Report>, payload: &[u8], channel: u8, out: &mut Vec<u8>)
         Some(Report(sender, count)) => {
             out.extend([0, 1, sender.is_random() as u8]);
             out.extend(sender.raw());
-            out.extend([6, (payload.len() - 6) as u8, count as u8, channel]);
-        }
-        None => {
-            out.extend([0; 12]);
+            sizes([6, payload.len() - 6, count], out);
             out.push(channel);
         }
+        None => unheard(0, channel, out),
     }
 }
 
-/// A list that is no list of addresses, which rubble's types cannot hold: refused with 3 (document 01).
-fn bad_list(number: u8, channel: u8, out: &mut Vec<u8>) {
+/// No report: the number and the channel alone.
+fn unheard(number: u8, channel: u8, out: &mut Vec<u8>) {
     out.push(number);
-    out.extend([0; 11]);
+    out.extend([0; 8]);
+    sizes([0; 3], out);
     out.push(channel);
 }
 
@@ -605,21 +630,19 @@ fn scan_with<F: AddressFilter>(filter: F, r: &Request, out: &mut Vec<u8>) {
     let mut scanner = BeaconScanner::with_filter(Reports(&reports), filter);
     let zero = Instant::from_raw_micros(0);
     let _ = scanner.configure(zero, Duration::from_micros(0));
-    for _ in 0..r.numbers[1] {
+    for _ in 0..r.numbers[1].min(3) {
         let _ = scanner.timer_update(zero);
     }
     let header = match panics(4, || Header::parse(&r.parts[1])) {
         Ok(header) => header,
-        Err(n) => {
-            out.push(n);
-            return out.extend([0; 12]);
-        }
+        Err(n) => return unheard(n, 0, out),
     };
     let (channel, next) = listens(scanner.process_adv_packet(header, &r.parts[2], r.numbers[2] == 1));
     assert!(matches!(next, NextUpdate::Keep));
     heard(reports.take(), &r.parts[2], channel, out);
 }
 
+/// A list that is no list of addresses, which rubble's types cannot hold, is refused with 3 (document 01).
 fn scan(r: &Request, out: &mut Vec<u8>) {
     if r.numbers[0] != 1 {
         return scan_with(AllowAll, r, out);
@@ -628,10 +651,10 @@ fn scan(r: &Request, out: &mut Vec<u8>) {
         Ok(addresses) => scan_with(WhitelistFilter::from_slice(&addresses), r, out),
         Err(n) => {
             let mut channel = AdvertisingChannel::first();
-            for _ in 0..r.numbers[1] {
+            for _ in 0..r.numbers[1].min(3) {
                 channel = channel.cycle();
             }
-            bad_list(n, channel.channel(), out);
+            unheard(n, channel.channel(), out);
         }
     }
 }
@@ -650,7 +673,7 @@ fn scanner_calls_with<F: AddressFilter>(filter: F, bad: Option<u8>, entries: &[u
         let (channel, next) = listens(cmd);
         let report = reports.take();
         match (c.kind, bad) {
-            (2.., Some(n)) => bad_list(n, channel, out),
+            (2.., Some(n)) => unheard(n, channel, out),
             _ => heard(report, c.octets, channel, out),
         }
         let next = match next {
@@ -728,7 +751,7 @@ fn beacon(r: &Request, out: &mut Vec<u8>) {
             radio.buffer = pattern(r.numbers[1] as usize);
         }
     }
-    out.extend(radio.buffer);
+    whole(&radio.buffer, out);
 }
 
 pub fn answer(r: &Request, out: &mut Vec<u8>) {
@@ -738,7 +761,7 @@ pub fn answer(r: &Request, out: &mut Vec<u8>) {
         Kind::Decode => match p[0].len() {
             0 | 1 => match panics(4, || Header::parse(&p[0])) {
                 Ok(_) => panic!("a short header is read"),
-                Err(refused) => out.push(refused),
+                Err(refused) => no_packet(refused, out),
             },
             _ => packet(Header::parse(&p[0]), &p[1], out),
         },
@@ -786,7 +809,7 @@ pub fn answer(r: &Request, out: &mut Vec<u8>) {
                     buffer = pattern(n[0] as usize);
                 }
             }
-            out.extend(buffer);
+            whole(&buffer, out);
         }
         Kind::Flags => {
             let f = Flags::from_bits_truncate(n[0] as u8);
@@ -804,14 +827,11 @@ pub fn answer(r: &Request, out: &mut Vec<u8>) {
             let mut reader = ByteReader::new(&p[0]);
             while !reader.is_empty() {
                 match Uuid16::from_bytes(&mut reader) {
-                    Ok(uuid) => {
-                        out.push(0);
-                        out.extend(uuid.0.to_le_bytes());
-                    }
-                    Err(e) => return out.push(number(e)),
+                    Ok(uuid) => got(0, uuid.0 as u64, (p[0].len() - reader.bytes_left()) as u64, out),
+                    Err(e) => return got(number(e), 0, 0, out),
                 }
             }
-            out.push(0);
+            got(0, 0, p[0].len() as u64, out);
         }
         Kind::Later => {
             let later = Instant::from_raw_micros(n[0] as u32) + Duration::from_micros(n[1] as u32);
@@ -842,11 +862,11 @@ pub fn answer(r: &Request, out: &mut Vec<u8>) {
             out.push(map.num_used_channels());
             let marked: Vec<u8> = map.iter_used().map(|c| c.index()).collect();
             assert!(marked.len() == map.num_used_channels() as usize);
-            for c in 0..39 {
+            for c in 0..=last_asked(&p[0]) {
                 match c {
-                    0..=36 => out.extend([0, map.is_used(DataChannel::new(c)) as u8]),
+                    0..=36 => got(0, map.is_used(DataChannel::new(c)) as u64, 0, out),
                     // `DataChannel::new` panics: see `DataChannel`.
-                    _ => out.extend([8, 0]),
+                    _ => got(8, 0, 0, out),
                 }
                 // `by_index` is the place of `iter_used`, and panics behind its end: asked for itself on a sample.
                 match marked.get(c as usize) {
@@ -854,13 +874,13 @@ pub fn answer(r: &Request, out: &mut Vec<u8>) {
                         if p[0][0] == 0x5A || p[0][4] == 0x1F {
                             assert!(map.by_index(c).index() == *index);
                         }
-                        out.extend([0, *index])
+                        got(0, *index as u64, 0, out)
                     }
                     None => {
                         if p[0][0] == 0x5A {
                             assert!(panics(8, || map.by_index(c)).is_err());
                         }
-                        out.extend([8, 0])
+                        got(8, 0, 0, out)
                     }
                 }
             }

@@ -1,7 +1,7 @@
 //! Prints requests for `crates/replay` with rubble's answers, a line for each: first the request, then its answer. From each suite the first
 //! requests that show a refusal, a type, a builder, a kind of record or a call's answer are taken.
 use compare::made::{self, Share};
-use compare::ours::pattern;
+use compare::ours::{pattern, BEHIND};
 use compare::request::{Kind, Request, CALL};
 use compare::theirs;
 use std::collections::HashMap;
@@ -44,8 +44,9 @@ fn rubble(r: &Request) -> Vec<u8> {
     out
 }
 
-/// A lent buffer as replay prints it: what was written, and FF where rubble's buffer kept what it held.
-fn lent(buffer: &[u8], written: usize) -> String {
+/// A lent buffer, with the octets behind it, as replay prints it: what was written, and FF where rubble's buffer kept what it held.
+fn lent(whole: &[u8], written: usize) -> String {
+    let buffer = &whole[..whole.len() - BEHIND];
     assert_eq!(buffer[written..], pattern(buffer.len())[written..]);
     octets(&buffer[..written]) + &octets(&vec![0xFF; buffer.len() - written])
 }
@@ -69,12 +70,12 @@ fn decode(r: &Request) -> Vec<Line> {
     if a[9] == 1 {
         text += &format!(" to{}", address(a[10] == 1, &a[11..17]));
     } else {
-        text += &format!(" records {}", a[19]);
+        text += &format!(" records {}", word(&a, 33));
     }
     if a[1] == 5 {
-        let n = |i: usize| word(&a, 20 + 4 * i);
+        let n = |i: usize| word(&a, 41 + 4 * i);
         text += &format!(" {:08x} {:06x} {} {} {} {} {}", n(0), n(1), n(2), n(3), n(5), n(6), n(7));
-        text += &format!("{} {}", octets(&a[52..57]), a[58]);
+        text += &format!("{} {}", octets(&a[73..78]), a[79]);
     }
     line('d', (0, a[1]), &parts, text)
 }
@@ -124,10 +125,10 @@ fn hops(r: &Request) -> Vec<Line> {
     let step = (hop % 32) as usize;
     let a = rubble(&Request::new(Kind::Events, &[r.numbers[0], 3], &[&r.parts[0]]));
     let mut lines = Vec::new();
-    for (k, event) in a.chunks_exact(2).enumerate() {
+    for (k, event) in a.chunks_exact(17).enumerate() {
         let from = [(k * step % 37) as u8, hop];
         let text = match event[0] {
-            0 => format!(" {} {}", (k + 1) * step % 37, event[1]),
+            0 => format!(" {} {}", word(event, 1), event[9]),
             n => format!(" refused {n}"),
         };
         lines.extend(line('h', (event[0], step as u8), &[&r.parts[0], &from], text));
@@ -170,8 +171,9 @@ fn calls(r: &Request) -> Vec<Line> {
     }
     let a = rubble(r);
     let mut lines = line('n', (0, 0), &[&[r.numbers[0] as u8], &r.parts[0]], String::new());
-    for (c, a) in r.parts[1].chunks_exact(CALL).zip(a.chunks_exact(19 + sizes[0] + sizes[1])) {
-        let buffer = if c[2] == 1 { &a[19 + sizes[0]..] } else { &a[19..19 + sizes[0]] };
+    for (c, a) in r.parts[1].chunks_exact(CALL).zip(a.chunks_exact(19 + sizes[0] + sizes[1] + 2 * BEHIND)) {
+        let second = 19 + sizes[0] + BEHIND;
+        let buffer = if c[2] == 1 { &a[second..second + sizes[1]] } else { &a[19..19 + sizes[0]] };
         let room = [buffer.len() as u8];
         let header = u16::from_le_bytes([a[5], a[6]]);
         let part = c.get(14..14 + c[3] as usize).unwrap_or(&[]);

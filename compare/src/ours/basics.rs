@@ -1,5 +1,5 @@
 //! Octets, UUIDs, headers and PDUs read and written at a position, and filters.
-use super::{array, got, packet, pattern, Got, In, Out, Packet};
+use super::{array, got, lent, packet, sizes, Got, In, Out, Packet};
 use crate::request::{Kind, Request};
 
 #[repr(C)]
@@ -59,7 +59,7 @@ extern "C" {
 fn octets<const N: usize>(read: Octets<N>, out: &mut Vec<u8>) {
     out.push(read.number);
     out.extend(read.octets);
-    out.extend((read.next as u64).to_le_bytes());
+    sizes([read.next], out);
 }
 
 /// A function that reads at a position; `request.rs` has their numbers.
@@ -73,10 +73,10 @@ fn read(n: &[u64], s: &[u8], out: &mut Vec<u8>) {
             2 => {
                 let part = board_read_slice(from, len, at, size);
                 out.push(part.number);
-                out.extend([part.start, part.len, part.next].iter().flat_map(|n| (*n as u64).to_le_bytes()));
+                sizes([part.start, part.len, part.next], out);
             }
             3 => {
-                let mut dst = pattern(size);
+                let mut dst = lent(n[2]);
                 got(board_read_into(from, len, at, dst.as_mut_ptr(), size), out);
                 out.extend(dst);
             }
@@ -89,10 +89,10 @@ fn read(n: &[u64], s: &[u8], out: &mut Vec<u8>) {
     }
 }
 
-/// Writes into a new buffer, which is answered whole.
+/// Writes into a new buffer, which is answered whole, with the octets behind it.
 fn written(space: u64, out: &mut Vec<u8>, write: impl FnOnce(Out, usize) -> Got) {
-    let mut buffer = pattern(space as usize);
-    got(write(buffer.as_mut_ptr(), buffer.len()), out);
+    let mut buffer = lent(space);
+    got(write(buffer.as_mut_ptr(), space as usize), out);
     out.extend(buffer);
 }
 

@@ -1,6 +1,6 @@
 //! Octets, UUIDs, headers and PDUs read and written at a position, and filters, by rubble. Its readers and writers hold a slice: a position is
 //! the start of that slice, and past the end, where no slice begins, there is nothing to read and no space (document 01's 1).
-use super::{address, got, number, packet_of, panics, whitelist};
+use super::{address, got, no_packet, number, packet_of, panics, whitelist, whole};
 use crate::ours::pattern;
 use crate::request::{Kind, Request};
 use rubble::bytes::{ByteReader, ByteWriter, FromBytes, ToBytes};
@@ -65,7 +65,7 @@ fn read_into(s: &[u8], at: u64, n: usize, out: &mut Vec<u8>) {
         Ok(next) => got(0, next, 0, out),
         Err(e) => got(number(e), 0, 0, out),
     }
-    out.extend(dst);
+    whole(&dst, out);
 }
 
 fn read(n: &[u64], s: &[u8], out: &mut Vec<u8>) {
@@ -89,7 +89,8 @@ fn read(n: &[u64], s: &[u8], out: &mut Vec<u8>) {
     }
 }
 
-/// Writes at a position of a new buffer, which is answered whole; before the buffer what `write` says, then the position behind what was written.
+/// Writes at a position of a new buffer, which is answered whole, with the octets behind it; before the buffer what `write` says, then the position
+/// behind what was written.
 fn written<T: Into<Option<u64>>>(
     at: u64,
     space: u64,
@@ -110,7 +111,7 @@ fn written<T: Into<Option<u64>>>(
             buffer = pattern(space as usize);
         }
     }
-    out.extend(buffer);
+    whole(&buffer, out);
 }
 
 fn write(n: &[u64], s: &[u8], out: &mut Vec<u8>) {
@@ -119,7 +120,7 @@ fn write(n: &[u64], s: &[u8], out: &mut Vec<u8>) {
         let mut buffer = pattern(space as usize);
         let left = buffer.get_mut(at as usize..).map_or(0, |rest| ByteWriter::new(rest).space_left());
         got(0, left as u64, 0, out);
-        return out.extend(buffer);
+        return whole(&buffer, out);
     }
     written(at, space, out, |w| {
         if n[0] == 3 {
@@ -193,14 +194,14 @@ pub fn answer(r: &Request, out: &mut Vec<u8>) {
     match r.kind {
         Kind::ReadPdu => match reader(&p[0], n[0]).and_then(|mut r| Pdu::from_bytes(&mut r)) {
             Ok(pdu) => packet_of(pdu, p[0].len() - n[0] as usize - 2, out),
-            Err(e) => out.push(number(e)),
+            Err(e) => no_packet(number(e), out),
         },
         Kind::ReadHeader => value(&p[0], n[0], out, |r| Header::from_bytes(r).map(|h| h.to_u16() as u64)),
         Kind::WriteHeader => match panics(4, || Header::parse(&p[0])) {
             Ok(header) => written(n[0], n[1], out, |w| header.to_bytes(w).map(|()| None).map_err(number)),
             Err(refused) => {
                 got(refused, 0, 0, out);
-                out.extend(pattern(n[1] as usize));
+                whole(&pattern(n[1] as usize), out);
             }
         },
         Kind::ReadAt => read(n, &p[0], out),
