@@ -39,11 +39,24 @@ fn read_more(buf: &mut [u8], kept: usize) -> Moved
     }
 }
 
-// Whether a write that failed may be tried again: a signal interrupted it, or there is no room yet. Then others run first.
+// Waits a millisecond, or less where a signal comes.
+fn wait() {
+    let asked = libc::types::timespec {
+        tv_sec: 0,
+        tv_nsec: 1000000,
+    };
+    let mut left = libc::types::timespec {
+        tv_sec: 0,
+        tv_nsec: 0,
+    };
+    libc::nanosleep(&asked, &mut left);
+}
+
+// Whether a write that failed may be tried again: a signal interrupted it, or there is no room yet. Then it waits first.
 fn may_try_again() -> bool {
     let error = os::errno();
     if error == libc::EAGAIN {
-        libc::sched_yield();
+        wait();
         return true;
     }
     error == libc::EINTR
