@@ -60,6 +60,14 @@ impl Tried {
         self.shell(&format!("{}/{program} < {path}", self.bin))
     }
 
+    /// Lines of the shell that print nothing and say one thing on standard error.
+    fn each(&mut self, program: &str, lines: &[(&str, String, &str)]) {
+        for (what, line, said) in lines {
+            let ran = self.shell(line);
+            self.say(&format!("{program}: {what}"), ran.0.is_empty() && ran.1 == *said, &ran);
+        }
+    }
+
     /// Runs a line of the shell.
     fn shell(&self, line: &str) -> Ran {
         let done = Command::new("sh").arg("-c").arg(line).stdin(Stdio::null()).output().unwrap();
@@ -211,10 +219,7 @@ fn hublog_fails(t: &mut Tried, example: &str) {
         ("a directory as input", format!("{bin} < /"), "hublog: reading failed after item 0: Is a directory\n"),
         ("a closed input", format!("{bin} <&-"), "hublog: reading failed after item 0: Bad file descriptor\n"),
     ];
-    for (what, line, said) in lines {
-        let ran = t.shell(&line);
-        t.say(&format!("hublog: {what}"), ran.0.is_empty() && ran.1 == said, &ran);
-    }
+    t.each("hublog", &lines);
     // 16 blocks of 512 octets fit, so writing stops within a line.
     let cut = format!("{}/cut", t.scratch);
     let ran = t.shell(&format!("trap '' XFSZ; ulimit -f 16; {bin} < {many} > {cut}"));
@@ -313,10 +318,7 @@ fn replay_fails(t: &mut Tried, repository: &str) {
         ("a closed input", format!("{bin} <&-"), "replay: standard input: Bad file descriptor\n"),
         ("an argument", format!("{bin} --help < {sample}"), "usage: replay < requests\n"),
     ];
-    for (what, line, said) in lines {
-        let ran = t.shell(&line);
-        t.say(&format!("replay: {what}"), ran.0.is_empty() && ran.1 == said, &ran);
-    }
+    t.each("replay", &lines);
 }
 
 fn main() {
