@@ -168,8 +168,8 @@ typedef struct BoardListened {
 BoardListened board_scanner_call(bool filtered, const uint8_t *list, size_t list_len, const uint8_t *entries, size_t entries_len, const uint8_t *entry, size_t entry_len);
 
 /* What a call answers, and the mode after it, standby where neither bool is 1. kind: 0 refused, 1 sent, 2 listen, 3 respond, 4 first event, 5 next
- * event, 6 stopped. header: to transmit with the buffer that the last start or tick wrote (1, 3); channel: where to do so, and to listen (1 to 5); at: when
- * the next tick is due (1), or until when to listen for the first event (4); access_address and crc_init: the connection's (4). */
+ * event, 6 stopped, 7 scan data set. header: to transmit with the buffer that the call wrote (1, 3); channel: where to do so, and to listen (1 to 5); at:
+ * when the next tick is due (1), or until when to listen for the first event (4); access_address and crc_init: the connection's (4). */
 typedef struct BoardSaid {
     uint8_t number;
     uint8_t kind;
@@ -184,8 +184,9 @@ typedef struct BoardSaid {
 
 /* A call on a device after the calls before it. A call, numbers least significant octet first:
  *   | 0 kind | 1 CRC good | 2 buffer | 3 length n | 4 time 4 | 8 interval 4 | 12 header 2 | 14 records or payload, n of 258 |
- * kind: 0 start, 1 tick, 2 packet, 3 event, otherwise stop. CRC good: 1, and no other number. buffer: 1 where a start or a tick writes to `second`,
- * otherwise to `first`. time: of a start, or the end of a packet. interval: of a start. Both buffers go through all calls of the list. */
+ * kind: 0 start, 1 tick, 2 packet, 3 event, 5 scan data to set, otherwise stop. CRC good: 1, and no other number. buffer: 1 where a start, a tick or
+ * the reply to a scan request is written to `second`, otherwise to `first`. time: of a start, or the end of a packet. interval: of a start. Both
+ * buffers go through all calls of the list. */
 BoardSaid board_call(const uint8_t own[6], bool random, const uint8_t *calls, size_t calls_len, const uint8_t *call, size_t call_len, uint8_t *first, size_t first_len, uint8_t *second, size_t second_len);
 
 /* --- libbasics.a: records --- */

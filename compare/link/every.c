@@ -213,15 +213,16 @@ static void ran(const char *name, const uint8_t *calls, size_t calls_len, const 
     octets(first, 12), printf(","), octets(second, 12), printf("\n");
 }
 
-/* Every call, and one more, in each mode; octets 1 and 2 of a call; a connect request that marks no channel; lists and calls that are cut. */
+/* Every call, and one more, in each mode; octets 1 and 2 of a call; a connect request that marks no channel; lists and calls that are cut; a reply with
+ * scan data, by both buffers. */
 static void device(void) {
     static uint8_t calls[2 * 272], call[272], scan[14] = {0x83, 0x0C};
     memcpy(scan + 8, other, 6);
     call_of(calls, 0, 5, 30, beacon, records + 6, 3), call_of(calls + 272, 2, 232, 3, request, request + 2, 34);
     const char *modes[3] = {"standby", "advertising", "connected"};
     for (size_t mode = 0; mode < 3; mode++)
-        for (int kind = 0; kind <= 5; kind++) {
-            call_of(call, (uint8_t)kind, 7, 50, scan, scan + 2, kind == 0 ? 0 : 12);
+        for (int kind = 0; kind <= 6; kind++) {
+            call_of(call, (uint8_t)kind, 7, 50, scan, kind == 5 ? records + 6 : scan + 2, kind == 0 ? 0 : kind == 5 ? 3 : 12);
             printf("%d ", kind), ran(modes[mode], calls, 272 * mode, S(call));
         }
     for (int n = 0; n <= 2; n++) {
@@ -242,6 +243,11 @@ static void device(void) {
     call_of(call, 2, 5, 30, scan, scan + 2, 12);
     ran("25", calls, 272, call, 25);
     ran("13", calls, 272, call, 13);
+    call_of(calls, 5, 0, 0, beacon, records + 6, 3), call_of(calls + 272, 0, 5, 30, beacon, bits, 0);
+    call_of(call, 2, 7, 50, scan, scan + 2, 12);
+    ran("reply", S(calls), S(call));
+    call[2] = 1;
+    ran("reply", S(calls), S(call));
 }
 
 /* Every entry of a scanner, and one more, before and after a configure; the CRC; a list and an entry that are cut. */

@@ -1,4 +1,4 @@
-//! What was compared: comparisons and refusals by kind, lengths of payloads, near misses, connections and events of lists.
+//! What was compared: comparisons and refusals by kind, lengths of payloads, near misses, replies, connections and events of lists.
 use crate::inputs::marks_any;
 use crate::ours::BEHIND;
 use crate::request::{Kind, Request, CALL, KINDS};
@@ -18,6 +18,9 @@ const SCANNER: usize = 4;
 const DEVICE_OFF: [&str; 6] = ["a bit of the address", "RxAdd", "the CRC", "the length", "the type", "an empty map"];
 const SCANNER_OFF: [&str; 5] = ["the type", "the CRC", "the length", "the entry's kind", "a bit of the entry"];
 
+const REPLIES: [(&str, usize); 4] = [("bare", 6), ("1-30 octets", 7), ("31 octets", 37), ("more", 38)];
+const SETS: [&str; 4] = ["refused with 1", "refused with 2", "accepted", "accepted without data"];
+
 const CONNECTIONS: [(&str, usize); 4] = [("none", 0), ("1", 1), ("2", 2), ("3 or more", 3)];
 const EVENTS: [(&str, usize); 5] = [("none", 0), ("1-9", 1), ("10-99", 10), ("100-300", 100), ("more", 301)];
 
@@ -35,6 +38,9 @@ pub struct Counts {
     lengths: [[u64; 256]; GROUPS.len()],
     device_off: [u64; DEVICE_OFF.len()],
     scanner_off: [u64; SCANNER_OFF.len()],
+    replies: [u64; REPLIES.len()],
+    no_room: u64,
+    sets: [u64; SETS.len()],
     connections: [u64; CONNECTIONS.len()],
     events: [u64; EVENTS.len()],
     scanner_packets: [u64; LIVED.len()],
@@ -48,6 +54,9 @@ impl Default for Counts {
             lengths: [[0; 256]; GROUPS.len()],
             device_off: [0; DEVICE_OFF.len()],
             scanner_off: [0; SCANNER_OFF.len()],
+            replies: [0; REPLIES.len()],
+            no_room: 0,
+            sets: [0; SETS.len()],
             connections: [0; CONNECTIONS.len()],
             events: [0; EVENTS.len()],
             scanner_packets: [0; LIVED.len()],
@@ -108,6 +117,13 @@ impl Counts {
             self.answers[Kind::Calls as usize][a[0] as usize % 10] += 1;
             connections += (a[1] == 4) as usize;
             events += (a[1] == 5) as usize;
+            match (c[0], a[0], a[1]) {
+                (2, 0, 3) => self.replies[class(&REPLIES, a[6] as usize % 64)] += 1,
+                (2, 1, _) => self.no_room += 1,
+                (5, 0, _) => self.sets[2 + (c[3] == 0) as usize] += 1,
+                (5, n, _) => self.sets[n as usize - 1] += 1,
+                _ => {}
+            }
             // A packet in another mode is refused with 5, whatever it holds.
             if c[0] == 2 && a[0] != 5 {
                 self.count_packet(c, &r.parts[0], r.numbers[0] as u8);
@@ -189,6 +205,9 @@ impl Counts {
         self.lengths.iter_mut().zip(&more.lengths).for_each(|(sum, n)| add(sum, n));
         add(&mut self.device_off, &more.device_off);
         add(&mut self.scanner_off, &more.scanner_off);
+        add(&mut self.replies, &more.replies);
+        self.no_room += more.no_room;
+        add(&mut self.sets, &more.sets);
         add(&mut self.connections, &more.connections);
         add(&mut self.events, &more.events);
         add(&mut self.scanner_packets, &more.scanner_packets);
@@ -223,6 +242,9 @@ impl Counts {
         }
         print_row("device packets with one thing off", &DEVICE_OFF, &self.device_off);
         print_row("beacons of a listed sender with one thing off", &SCANNER_OFF, &self.scanner_off);
+        print_row("scan data set", &SETS, &self.sets);
+        print_row("replies to scan requests", &REPLIES.map(|c| c.0), &self.replies);
+        print_row("scan requests", &["without room for the reply"], &[self.no_room]);
         print_row("lists of calls by connections", &CONNECTIONS.map(|c| c.0), &self.connections);
         print_row("lists of calls by events", &EVENTS.map(|c| c.0), &self.events);
         print_row("scanners by packets", &LIVED.map(|c| c.0), &self.scanner_packets);

@@ -8,6 +8,9 @@ const TICK: u8 = 1;
 const PACKET: u8 = 2;
 const EVENT: u8 = 3;
 const STOP: u8 = 4;
+const SET: u8 = 5;
+/// Names no call, and is a stop.
+const OTHER: u8 = 6;
 
 const SCAN_REQ: u8 = 3;
 const CONNECT_REQ: u8 = 5;
@@ -18,9 +21,9 @@ const CONNECTED: usize = 2;
 
 /// Calls that are likely in each mode; those that it refuses are among them.
 const LIKELY: [&[u8]; 3] = [
-    &[START, START, START, START, START, START, TICK, PACKET, EVENT, STOP, 5],
-    &[START, TICK, TICK, TICK, PACKET, PACKET, PACKET, PACKET, PACKET, PACKET, PACKET, PACKET, EVENT, STOP],
-    &[START, TICK, PACKET, EVENT, EVENT, EVENT, EVENT, EVENT, EVENT, EVENT, EVENT, EVENT, STOP],
+    &[START, START, START, START, START, START, TICK, PACKET, EVENT, SET, STOP, OTHER],
+    &[START, TICK, TICK, TICK, PACKET, PACKET, PACKET, PACKET, PACKET, PACKET, PACKET, PACKET, EVENT, SET, STOP],
+    &[START, TICK, PACKET, EVENT, EVENT, EVENT, EVENT, EVENT, EVENT, EVENT, EVENT, EVENT, SET, STOP],
 ];
 
 /// A packet as a radio hands it over.
@@ -74,6 +77,23 @@ impl<'a> List<'a> {
 
     fn start_with(&mut self, records: Vec<u8>, second: bool) {
         self.push(START, second, &Packet { header: [0; 2], payload: records, crc_ok: true });
+    }
+
+    /// Scan data around the most that a reply holds, sometimes damaged, any, or none.
+    fn set(&mut self) {
+        let n = match self.rng.below(8) {
+            0..=3 => self.rng.below(32),
+            4 | 5 => 28 + self.rng.below(7),
+            6 => 0,
+            _ => length(self.rng),
+        };
+        let mut records = area(self.rng, n);
+        if self.rng.one_in(6) {
+            damage(self.rng, &mut records);
+        }
+        records.truncate(255);
+        let second = self.rng.one_in(5);
+        self.push(SET, second, &Packet { header: [0; 2], payload: records, crc_ok: true });
     }
 
     /// A start that a buffer of 37 octets has room for.
@@ -163,12 +183,13 @@ impl<'a> List<'a> {
 
     fn packet(&mut self) {
         let p = match self.rng.below(8) {
-            0..=2 => self.good_request(CONNECT_REQ),
-            3 => self.good_request(SCAN_REQ),
+            0 | 1 => self.good_request(CONNECT_REQ),
+            2 | 3 => self.good_request(SCAN_REQ),
             4 | 5 => self.near_miss(),
             _ => self.any_packet(),
         };
-        self.push(PACKET, false, &p);
+        let second = self.rng.one_in(4);
+        self.push(PACKET, second, &p);
         if self.mode == ADVERTISING && connects(&p, &self.own, self.random) {
             self.mode = CONNECTED;
         }
@@ -180,6 +201,7 @@ impl<'a> List<'a> {
             START if self.rng.bit() == 0 => self.start(),
             START => self.any_start(),
             PACKET => self.packet(),
+            SET => self.set(),
             kind => self.plain(kind),
         }
     }
@@ -195,6 +217,9 @@ impl<'a> List<'a> {
 
     /// From a start over a few ticks and packets to a connection, and its events, refused calls among them.
     fn connection(&mut self, events: usize) {
+        if self.rng.bit() == 0 {
+            self.set();
+        }
         self.start();
         for _ in 0..self.rng.below(6) {
             if self.mode == ADVERTISING && self.rng.bit() == 0 {

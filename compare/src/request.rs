@@ -193,6 +193,7 @@ fn brief_call(kind: Kind, c: &[u8]) -> String {
         (Kind::Calls, 0) => format!("start {octets}"),
         (Kind::Calls, 1) => "tick".to_string(),
         (Kind::Calls, 3) => "event".to_string(),
+        (Kind::Calls, 5) => format!("scan data {octets}"),
         (Kind::Calls, 4..) => "stop".to_string(),
         (Kind::ScannerCalls, 0) => "configure".to_string(),
         (Kind::ScannerCalls, 1) => "update".to_string(),

@@ -355,12 +355,14 @@ fn refused(number: u8) -> Said {
     Said { number, ..Said::default() }
 }
 
-/// A `LinkLayer`, with the accepted calls that lead to its state: after a panic it is made anew from these.
+/// A `LinkLayer`, with the accepted calls that lead to its state: after a panic it is made anew from these. It has no scan data: the reply with these
+/// is what rubble's builder of scan responses builds of them, header and payload.
 struct Device<'a> {
     own: DeviceAddress,
     layer: LinkLayer<Board>,
     radio: Radio,
     accepted: Vec<&'a [u8]>,
+    reply: Option<(u16, Vec<u8>)>,
 }
 
 struct Call<'a> {
@@ -388,7 +390,7 @@ fn call(c: &[u8]) -> Call<'_> {
 
 impl<'a> Device<'a> {
     fn new(own: DeviceAddress) -> Self {
-        Device { own, layer: LinkLayer::new(own, Clock(0)), radio: Radio::default(), accepted: Vec::new() }
+        Device { own, layer: LinkLayer::new(own, Clock(0)), radio: Radio::default(), accepted: Vec::new(), reply: None }
     }
 
     fn again(&mut self) {
@@ -406,7 +408,7 @@ impl<'a> Device<'a> {
         let buffer = if call(c).second { second } else { first };
         let said = self.run(c, buffer);
         match said.kind {
-            0 => {}
+            0 | 7 => {}
             6 => self.accepted.clear(),
             _ => self.accepted.push(c),
         }
@@ -419,8 +421,9 @@ impl<'a> Device<'a> {
         match c.kind {
             0 => self.start(&c, buffer),
             1 => self.tick(buffer),
-            2 => self.packet(&c),
+            2 => self.packet(&c, buffer),
             3 => self.event(c.time),
+            5 => self.set_scan_data(c.octets),
             _ => {
                 // rubble has no stop; a device that was stopped is in standby.
                 self.layer = LinkLayer::new(self.own, Clock(0));
@@ -485,7 +488,28 @@ impl<'a> Device<'a> {
         }
     }
 
-    fn packet(&mut self, c: &Call<'_>) -> Said {
+    fn set_scan_data(&mut self, area: &[u8]) -> Said {
+        match build(4, self.own, area) {
+            Ok(pdu) => {
+                self.reply = if area.is_empty() { None } else { Some((pdu.header().to_u16(), pdu.payload().to_vec())) };
+                Said { kind: 7, ..Said::default() }
+            }
+            Err(n) => refused(n),
+        }
+    }
+
+    /// A reply that rubble's device gave with this header. Its payload is written as document 02's Note 1 has it: without scan data the own address.
+    fn replied(&self, header: u16, channel: u8, buffer: &mut [u8]) -> Said {
+        let (header, payload) = match &self.reply {
+            Some((header, payload)) => (*header, &payload[..]),
+            None => (header, &self.own.raw()[..]),
+        };
+        let Some(front) = buffer.get_mut(..payload.len()) else { return refused(1) };
+        front.copy_from_slice(payload);
+        Said { kind: 3, channel, header, ..Said::default() }
+    }
+
+    fn packet(&mut self, c: &Call<'_>, buffer: &mut [u8]) -> Said {
         let advertising = self.layer.is_advertising();
         let (layer, radio) = (&mut self.layer, &mut self.radio);
         let end = Instant::from_raw_micros(c.time);
@@ -497,7 +521,7 @@ impl<'a> Device<'a> {
                     [] => Said { kind: 2, channel: channel.channel(), ..Said::default() },
                     [(header, on)] => {
                         assert!(on == channel.channel());
-                        Said { kind: 3, channel: on, header, ..Said::default() }
+                        self.replied(header, on, buffer)
                     }
                     _ => panic!("a packet is answered more than once"),
                 }

@@ -183,20 +183,29 @@ fn calls(r: &Request) -> Vec<Line> {
                 let kept = octets(&vec![0xFF; buffer.len() - n]);
                 format!(" {header:04x} on {} at {}{}{kept}", a[4], word(a, 7), octets(&buffer[..n]))
             }
-            (0, 2) => format!(" listens on {}", a[4]),
-            (0, 3) => format!(" {header:04x} on {}", a[4]),
-            (0, 4) => format!(" {} at {} {:08x} {:06x}", a[4], word(a, 7), word(a, 11), word(a, 15)),
+            (0, 2) => format!(" listens on {}{}", a[4], octets(&vec![0xFF; buffer.len()])),
+            (0, 3) => {
+                let n = (header >> 8) as usize & 63;
+                let kept = octets(&vec![0xFF; buffer.len() - n]);
+                format!(" {header:04x} on {}{}{kept}", a[4], octets(&buffer[..n]))
+            }
+            (0, 4) => {
+                let kept = octets(&vec![0xFF; buffer.len()]);
+                format!(" {} at {} {:08x} {:06x}{kept}", a[4], word(a, 7), word(a, 11), word(a, 15))
+            }
             (0, 5) => format!(" {}", a[4]),
-            (0, _) => " stopped".to_string(),
-            (n, _) if c[0] < 2 => format!(" refused {n}{}", octets(&vec![0xFF; buffer.len()])),
+            (0, 6) => " stopped".to_string(),
+            (0, _) => " set".to_string(),
+            (n, _) if c[0] < 3 => format!(" refused {n}{}", octets(&vec![0xFF; buffer.len()])),
             (n, _) => format!(" refused {n}"),
         };
         let shows = (a[0], a[1]);
         lines.extend(match c[0] {
             0 => line('s', shows, &[&c[4..12], &room, part], answer),
             1 => line('t', shows, &[&room], answer),
-            2 => line('p', shows, &[&c[4..8], &c[1..2], &c[12..14], part], answer),
+            2 => line('p', shows, &[&c[4..8], &c[1..2], &room, &c[12..14], part], answer),
             3 => line('e', shows, &[], answer),
+            5 => line('y', shows, &[part], answer),
             _ => line('x', shows, &[], answer),
         });
     }

@@ -9,7 +9,7 @@ use lib.Dec.{eqb}
 use lib.ListN.{length, getD}
 use Rattle.addresses.specs.declared.header.Header.{Header}
 use Rattle.radio.specs.Calls.{instant}
-use Rattle.radio.specs.Trace.{start, tick, packet, event, stop}
+use Rattle.radio.specs.Trace.{start, tick, packet, event, stop, setScanData}
 use Rattle.radio.specs.declared.link.Called.{Called}
 use Rattle.radio.specs.declared.link.Device.{Device}
 use Rattle.exports.specs.Lists.{timeIn, intervalIn, headerIn, octetsIn, callIn, State, state, calledBy, stepOf, ran}
@@ -24,17 +24,21 @@ module _ (c tx : List ℕ) where
   as-tick k = rw k
 
   pub as-packet : {t : ℕ} {h : Header} {o : List ℕ} {b : Bool} → getD c 0 0 ≡ 2 → t ≡ timeIn c → h ≡ headerIn c → o ≡ octetsIn c → b ≡ eqb (getD c 1 0) 1
-      → packet (instant t) h o b ≡ callIn c tx
+      → packet (instant t) h o b tx ≡ callIn c tx
   unfolding callIn
-  as-packet k t h o b = (λ j. packet (instant (t j)) (h j) (o j) (b j)) ∙ rw k
+  as-packet k t h o b = (λ j. packet (instant (t j)) (h j) (o j) (b j) tx) ∙ rw k
 
   pub as-event : getD c 0 0 ≡ 3 → event ≡ callIn c tx
   unfolding callIn
   as-event k = rw k
 
-  pub as-stop : eqb (getD c 0 0) 0 ≡ false → eqb (getD c 0 0) 1 ≡ false → eqb (getD c 0 0) 2 ≡ false → eqb (getD c 0 0) 3 ≡ false → stop ≡ callIn c tx
+  pub as-set : {o : List ℕ} → getD c 0 0 ≡ 5 → o ≡ octetsIn c → setScanData o ≡ callIn c tx
   unfolding callIn
-  as-stop a b d e = rw (a, b, d, e)
+  as-set k o = (λ j. setScanData (o j)) ∙ rw k
+
+  pub as-stop : eqb (getD c 0 0) 0 ≡ false → eqb (getD c 0 0) 1 ≡ false → eqb (getD c 0 0) 2 ≡ false → eqb (getD c 0 0) 3 ≡ false → eqb (getD c 0 0) 5 ≡ false → stop ≡ callIn c tx
+  unfolding callIn
+  as-stop a b d e f = rw (a, b, d, e, f)
 
 -- i calls of a list have been made, from a state on
 pub record Turn (s : State) (calls : List ℕ) (n : ℕ) (first second : List ℕ) (device : Device) (i : ℕ) : Type 0 where

@@ -18,8 +18,8 @@ use Rattle.addresses.specs.declared.device_address.DeviceAddress.{DeviceAddress
 use Rattle.addresses.specs.declared.header.Header.{Header}
 use Rattle.addresses.specs.declared.header.HeaderMade.{HeaderMade}
 use Rattle.addresses.specs.declared.header.HeaderMade.the-variants as made
-use Rattle.radio.specs.Calls.{fresh, instant, isAdvertising, isConnected, startAfter, tickAfter}
-use Rattle.radio.specs.Trace.{Call, start, tick, packet, event, stop, callOf}
+use Rattle.radio.specs.Calls.{fresh, instant, isAdvertising, isConnected, startAfter, tickAfter, packetAfter}
+use Rattle.radio.specs.Trace.{Call, start, tick, packet, event, stop, setScanData, callOf}
 use Rattle.radio.specs.declared.link.Answer.{Answer}
 use Rattle.radio.specs.declared.link.Answer.the-variants as answer
 use Rattle.radio.specs.declared.link.Called.{Called}
@@ -46,15 +46,17 @@ unfoldable pub callIn : List ℕ → List ℕ → Call
 callIn c tx =
     cond (eqb (getD c 0 0) 0) (start (instant (timeIn c)) (intervalIn c) (octetsIn c) tx)
     (cond (eqb (getD c 0 0) 1) (tick tx)
-    (cond (eqb (getD c 0 0) 2) (packet (instant (timeIn c)) (headerIn c) (octetsIn c) (eqb (getD c 1 0) 1))
-    (cond (eqb (getD c 0 0) 3) event stop)))
+    (cond (eqb (getD c 0 0) 2) (packet (instant (timeIn c)) (headerIn c) (octetsIn c) (eqb (getD c 1 0) 1) tx)
+    (cond (eqb (getD c 0 0) 3) event
+    (cond (eqb (getD c 0 0) 5) (setScanData (octetsIn c)) stop))))
 
 abbrev pub bufferAfter : Device → Call → List ℕ → List ℕ
 bufferAfter d (start time interval records tx) out = startAfter d records tx
 bufferAfter d (tick tx) out = tickAfter d tx
-bufferAfter d (packet end header payload crcGood) out = out
+bufferAfter d (packet end header payload crcGood tx) out = packetAfter d header payload crcGood tx
 bufferAfter d event out = out
 bufferAfter d stop out = out
+bufferAfter d (setScanData records) out = out
 
 pub record State : Type 0 where
   pub device : Device
@@ -108,6 +110,7 @@ answerSaid (answer.Respond header channel) a b = saying 0 3 a b (indexOf channel
 answerSaid (answer.FirstEvent channel at access crc) a b = saying 0 4 a b (channel .index) 0 (at .0) access crc
 answerSaid (answer.NextEvent channel) a b = saying 0 5 a b (channel .index) 0 0 0 0
 answerSaid answer.Stopped a b = saying 0 6 a b 0 0 0 0 0
+answerSaid answer.ScanDataSet a b = saying 0 7 a b 0 0 0 0 0
 
 abbrev pub calledSaid : Called → Said
 calledSaid c = answerSaid (c .answer) (isAdvertising (c .device .mode)) (isConnected (c .device .mode))

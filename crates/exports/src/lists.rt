@@ -2,8 +2,8 @@
 //
 //     | 0 kind | 1 CRC good | 2 buffer | 3 length n | 4 time 4 | 8 interval 4 | 12 header 2 | 14 records or payload, n of 258 |
 //
-// Kinds: 0 start, 1 tick, 2 packet, 3 event, otherwise stop. The time is a start's, or the end of a packet. A start and a tick are lent the first
-// transmit buffer, or the second one where octet 2 is 1. Every length that octet 3 can say has its place.
+// Kinds: 0 start, 1 tick, 2 packet, 3 event, 5 scan data to set, otherwise stop. The time is a start's, or the end of a packet. A start, a tick and a
+// packet are lent the first transmit buffer, or the second one where octet 2 is 1. Every length that octet 3 can say has its place.
 ghost use mathlib.Core.Path.{_≡_};
 ghost use lib.ListN.{getD};
 ghost use Rattle.addresses.specs.Address.{kindOf, addressOf};
@@ -69,9 +69,10 @@ fn step(device: Device, call: &[u8], tx: &mut [u8]) -> Called
         1 => device.update_timer(tx),
         2 => {
             let header = header_of(part_of(call, 12, 2));
-            device.process_adv_packet(time, header, octets, octet(call, 1) == 1)
+            device.process_adv_packet(time, header, octets, octet(call, 1) == 1, tx)
         }
         3 => device.event(),
+        5 => device.set_scan_data(octets),
         _ => device.stop(),
     }
 }
@@ -102,7 +103,7 @@ fn after(own: DeviceAddress, calls: &[u8], first: &mut [u8], second: &mut [u8]) 
     device
 }
 
-// What a call answered, and the mode after it. `kind` is 0 to 6 in the order of `Answer`.
+// What a call answered, and the mode after it. `kind` is 0 to 7 in the order of `Answer`.
 #[repr(C)]
 pub struct Said {
     pub number: u8,
@@ -198,6 +199,17 @@ fn say(answer: Answer, advertising: bool, connected: bool) -> Said
         Answer::Stopped => Said {
             number: 0,
             kind: 6,
+            advertising,
+            connected,
+            channel: 0,
+            header: 0,
+            at: 0,
+            access_address: 0,
+            crc_init: 0,
+        },
+        Answer::ScanDataSet => Said {
+            number: 0,
+            kind: 7,
             advertising,
             connected,
             channel: 0,

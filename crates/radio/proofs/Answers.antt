@@ -1,24 +1,37 @@
--- Two answers as document 01 has them: the instant of a first event, and the header of a scan response. Assumes nothing.
+-- The instant of a first event as document 01 has it, and the numbers of refusals. Assumes nothing.
 use mathlib.Core.Bool.{false}
-use mathlib.Core.List.{[], _++_, append-nil, flatten}
-use mathlib.Core.Path.{_≡_}
-use Prim.Native.Nat.{ℕ, _+_, _-_}
+use mathlib.Core.Path.{_≡_, refl}
+use Prim.Native.Nat.{ℕ, _+_}
 use native.Mathlib.Omega.{arith}
-use lib.ListN.{length}
-use borrow.Author.Tests.{le-ltb}
+use lib.Dec.{eqb}
+use Rattle.octets.specs.Error.{numberOf}
 use Rattle.octets.specs.Time.{later}
-use Rattle.addresses.specs.Address.{isRandom}
-use Rattle.addresses.specs.declared.device_address.DeviceAddress.{DeviceAddress}
-use Rattle.addresses.specs.declared.header.PduType.the-variants.{ScanRsp}
-use Rattle.records.specs.Area.{cut, reads, areaOf, readArea, rewritten}
-use Rattle.advertising.specs.PduBuf.{headerFor, bufOf, withRecords, afterReading, builtOf}
+use Rattle.octets.specs.declared.error.Error.{Error}
+use Rattle.octets.specs.declared.error.Error.the-variants.{Eof, InvalidLength, InvalidValue, ShortHeader, WrongMode, EmptyMap, PayloadLength, NoSuchChannel, RecordLength}
+use Rattle.radio.specs.Trace.{firstOf}
 
 pub first-event : (end offset size : ℕ) → later (later end (later (later offset size) 1250)) 500 ≡ later end (offset + size + 1750)
 first-event end offset size = omega arith
 
-pub response-header : (a : DeviceAddress) → length (a .bytes) ≡ 6
-    → builtOf ScanRsp a [] [] .pdu .header ≡ headerFor ScanRsp (isRandom (a .kind)) false 6
-unfolding withRecords afterReading bufOf readArea rewritten areaOf reads cut flatten
-response-header a six =
-    let whole : length ((a .bytes ++ []) ++ []) ≡ 6 = simp append-nil six in
-    rw (le-ltb (37 - length (a .bytes ++ [])) 0 (omega arith), whole)
+-- a refusal has a number
+pub no-zero : (e : Error) → eqb (numberOf e) 0 ≡ false
+no-zero Eof = refl
+no-zero InvalidLength = refl
+no-zero InvalidValue = refl
+no-zero ShortHeader = refl
+no-zero WrongMode = refl
+no-zero EmptyMap = refl
+no-zero PayloadLength = refl
+no-zero NoSuchChannel = refl
+no-zero RecordLength = refl
+
+pub first-number : (e : Error) (m : ℕ) → firstOf (numberOf e) m ≡ numberOf e
+first-number Eof m = refl
+first-number InvalidLength m = refl
+first-number InvalidValue m = refl
+first-number ShortHeader m = refl
+first-number WrongMode m = refl
+first-number EmptyMap m = refl
+first-number PayloadLength m = refl
+first-number NoSuchChannel m = refl
+first-number RecordLength m = refl

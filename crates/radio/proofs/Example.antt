@@ -1,4 +1,4 @@
--- A list of calls by computation: `example`. Assumes nothing.
+-- Lists of calls by computation: `example`, `titled`. Assumes nothing.
 use mathlib.Core.List.{flatten}
 use mathlib.Core.Path.{refl}
 use Rattle.channels.specs.Count.{count, placed}
@@ -8,12 +8,16 @@ use Rattle.records.specs.Area.{cut, reads, withFirst, areaOf, readArea, clean, 
 use Rattle.records.specs.Record.{named, flagsRead, uuidsRead, dataRead, upTo, recordRead, first}
 use Rattle.addresses.specs.Address.{sameOctets, sameAddress}
 use Rattle.addresses.specs.Header.{pduType}
-use Rattle.advertising.specs.Pdu.{requestOf, connectRequest, byType, decodeOf}
+use Rattle.advertising.specs.Pdu.{requestOf, directed, connectRequest, byType, decodeOf}
 use Rattle.advertising.specs.PduBuf.{bufOf, afterReading, withRecords}
-use Rattle.radio.specs.Calls.{isFor, connectsTo, addressed, hops, startOf, startAfter, tickOf, tickAfter, packetOf, eventOf}
-use Rattle.radio.specs.Laws.{Example}
+use Rattle.radio.specs.Calls.{isFor, connectsTo, addressed, hops, startOf, startAfter, tickOf, tickAfter, packetOf, packetAfter, scanDataOf, eventOf}
+use Rattle.radio.specs.Laws.{Example, Titled}
 use Rattle.radio.specs.Trace.{trace}
 
 pub example : Example
 unfolding flatten count placed mapped marked marks channelAt cleared cut reads areaOf readArea rewritten sameOctets sameAddress pduType requestOf connectRequest byType decodeOf bufOf afterReading withRecords isFor connectsTo addressed hops startOf startAfter tickOf tickAfter packetOf eventOf trace named flagsRead uuidsRead dataRead upTo recordRead first withFirst clean
 example = record { answers = refl; channel-1 = refl; channel-3 = refl; octets = refl }
+
+pub titled : Titled
+unfolding flatten cut reads areaOf readArea rewritten sameOctets sameAddress pduType directed byType decodeOf bufOf afterReading withRecords isFor addressed startOf startAfter tickOf tickAfter packetOf packetAfter scanDataOf trace named flagsRead uuidsRead dataRead upTo recordRead first withFirst clean
+titled = record { answers = refl; octets = refl }

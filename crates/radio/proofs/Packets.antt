@@ -1,5 +1,5 @@
--- What is known of a decoded packet by its type alone. Assumes nothing.
-use mathlib.Core.Bool.{Bool, true, false, cond, false≢true}
+-- What is known of a decoded packet by its type alone, and of requests. Assumes nothing.
+use mathlib.Core.Bool.{Bool, true, false, cond, _&&_, and-false, false≢true}
 use mathlib.Core.List.{List}
 use mathlib.Core.Path.{_≡_, refl, sym, _∙_}
 use Prim.Native.Nat.{ℕ}
@@ -14,10 +14,12 @@ use Rattle.addresses.specs.Header.{typeOf, lengthOf}
 use Rattle.addresses.specs.declared.header.Header.{Header}
 use Rattle.addresses.specs.declared.header.PduType.{PduType}
 use Rattle.addresses.specs.declared.header.PduType.the-variants.{AdvInd, AdvDirectInd, AdvNonconnInd, AdvScanInd, ScanReq, ScanRsp, ConnectReq, Unknown}
-use Rattle.advertising.specs.Pdu.{requestOf, senderOf, receiverOf, hasReceiver, noData, noRequest, isAccepted, decodedAs, refusedPdu, withArea, undirected, directed, connectRequest, byType, decodeOf}
+use Rattle.advertising.specs.Pdu.{requestOf, senderOf, receiverOf, hasReceiver, noData, noRequest, isAccepted, decodedAs, refusedPdu, withArea, undirected, directed, connectRequest, byType, decodeOf, wellFormed}
 use Rattle.advertising.specs.declared.pdu.Decoded.{Decoded}
 use Rattle.advertising.specs.declared.pdu.Outcome.the-variants.{Accepted}
-use Rattle.radio.specs.Trace.{isConnectRequest}
+use Rattle.addresses.specs.declared.device_address.DeviceAddress.{DeviceAddress}
+use Rattle.radio.specs.Calls.{isFor}
+use Rattle.radio.specs.Trace.{isConnectRequest, forBoard, requested}
 
 -- a packet with a second address was not refused; one that was not refused has the header's type and, where that has one, the second address of its
 -- payload; and a connect request holds the data of its payload
@@ -62,3 +64,23 @@ known h p = at (eqb (lengthOf h) (length p)) (typeOf h) refl
     at true ScanReq is = two ScanReq is refl (ltb (length p) 12)
     at true ConnectReq is = asked is (ltb (length p) 34)
     at true (Unknown n) is = refused InvalidValue
+
+module _ (own : DeviceAddress) (h : Header) (p : List ℕ) where
+  -- a malformed packet is for nobody
+  pub not-for : wellFormed h p ≡ false → forBoard own h p ≡ false
+  unfolding isFor
+  not-for bad = go (hasReceiver (decodeOf h p .pdu .ty)) refl
+    where
+      go : (b : Bool) → hasReceiver (decodeOf h p .pdu .ty) ≡ b → forBoard own h p ≡ false
+      go false e = rw e
+      go true e = absurd (false≢true (sym bad ∙ known h p .good e))
+
+  -- so a packet for this board is well-formed
+  pub requested-is : (is : PduType → Bool) (crcGood : Bool) → requested is own crcGood h p ≡ (crcGood && (forBoard own h p && is (decodeOf h p .pdu .ty)))
+  unfolding requested
+  requested-is is crcGood = go (wellFormed h p) refl
+    where
+      go : (good : Bool) → wellFormed h p ≡ good
+          → (crcGood && (wellFormed h p && (forBoard own h p && is (decodeOf h p .pdu .ty)))) ≡ (crcGood && (forBoard own h p && is (decodeOf h p .pdu .ty)))
+      go true e = rw e
+      go false e = rw (e, not-for e)

@@ -1,5 +1,5 @@
 -- What the words of demand 3 mean, and what calls leave in buffers: `words`, `modes`, `refusing`, `transmits`, `hearing`. Assumes nothing.
-use mathlib.Core.Bool.{Bool, true, false, cond, _&&_, false≢true}
+use mathlib.Core.Bool.{Bool, true, false, cond, _&&_, and-false, false≢true}
 use mathlib.Core.List.{List, [], _∷_, _++_}
 use mathlib.Core.Logic.{_⊎_, inl, inr, ⊎-elim}
 use mathlib.Core.Path.{_≡_, refl, sym, ap, _∙_}
@@ -26,36 +26,37 @@ use Rattle.records.specs.declared.area.Area.{Area}
 use Rattle.records.specs.declared.area.Area.the-variants as area
 use Rattle.addresses.proofs.Addresses.{equality}
 use Rattle.addresses.proofs.Boxes.{codes}
-use Rattle.addresses.specs.Address.{kindNumber, isRandom, sameAddress}
-use Rattle.addresses.specs.Header.{headerOf, typeCode, pduType, typeOf, bits}
-use Rattle.addresses.specs.declared.device_address.AddressKind.{AddressKind}
-use Rattle.addresses.specs.declared.device_address.AddressKind.the-variants.{Public, Random}
+use Rattle.addresses.specs.Address.{kindOf, addressOf, sameAddress}
+use Rattle.addresses.specs.Header.{typeCode, pduType, typeOf, bits, rxAdd}
 use Rattle.addresses.specs.declared.device_address.DeviceAddress.{DeviceAddress}
 use Rattle.addresses.specs.declared.header.Header.{Header}
 use Rattle.addresses.specs.declared.header.PduType.{PduType}
 use Rattle.addresses.specs.declared.header.PduType.the-variants.{AdvInd, AdvDirectInd, AdvNonconnInd, AdvScanInd, ScanReq, ScanRsp, ConnectReq, Unknown}
 use Rattle.advertising.proofs.Accepting.{is-accepted}
+use Rattle.advertising.proofs.Builders.{writing}
 use Rattle.advertising.proofs.Building.{building}
 use Rattle.advertising.specs.Laws.{ReadsBack}
 use Rattle.advertising.specs.Pdu.{requestOf, hasReceiver, decodeOf, wellFormed}
-use Rattle.advertising.specs.PduBuf.{headerFor, flagsRecord, payloadOf, payloadTo, payloadAfter}
+use Rattle.advertising.specs.PduBuf.{flagsRecord, scanResponsePdu, payloadOf, payloadTo, payloadAfter}
 use Rattle.advertising.specs.declared.pdu.ConnectRequestData.{ConnectRequestData}
 use Rattle.advertising.specs.declared.pdu.Outcome.{Outcome}
 use Rattle.advertising.specs.declared.pdu.Outcome.the-variants as outcome
 use Rattle.advertising.specs.declared.pdu_buf.Built.{Built}
-use Rattle.radio.specs.Calls.{instant, isAdvertising, isConnected, refusal, sent, beginning, discoverable, started, startedAfter, isFor, listens, heard, connectedAt, connectsTo, addressed, hoppedTo, hops, startOf, startAfter, tickOf, tickAfter, packetOf, eventOf, stopOf}
-use Rattle.radio.specs.Demand.{numberIn}
-use Rattle.radio.specs.Laws.{ForBoard, Requests, Words, Modes, Refusing, Transmits, Hearing}
-use Rattle.radio.specs.Trace.{Call, start, tick, packet, event, stop, callOf, isConnectRequest, forBoard, asks, mapIn, hopIn, connects, Strikable}
+use Rattle.advertising.specs.declared.pdu_buf.PduBuf.{PduBuf}
+use Rattle.radio.specs.Calls.{instant, isAdvertising, isConnected, isScanRequest, refusal, sent, beginning, discoverable, started, startedAfter, isFor, listens, responds, repliedIf, heard, connectedAt, connectsTo, addressed, setTo, scanDataOf, hoppedTo, hops, startOf, startAfter, tickOf, tickAfter, packetOf, packetAfter, eventOf, stopOf}
+use Rattle.radio.specs.Demand.{numberIn, replyHeader, replyOctets}
+use Rattle.radio.specs.Laws.{ForBoard, Scans, Requests, Words, Modes, Refusing, Transmits, ReplyOf, Hearing}
+use Rattle.radio.specs.Trace.{Call, start, tick, packet, event, stop, setScanData, callOf, isConnectRequest, forBoard, requested, scans, mapIn, hopIn, connects, replySize, Strikable}
 use Rattle.radio.specs.declared.link.Advertisement.{Advertisement}
 use Rattle.radio.specs.declared.link.Answer.{Answer}
-use Rattle.radio.specs.declared.link.Answer.the-variants.{Refused, Sent, Listen, Respond, FirstEvent, NextEvent, Stopped}
+use Rattle.radio.specs.declared.link.Answer.the-variants.{Refused, Sent, Listen, Respond, FirstEvent, NextEvent, Stopped, ScanDataSet}
 use Rattle.radio.specs.declared.link.Called.{Called}
 use Rattle.radio.specs.declared.link.Device.{Device}
 use Rattle.radio.specs.declared.link.Mode.{Mode}
 use Rattle.radio.specs.declared.link.Mode.the-variants.{Standby, Advertising, Connected}
-use Rattle.radio.proofs.Packets.{Known, known}
-use Rattle.radio.proofs.Steps.{no-zero}
+use Rattle.radio.proofs.Packets.{Known, known, requested-is}
+use Rattle.radio.proofs.Replies.{reply-size}
+use Rattle.radio.proofs.Answers.{no-zero}
 use Rattle.radio.proofs.Demand.{not-ours}
 
 -- the types with a second address, by their codes
@@ -109,29 +110,67 @@ module _ (own : DeviceAddress) (h : Header) (p : List ℕ) where
   type-5 ScanRsp e = absurd (false≢true e)
   type-5 (Unknown n) e = absurd (false≢true e)
 
-  request : (end : Instant) (crcGood : Bool) → connects own (packet end h p crcGood) ≡ true → Requests own h p crcGood
-  unfolding connects asks
-  request end crcGood e =
+  type-3 : (ty : PduType) → isScanRequest ty ≡ true → typeCode ty ≡ 3
+  type-3 ScanReq e = refl
+  type-3 AdvInd e = absurd (false≢true e)
+  type-3 AdvDirectInd e = absurd (false≢true e)
+  type-3 AdvNonconnInd e = absurd (false≢true e)
+  type-3 AdvScanInd e = absurd (false≢true e)
+  type-3 ConnectReq e = absurd (false≢true e)
+  type-3 ScanRsp e = absurd (false≢true e)
+  type-3 (Unknown n) e = absurd (false≢true e)
+
+  -- a request of the type n, both ways
+  record Asked (n : ℕ) (crcGood : Bool) : Type 0 where
+    crc : crcGood ≡ true
+    good : wellFormed h p ≡ true
+    type : bits 0 4 h ≡ n
+    second : addressOf (part 6 p 6) (kindOf (rxAdd h)) ≡ own
+
+  asked : (is : PduType → Bool) (n : ℕ) → ((ty : PduType) → is ty ≡ true → typeCode ty ≡ n) → (crcGood : Bool) → requested is own crcGood h p ≡ true → Asked n crcGood
+  unfolding requested
+  asked is n typed crcGood e =
       let d = decodeOf h p in
-      let asked = both-true _ _ e in
-      let crc = both-true crcGood _ (asked .0) in
+      let crc = both-true crcGood _ e in
       let good = both-true (wellFormed h p) _ (crc .1) in
       let ours = both-true (forBoard own h p) _ (good .1) in
       record {
         crc = crc .0;
         good = good .0;
-        type = sym (codes .back (bits 0 4 h)) ∙ (ap typeCode (sym (known h p .type (good .0))) ∙ type-5 (d .pdu .ty) (ours .1));
+        type = sym (codes .back (bits 0 4 h)) ∙ (ap typeCode (sym (known h p .type (good .0))) ∙ typed (d .pdu .ty) (ours .1));
         second = for-board (ours .0) .second;
-        some = ltb-true 0 (marks (mapIn p)) (asked .1);
       }
 
-  request-if : (end : Instant) (crcGood : Bool) → Requests own h p crcGood → connects own (packet end h p crcGood) ≡ true
-  unfolding connects asks
-  request-if end crcGood r =
-      let ours : forBoard own h p ≡ true = for-board-if (record { good = r .good; type = inr (inr (r .type)); second = r .second }) in
-      let ty : decodeOf h p .pdu .ty ≡ ConnectReq = known h p .type (r .good) ∙ (ap pduType (r .type) ∙ codes .code-5) in
-      let asks-one : isConnectRequest (decodeOf h p .pdu .ty) ≡ true = ap isConnectRequest ty in
-      rw (r .crc, r .good, ours, asks-one, lt-ltb 0 (marks (mapIn p)) (r .some))
+  asked-if : (is : PduType → Bool) (n : ℕ) (ty : PduType) → pduType n ≡ ty → is ty ≡ true → (n ≡ 1) ⊎ ((n ≡ 3) ⊎ (n ≡ 5)) → (crcGood : Bool) → Asked n crcGood
+      → requested is own crcGood h p ≡ true
+  unfolding requested
+  asked-if is n ty code yes-one with-second crcGood r =
+      let ours : forBoard own h p ≡ true = for-board-if (record { good = r .good; type = rw (r .type) with-second; second = r .second }) in
+      let typed : decodeOf h p .pdu .ty ≡ ty = known h p .type (r .good) ∙ (ap pduType (r .type) ∙ code) in
+      let asks-one : is (decodeOf h p .pdu .ty) ≡ true = ap is typed ∙ yes-one in
+      rw (r .crc, r .good, ours, asks-one)
+
+  scan-request : (crcGood : Bool) → scans own crcGood h p ≡ true → Scans own h p crcGood
+  scan-request crcGood e =
+      let r = asked isScanRequest 3 type-3 crcGood e in
+      record { crc = r .crc; good = r .good; type = r .type; second = r .second }
+
+  scan-request-if : (crcGood : Bool) → Scans own h p crcGood → scans own crcGood h p ≡ true
+  scan-request-if crcGood r =
+      asked-if isScanRequest 3 ScanReq (codes .code-3) refl (inr (inl refl)) crcGood (record { crc = r .crc; good = r .good; type = r .type; second = r .second })
+
+  request : (end : Instant) (crcGood : Bool) (tx : List ℕ) → connects own (packet end h p crcGood tx) ≡ true → Requests own h p crcGood
+  unfolding connects
+  request end crcGood tx e =
+      let parts = both-true _ _ e in
+      let r = asked isConnectRequest 5 type-5 crcGood (parts .0) in
+      record { crc = r .crc; good = r .good; type = r .type; second = r .second; some = ltb-true 0 (marks (mapIn p)) (parts .1) }
+
+  request-if : (end : Instant) (crcGood : Bool) (tx : List ℕ) → Requests own h p crcGood → connects own (packet end h p crcGood tx) ≡ true
+  unfolding connects
+  request-if end crcGood tx r =
+      let asks-one = asked-if isConnectRequest 5 ConnectReq (codes .code-5) refl (inr (inr refl)) crcGood (record { crc = r .crc; good = r .good; type = r .type; second = r .second }) in
+      rw (asks-one, lt-ltb 0 (marks (mapIn p)) (r .some))
 
   pub words : Words own h p
   words =
@@ -142,6 +181,8 @@ module _ (own : DeviceAddress) (h : Header) (p : List ℕ) where
         well-formed-if = λ e. rw e;
         for-board = for-board;
         for-board-if = for-board-if;
+        scan-request = scan-request;
+        scan-request-if = scan-request-if;
         request = request;
         request-if = request-if;
         map = refl;
@@ -156,6 +197,7 @@ isRefusal (Respond header channel) = false
 isRefusal (FirstEvent channel at access crc) = false
 isRefusal (NextEvent channel) = false
 isRefusal Stopped = false
+isRefusal ScanDataSet = false
 
 -- no answer that is something else is a refusal
 no-refusal : {A : Type 0} (a : Answer) {e : Error} → isRefusal a ≡ false → a ≡ Refused e → A
@@ -191,24 +233,34 @@ module _ (d : Device) where
   connect-refused end l (hop.To u c) is = no-refusal (connectedAt d end l (hop.To u c) .answer) refl is
   connect-refused end l (hop.Refused x) is = refl
 
-  addressed-refused : (end : Instant) (l : ConnectRequestData) (ty : PduType) {e : Error} → addressed d end l ty .answer ≡ Refused e → addressed d end l ty .device ≡ d
-  unfolding addressed connectsTo
-  addressed-refused end l ConnectReq is = connect-refused end l (hopped (l .chm) 0 (l .hop)) is
-  addressed-refused end l ScanReq is = refl
-  addressed-refused end l AdvDirectInd is = refl
-  addressed-refused end l AdvInd is = refl
-  addressed-refused end l AdvNonconnInd is = refl
-  addressed-refused end l AdvScanInd is = refl
-  addressed-refused end l ScanRsp is = refl
-  addressed-refused end l (Unknown k) is = refl
+  respond-refused : (tx : List ℕ) (fits : Bool) {e : Error} → has (length (payloadOf (d .«scan_response»))) tx 0 ≡ fits → responds d (payloadTo (d .«scan_response») tx) .answer ≡ Refused e
+      → (responds d (payloadTo (d .«scan_response») tx) .device ≡ d) × (payloadAfter (d .«scan_response») tx ≡ tx)
+  respond-refused tx true f is = no-refusal (responds d (payloadTo (d .«scan_response») tx) .answer) (rw f) is
+  respond-refused tx false f is = (rw f, rw f)
 
-  packet-refused : (adv crc ours : Bool) (r : Called) {e : Error} → (r .answer ≡ Refused e → r .device ≡ d)
+  addressed-refused : (end : Instant) (l : ConnectRequestData) (tx : List ℕ) (ty : PduType) {e : Error} → addressed d end l tx ty .answer ≡ Refused e
+      → (addressed d end l tx ty .device ≡ d) × (repliedIf (isScanRequest ty) d tx ≡ tx)
+  unfolding addressed connectsTo
+  addressed-refused end l tx ConnectReq is = (connect-refused end l (hopped (l .chm) 0 (l .hop)) is, refl)
+  addressed-refused end l tx ScanReq is = respond-refused tx (has (length (payloadOf (d .«scan_response»))) tx 0) refl is
+  addressed-refused end l tx AdvDirectInd is = (refl, refl)
+  addressed-refused end l tx AdvInd is = (refl, refl)
+  addressed-refused end l tx AdvNonconnInd is = (refl, refl)
+  addressed-refused end l tx AdvScanInd is = (refl, refl)
+  addressed-refused end l tx ScanRsp is = (refl, refl)
+  addressed-refused end l tx (Unknown k) is = (refl, refl)
+
+  packet-refused : (tx : List ℕ) (adv crc ours scan : Bool) (r : Called) {e : Error} → (r .answer ≡ Refused e → (r .device ≡ d) × (repliedIf scan d tx ≡ tx))
       → cond adv (cond crc (cond ours r (listens d)) (listens d)) (refusal d WrongMode) .answer ≡ Refused e
-      → cond adv (cond crc (cond ours r (listens d)) (listens d)) (refusal d WrongMode) .device ≡ d
-  packet-refused false crc ours r h is = refl
-  packet-refused true false ours r h is = refl
-  packet-refused true true false r h is = refl
-  packet-refused true true true r h is = h is
+      → (cond adv (cond crc (cond ours r (listens d)) (listens d)) (refusal d WrongMode) .device ≡ d) × (repliedIf (adv && (crc && (ours && scan))) d tx ≡ tx)
+  packet-refused tx false crc ours scan r h is = (refl, refl)
+  packet-refused tx true false ours scan r h is = (refl, refl)
+  packet-refused tx true true false scan r h is = (refl, refl)
+  packet-refused tx true true true scan r h is = h is
+
+  set-refused : (b : Built) (o : Outcome) {e : Error} → setTo d (b .pdu) o .answer ≡ Refused e → setTo d (b .pdu) o .device ≡ d
+  set-refused b outcome.Accepted is = no-refusal (setTo d (b .pdu) outcome.Accepted .answer) refl is
+  set-refused b (outcome.Refused x) is = refl
 
   event-refused : (on : Bool) (h : Hop) {e : Error} → cond on (hoppedTo d h) (refusal d WrongMode) .answer ≡ Refused e → cond on (hoppedTo d h) (refusal d WrongMode) .device ≡ d
   event-refused false h is = refl
@@ -216,7 +268,7 @@ module _ (d : Device) where
   event-refused true (hop.To u c) is = no-refusal (hoppedTo d (hop.To u c) .answer) refl is
 
 pub refusing : (d : Device) (c : Call) (e : Error) → Refusing d c e
-unfolding startOf startAfter tickOf tickAfter packetOf eventOf hops
+unfolding startOf startAfter tickOf tickAfter packetOf packetAfter scanDataOf eventOf hops
 refusing d (start time interval records tx) e =
     let b : Built = discoverable d records in
     record {
@@ -228,18 +280,19 @@ refusing d (tick tx) e =
       state = λ is. tick-refused d tx (isAdvertising (d .mode)) is .0;
       buffers = λ is. ap (λ (l : List ℕ). l ∷ []) (tick-refused d tx (isAdvertising (d .mode)) is .1);
     }
-refusing d (packet end h p crcGood) e =
+refusing d (packet end h p crcGood tx) e =
     let pdu = decodeOf h p .pdu in
-    record {
-      state = packet-refused d (isAdvertising (d .mode)) crcGood (isFor (d .«dev_addr») pdu) (addressed d end (pdu .lldata) (pdu .ty)) (addressed-refused d end (pdu .lldata) (pdu .ty));
-      buffers = λ is. refl;
-    }
+    let unchanged = packet-refused d tx (isAdvertising (d .mode)) crcGood (isFor (d .«dev_addr») pdu) (isScanRequest (pdu .ty)) (addressed d end (pdu .lldata) tx (pdu .ty)) (addressed-refused d end (pdu .lldata) tx (pdu .ty)) in
+    record { state = λ is. unchanged is .0; buffers = λ is. ap (λ (l : List ℕ). p ∷ l ∷ []) (unchanged is .1) }
 refusing d event e =
     record {
       state = event-refused d (isConnected (d .mode)) (hopped (d .conn .«channel_map») (d .conn .«unmapped_channel») (d .conn .hop));
       buffers = λ is. refl;
     }
 refusing d stop e = record { state = λ is. no-refusal (stopOf d .answer) refl is; buffers = λ is. refl }
+refusing d (setScanData records) e =
+    let b : Built = scanResponsePdu (d .«dev_addr») records in
+    record { state = set-refused d b (b .outcome); buffers = λ is. refl }
 
 pub modes : (m : Mode) → Modes m
 modes Standby =
@@ -301,68 +354,108 @@ module _ (d : Device) (tx : List ℕ) where
             ap (λ (l : List ℕ). records ∷ l ∷ []) (started-writes six time interval records (readArea records) refl (ltb 28 (length records)) refl is);
       }
 
-module _ (d : Device) (end : Instant) (h : Header) (p : List ℕ) (crcGood : Bool) (on : d .mode ≡ Advertising) where
+module _ (d : Device) (end : Instant) (h : Header) (p : List ℕ) (crcGood : Bool) (tx : List ℕ) where
   abbrev own : DeviceAddress
   own = d .«dev_addr»
 
-  unheard : (crcGood && forBoard own h p) ≡ false → packetOf d end h p crcGood ≡ listens d
-  unfolding packetOf
-  unheard e = go crcGood (forBoard own h p) e
+  -- a packet that is no scan request to this device writes nothing
+  unwritten : (Scans own h p crcGood → ⊥) → packetAfter d h p crcGood tx ≡ tx
+  unfolding packetAfter
+  unwritten no-scan = go (scans own crcGood h p) refl
     where
-      go : (crc ours : Bool) → (crc && ours) ≡ false
-          → cond (isAdvertising (d .mode)) (cond crc (cond ours (addressed d end (decodeOf h p .pdu .lldata) (decodeOf h p .pdu .ty)) (listens d)) (listens d)) (refusal d WrongMode) ≡ listens d
-      go false ours e = ap (λ (m : Mode). cond (isAdvertising m) (listens d) (refusal d WrongMode)) on
-      go true false e = ap (λ (m : Mode). cond (isAdvertising m) (listens d) (refusal d WrongMode)) on
-      go true true e = absurd (false≢true (sym e))
+      go : (b : Bool) → scans own crcGood h p ≡ b
+          → repliedIf (isAdvertising (d .mode) && (crcGood && (isFor own (decodeOf h p .pdu) && isScanRequest (decodeOf h p .pdu .ty)))) d tx ≡ tx
+      go true e = absurd (no-scan (scan-request own h p crcGood e))
+      go false e = rw (← requested-is own h p isScanRequest crcGood, e) (simp and-false)
 
-  bad : Strikable own (packet end h p crcGood) → packetOf d end h p crcGood ≡ listens d
-  bad s = unheard (not-ours s)
+  module _ (on : d .mode ≡ Advertising) where
+    unheard : (crcGood && forBoard own h p) ≡ false → packetOf d end h p crcGood tx ≡ listens d
+    unfolding packetOf
+    unheard e = go crcGood (forBoard own h p) e
+      where
+        go : (crc ours : Bool) → (crc && ours) ≡ false
+            → cond (isAdvertising (d .mode)) (cond crc (cond ours (addressed d end (decodeOf h p .pdu .lldata) tx (decodeOf h p .pdu .ty)) (listens d)) (listens d)) (refusal d WrongMode) ≡ listens d
+        go false ours e = ap (λ (m : Mode). cond (isAdvertising m) (listens d) (refusal d WrongMode)) on
+        go true false e = ap (λ (m : Mode). cond (isAdvertising m) (listens d) (refusal d WrongMode)) on
+        go true true e = absurd (false≢true (sym e))
 
-  -- a good packet for this board, by its type
-  taken : crcGood ≡ true → ForBoard own h p → (ty : PduType) → decodeOf h p .pdu .ty ≡ ty
-      → packetOf d end h p crcGood ≡ addressed d end (decodeOf h p .pdu .lldata) ty
-  unfolding packetOf
-  taken crc ours ty is =
-      ap (λ (m : Mode). cond (isAdvertising m) (cond crcGood (heard d end (decodeOf h p .pdu)) (listens d)) (refusal d WrongMode)) on
-      ∙ (ap (λ (b : Bool). cond b (heard d end (decodeOf h p .pdu)) (listens d)) crc
-      ∙ (ap (λ (b : Bool). cond b (addressed d end (decodeOf h p .pdu .lldata) (decodeOf h p .pdu .ty)) (listens d)) (for-board-if own h p ours)
-      ∙ ap (addressed d end (decodeOf h p .pdu .lldata)) is))
+    bad : Strikable own (packet end h p crcGood tx) → packetOf d end h p crcGood tx ≡ listens d
+    bad s = unheard (not-ours s)
 
-  typed : ForBoard own h p → (ty : PduType) → pduType (bits 0 4 h) ≡ ty → decodeOf h p .pdu .ty ≡ ty
-  typed ours ty is = known h p .type (ours .good) ∙ is
+    -- a good packet for this board, by its type
+    taken : crcGood ≡ true → ForBoard own h p → (ty : PduType) → decodeOf h p .pdu .ty ≡ ty
+        → packetOf d end h p crcGood tx ≡ addressed d end (decodeOf h p .pdu .lldata) tx ty
+    unfolding packetOf
+    taken crc ours ty is =
+        ap (λ (m : Mode). cond (isAdvertising m) (cond crcGood (heard d end (decodeOf h p .pdu) tx) (listens d)) (refusal d WrongMode)) on
+        ∙ (ap (λ (b : Bool). cond b (heard d end (decodeOf h p .pdu) tx) (listens d)) crc
+        ∙ (ap (λ (b : Bool). cond b (addressed d end (decodeOf h p .pdu .lldata) tx (decodeOf h p .pdu .ty)) (listens d)) (for-board-if own h p ours)
+        ∙ ap (addressed d end (decodeOf h p .pdu .lldata) tx) is))
 
-  response : (k : AddressKind) → headerFor ScanRsp (isRandom k) false 6 ≡ headerOf (0x0604 + 64 * kindNumber k)
-  response Public = refl
-  response Random = refl
+    typed : ForBoard own h p → (ty : PduType) → pduType (bits 0 4 h) ≡ ty → decodeOf h p .pdu .ty ≡ ty
+    typed ours ty is = known h p .type (ours .good) ∙ is
 
-  five-bits : hopIn p % 32 ≡ hopIn p
-  five-bits = omega arith
+    -- a scan request to this device, whose reply has the scan data s
+    module _ (s : List ℕ) (six : length (own .bytes) ≡ 6) (reply : ReplyOf own s (d .«scan_response»)) (r : Scans own h p crcGood) where
+      abbrev response : PduBuf
+      response = d .«scan_response»
 
-  -- the first hop of a request is event 0
-  first-hop : 1 ≤ marks (mapIn p) → hopped (fromRaw (mapIn p)) 0 (hopIn p) ≡ hop.To (unmapped (hopIn p) 1) (record { index = eventChannel (mapIn p) (hopIn p) 0 })
-  unfolding unmappedBefore
-  first-hop some = run (mapIn p) (hopIn p) 0 some ∙ ap (λ (x : ℕ). hop.To (unmapped x 1) (record { index = eventChannel (mapIn p) x 0 })) five-bits
+      size : length (payloadOf response) ≡ replySize s
+      size = reply-size own s six reply
 
-  requested : Requests own h p crcGood
-      → packetOf d end h p crcGood .answer
-      ≡ FirstEvent (record { index = eventChannel (part 5 p 28) (le (part 1 p 33) % 32) 0 })
-      (instant (later (end .0) (le (part 2 p 20) * 1250 + le (part 1 p 19) * 1250 + 1750))) (le (part 4 p 12)) (le (part 3 p 16))
-  unfolding addressed connectsTo requestOf
-  requested r =
-      let ours : ForBoard own h p = record { good = r .good; type = inr (inr (r .type)); second = r .second } in
-      let is : decodeOf h p .pdu .ty ≡ ConnectReq = typed ours ConnectReq (ap pduType (r .type) ∙ codes .code-5) in
-      ap (λ (x : Called). x .answer) (taken (r .crc) ours ConnectReq is)
-      ∙ (ap (λ (l : ConnectRequestData). connectsTo d end l .answer) (known h p .request (ap isConnectRequest is))
-      ∙ ap (λ (x : Hop). connectedAt d end (requestOf p) x .answer) (first-hop (r .some)))
+      responded : packetOf d end h p crcGood tx ≡ responds d (payloadTo response tx)
+      unfolding addressed
+      responded =
+          let ours : ForBoard own h p = record { good = r .good; type = inr (inl (r .type)); second = r .second } in
+          taken (r .crc) ours ScanReq (typed ours ScanReq (ap pduType (r .type) ∙ codes .code-3))
 
-pub hearing : (d : Device) (end : Instant) (h : Header) (p : List ℕ) (crcGood : Bool) → Hearing d end h p crcGood
-unfolding addressed
-hearing d end h p crcGood =
-    record {
-      bad = bad d end h p crcGood;
-      other = λ on crc ours is. taken d end h p crcGood on crc ours AdvDirectInd (typed d end h p crcGood on ours AdvDirectInd (ap pduType is ∙ codes .code-1));
-      scan = λ on crc ours is.
-          taken d end h p crcGood on crc ours ScanReq (typed d end h p crcGood on ours ScanReq (ap pduType is ∙ codes .code-3))
-          ∙ ap (λ (x : Header). record { answer = Respond x (d .adv .channel); device = d }) (response d end h p crcGood on (d .«dev_addr» .kind));
-      request = requested d end h p crcGood;
-    }
+      written-reply : packetAfter d h p crcGood tx ≡ payloadAfter response tx
+      unfolding packetAfter
+      written-reply =
+          let asked-one : (crcGood && (isFor own (decodeOf h p .pdu) && isScanRequest (decodeOf h p .pdu .ty))) ≡ true =
+          sym (requested-is own h p isScanRequest crcGood) ∙ scan-request-if own h p crcGood r in
+          rw (on, asked-one)
+
+      scanned : replySize s ≤ length tx
+          → (packetOf d end h p crcGood tx ≡ record { answer = Respond (replyHeader own s) (d .adv .channel); device = d })
+          × (packetAfter d h p crcGood tx ≡ replyOctets own s ++ drop (replySize s) tx)
+      scanned room =
+          let fits : length (payloadOf response) ≤ length tx = omega (arith, size) in (
+            responded ∙ (ap (responds d) (writing response tx .fits fits) ∙ ap (λ (x : Header). record { answer = Respond x (d .adv .channel); device = d }) (reply .header)),
+            written-reply ∙ (writing response tx .octets fits ∙ (λ i. reply .payload i ++ drop (size i) tx)),
+          )
+
+      no-room : length tx < replySize s → packetOf d end h p crcGood tx ≡ refusal d Eof
+      no-room few = responded ∙ ap (responds d) (writing response tx .short (omega (arith, size)))
+
+    five-bits : hopIn p % 32 ≡ hopIn p
+    five-bits = omega arith
+
+    -- the first hop of a request is event 0
+    first-hop : 1 ≤ marks (mapIn p) → hopped (fromRaw (mapIn p)) 0 (hopIn p) ≡ hop.To (unmapped (hopIn p) 1) (record { index = eventChannel (mapIn p) (hopIn p) 0 })
+    unfolding unmappedBefore
+    first-hop some = run (mapIn p) (hopIn p) 0 some ∙ ap (λ (x : ℕ). hop.To (unmapped x 1) (record { index = eventChannel (mapIn p) x 0 })) five-bits
+
+    requested-first : Requests own h p crcGood
+        → packetOf d end h p crcGood tx .answer
+        ≡ FirstEvent (record { index = eventChannel (part 5 p 28) (le (part 1 p 33) % 32) 0 })
+        (instant (later (end .0) (le (part 2 p 20) * 1250 + le (part 1 p 19) * 1250 + 1750))) (le (part 4 p 12)) (le (part 3 p 16))
+    unfolding addressed connectsTo requestOf
+    requested-first r =
+        let ours : ForBoard own h p = record { good = r .good; type = inr (inr (r .type)); second = r .second } in
+        let is : decodeOf h p .pdu .ty ≡ ConnectReq = typed ours ConnectReq (ap pduType (r .type) ∙ codes .code-5) in
+        ap (λ (x : Called). x .answer) (taken (r .crc) ours ConnectReq is)
+        ∙ (ap (λ (l : ConnectRequestData). connectsTo d end l .answer) (known h p .request (ap isConnectRequest is))
+        ∙ ap (λ (x : Hop). connectedAt d end (requestOf p) x .answer) (first-hop (r .some)))
+
+  pub hearing : Hearing d end h p crcGood tx
+  unfolding addressed
+  hearing =
+      record {
+        bad = bad;
+        other = λ on crc ours is. taken on crc ours AdvDirectInd (typed on ours AdvDirectInd (ap pduType is ∙ codes .code-1));
+        scan = λ s six reply on r. scanned on s six reply r;
+        no-room = λ s six reply on r. no-room on s six reply r;
+        request = requested-first;
+        unwritten = unwritten;
+      }

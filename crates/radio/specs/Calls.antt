@@ -8,13 +8,17 @@
 --   sent d a w                == a tick of a whose payload was written to the transmit buffer, or not
 --   beginning t i pdu         == the advertisement that a start sets up
 --   isFor own pdu             == the PDU has a second address, and that is `own`, kind included
---   listens d, responds d     == the device keeps listening, or answers a scan request and keeps listening
+--   isScanRequest ty
+--   listens d                 == the device keeps listening
+--   responds d w              == a scan request whose reply was written to the transmit buffer, or not
+--   repliedIf asked d tx      == the transmit buffer with the reply's payload at its front, where that was asked for
 --   connectsTo d end l        == the connection that a request asks for, at its first event
---   addressed d end l ty      == a packet of type ty that is for this device
---   heard d end pdu           == a CRC-good packet
+--   addressed d end l tx ty   == a packet of type ty that is for this device
+--   heard d end pdu tx        == a CRC-good packet
+--   repliesWith d pdu         == the device with another reply
 --   hops d                    == the next event of the connection
---   startOf, tickOf, packetOf, eventOf, stopOf == what the five calls answer
---   startAfter, tickAfter     == the transmit buffer after them
+--   startOf, tickOf, packetOf, scanDataOf, eventOf, stopOf == what the six calls answer
+--   startAfter, tickAfter, packetAfter == the transmit buffer after them
 use mathlib.Core.Bool.{Bool, true, false, cond, _&&_}
 use mathlib.Core.List.{List, [], _∷_}
 use Prim.Native.Nat.{ℕ, _+_}
@@ -29,13 +33,13 @@ use Rattle.channels.specs.Map.{fromRaw}
 use Rattle.channels.specs.Phy.{firstChannel, cycled}
 use Rattle.channels.specs.declared.connection.Hop.{Hop}
 use Rattle.channels.specs.declared.connection.Hop.the-variants as hop
-use Rattle.addresses.specs.Address.{isRandom, sameAddress}
+use Rattle.addresses.specs.Address.{sameAddress}
 use Rattle.addresses.specs.declared.device_address.DeviceAddress.{DeviceAddress}
 use Rattle.addresses.specs.declared.header.Header.{Header}
 use Rattle.addresses.specs.declared.header.PduType.{PduType}
 use Rattle.addresses.specs.declared.header.PduType.the-variants.{AdvInd, AdvDirectInd, AdvNonconnInd, AdvScanInd, ScanReq, ScanRsp, ConnectReq, Unknown}
 use Rattle.advertising.specs.Pdu.{hasReceiver, decodeOf}
-use Rattle.advertising.specs.PduBuf.{headerFor, emptyBuf, builtOf, flagsRecord, payloadTo, payloadAfter}
+use Rattle.advertising.specs.PduBuf.{emptyBuf, builtOf, flagsRecord, scanResponsePdu, payloadTo, payloadAfter}
 use Rattle.advertising.specs.declared.pdu.ConnectRequestData.{ConnectRequestData}
 use Rattle.advertising.specs.declared.pdu.Outcome.{Outcome}
 use Rattle.advertising.specs.declared.pdu.Outcome.the-variants as outcome
@@ -43,7 +47,7 @@ use Rattle.advertising.specs.declared.pdu.Pdu.{Pdu}
 use Rattle.advertising.specs.declared.pdu_buf.Built.{Built}
 use Rattle.advertising.specs.declared.pdu_buf.PduBuf.{PduBuf}
 use Rattle.radio.specs.declared.link.Advertisement.{Advertisement}
-use Rattle.radio.specs.declared.link.Answer.the-variants.{Refused, Sent, Listen, Respond, FirstEvent, NextEvent, Stopped}
+use Rattle.radio.specs.declared.link.Answer.the-variants.{Refused, Sent, Listen, Respond, FirstEvent, NextEvent, Stopped, ScanDataSet}
 use Rattle.radio.specs.declared.link.Called.{Called}
 use Rattle.radio.specs.declared.link.Device.{Device}
 use Rattle.radio.specs.declared.link.Mode.{Mode}
@@ -63,12 +67,13 @@ isConnected Connected = true
 abbrev pub instant : ℕ → Instant
 instant t = record { 0 = t }
 
--- "A fresh device is in standby, made with its own address"
+-- "A fresh device is in standby, made with its own address"; its reply to a scan request has no scan data
 abbrev pub fresh : DeviceAddress → Device
 fresh own =
     record {
       mode = Standby;
       «dev_addr» = own;
+      «scan_response» = scanResponsePdu own [] .pdu;
       adv = record { «next_adv» = instant 0; interval = 0; pdu = emptyBuf; channel = firstChannel };
       conn = record { «channel_map» = fromRaw (0 ∷ 0 ∷ 0 ∷ 0 ∷ 0 ∷ []); hop = 0; «unmapped_channel» = 0 };
     }
@@ -86,7 +91,7 @@ abbrev pub advertised : Device → Advertisement → Called
 advertised d a =
     record {
       answer = Sent (a .pdu .header) (advanced a .channel) (advanced a .«next_adv»);
-      device = record { mode = Advertising; «dev_addr» = d .«dev_addr»; adv = advanced a; conn = d .conn };
+      device = record { mode = Advertising; «dev_addr» = d .«dev_addr»; «scan_response» = d .«scan_response»; adv = advanced a; conn = d .conn };
     }
 
 abbrev pub sent : Device → Advertisement → Written → Called
@@ -129,9 +134,13 @@ isFor own pdu = hasReceiver (pdu .ty) && sameAddress (pdu .receiver) own
 abbrev pub listens : Device → Called
 listens d = record { answer = Listen (d .adv .channel); device = d }
 
--- "A scan request gets a header of length 6 and writes nothing"
-abbrev pub responds : Device → Called
-responds d = record { answer = Respond (headerFor ScanRsp (isRandom (d .«dev_addr» .kind)) false 6) (d .adv .channel); device = d }
+-- document 02, Note 1: "On a good scan request to us the reply payload is now written to a lent transmit buffer; one too short returns 1."
+abbrev pub responds : Device → Written → Called
+responds d (written.To next) = record { answer = Respond (d .«scan_response» .header) (d .adv .channel); device = d }
+responds d (written.Refused e) = refusal d e
+
+abbrev pub repliedIf : Bool → Device → List ℕ → List ℕ
+repliedIf asked d tx = cond asked (payloadAfter (d .«scan_response») tx) tx
 
 -- "the first event at packet end + window offset + window size + 1,750 µs"
 abbrev pub firstEventAt : Instant → ConnectRequestData → Instant
@@ -141,7 +150,7 @@ abbrev pub connectedAt : Device → Instant → ConnectRequestData → Hop → C
 connectedAt d end l (hop.To unmapped channel) =
     record {
       answer = FirstEvent channel (firstEventAt end l) (l .«access_address») (l .«crc_init»);
-      device = record { mode = Connected; «dev_addr» = d .«dev_addr»; adv = d .adv; conn = record { «channel_map» = l .chm; hop = l .hop; «unmapped_channel» = unmapped } };
+      device = record { mode = Connected; «dev_addr» = d .«dev_addr»; «scan_response» = d .«scan_response»; adv = d .adv; conn = record { «channel_map» = l .chm; hop = l .hop; «unmapped_channel» = unmapped } };
     }
 connectedAt d end l (hop.Refused e) = refusal d e
 
@@ -149,24 +158,57 @@ connectedAt d end l (hop.Refused e) = refusal d e
 unfoldable pub connectsTo : Device → Instant → ConnectRequestData → Called
 connectsTo d end l = connectedAt d end l (hopped (l .chm) 0 (l .hop))
 
+abbrev pub isScanRequest : PduType → Bool
+isScanRequest ScanReq = true
+isScanRequest AdvInd = false
+isScanRequest AdvDirectInd = false
+isScanRequest AdvNonconnInd = false
+isScanRequest AdvScanInd = false
+isScanRequest ScanRsp = false
+isScanRequest ConnectReq = false
+isScanRequest (Unknown n) = false
+
 -- "other types sent to us, keep listening"
-unfoldable pub addressed : Device → Instant → ConnectRequestData → PduType → Called
-addressed d end l ScanReq = responds d
-addressed d end l ConnectReq = connectsTo d end l
-addressed d end l AdvDirectInd = listens d
-addressed d end l AdvInd = listens d
-addressed d end l AdvNonconnInd = listens d
-addressed d end l AdvScanInd = listens d
-addressed d end l ScanRsp = listens d
-addressed d end l (Unknown n) = listens d
+unfoldable pub addressed : Device → Instant → ConnectRequestData → List ℕ → PduType → Called
+addressed d end l tx ScanReq = responds d (payloadTo (d .«scan_response») tx)
+addressed d end l tx ConnectReq = connectsTo d end l
+addressed d end l tx AdvDirectInd = listens d
+addressed d end l tx AdvInd = listens d
+addressed d end l tx AdvNonconnInd = listens d
+addressed d end l tx AdvScanInd = listens d
+addressed d end l tx ScanRsp = listens d
+addressed d end l tx (Unknown n) = listens d
 
 -- "bad, malformed or foreign packets .. keep listening": a malformed one has no second address
-abbrev pub heard : Device → Instant → Pdu → Called
-heard d end pdu = cond (isFor (d .«dev_addr») pdu) (addressed d end (pdu .lldata) (pdu .ty)) (listens d)
+abbrev pub heard : Device → Instant → Pdu → List ℕ → Called
+heard d end pdu tx = cond (isFor (d .«dev_addr») pdu) (addressed d end (pdu .lldata) tx (pdu .ty)) (listens d)
 
-unfoldable pub packetOf : Device → Instant → Header → List ℕ → Bool → Called
-packetOf d end header payload crcGood =
-    cond (isAdvertising (d .mode)) (cond crcGood (heard d end (decodeOf header payload .pdu)) (listens d)) (refusal d WrongMode)
+unfoldable pub packetOf : Device → Instant → Header → List ℕ → Bool → List ℕ → Called
+packetOf d end header payload crcGood tx =
+    cond (isAdvertising (d .mode)) (cond crcGood (heard d end (decodeOf header payload .pdu) tx) (listens d)) (refusal d WrongMode)
+
+-- only a good scan request to an advertising device writes
+unfoldable pub packetAfter : Device → Header → List ℕ → Bool → List ℕ → List ℕ
+packetAfter d header payload crcGood tx =
+    let pdu : Pdu = decodeOf header payload .pdu in
+    repliedIf (isAdvertising (d .mode) && (crcGood && (isFor (d .«dev_addr») pdu && isScanRequest (pdu .ty)))) d tx
+
+-- Scan data
+
+-- Note 1: "A new call sets record octets for the reply, in any mode"
+abbrev pub repliesWith : Device → PduBuf → Called
+repliesWith d pdu =
+    record {
+      answer = ScanDataSet;
+      device = record { mode = d .mode; «dev_addr» = d .«dev_addr»; «scan_response» = pdu; adv = d .adv; conn = d .conn };
+    }
+
+abbrev pub setTo : Device → PduBuf → Outcome → Called
+setTo d pdu outcome.Accepted = repliesWith d pdu
+setTo d pdu (outcome.Refused e) = refusal d e
+
+unfoldable pub scanDataOf : Device → List ℕ → Called
+scanDataOf d records = setTo d (scanResponsePdu (d .«dev_addr») records .pdu) (scanResponsePdu (d .«dev_addr») records .outcome)
 
 -- Events, and the stop
 
@@ -174,7 +216,7 @@ abbrev pub hoppedTo : Device → Hop → Called
 hoppedTo d (hop.To unmapped channel) =
     record {
       answer = NextEvent channel;
-      device = record { mode = d .mode; «dev_addr» = d .«dev_addr»; adv = d .adv; conn = record { «channel_map» = d .conn .«channel_map»; hop = d .conn .hop; «unmapped_channel» = unmapped } };
+      device = record { mode = d .mode; «dev_addr» = d .«dev_addr»; «scan_response» = d .«scan_response»; adv = d .adv; conn = record { «channel_map» = d .conn .«channel_map»; hop = d .conn .hop; «unmapped_channel» = unmapped } };
     }
 hoppedTo d (hop.Refused e) = refusal d e
 
@@ -186,4 +228,4 @@ eventOf d = cond (isConnected (d .mode)) (hops d) (refusal d WrongMode)
 
 -- "Stop is accepted in every mode and leads to standby"
 abbrev pub stopOf : Device → Called
-stopOf d = record { answer = Stopped; device = record { mode = Standby; «dev_addr» = d .«dev_addr»; adv = d .adv; conn = d .conn } }
+stopOf d = record { answer = Stopped; device = record { mode = Standby; «dev_addr» = d .«dev_addr»; «scan_response» = d .«scan_response»; adv = d .adv; conn = d .conn } }

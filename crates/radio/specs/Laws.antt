@@ -4,35 +4,40 @@
 --   Modes         Words.modes              which mode advertises, and which is connected
 --   Refusing      Words.refusing           a refused call changes nothing
 --   Transmits     Words.transmits          what an accepted start and tick write
+--   Bare          Replies.bare             a fresh device's reply has no scan data
+--   Setting       Replies.setting          what setting scan data changes, and what nothing else does
 --   Hearing       Words.hearing            what a packet to an advertising device comes to
 --   Example       Example.example          a list of calls with document 01's row of the hop
+--   Titled        Example.titled           a list of calls with scan data, and the octets of a reply
 use mathlib.Core.Bool.{Bool, true}
 use mathlib.Core.List.{List, [], _∷_, _++_, map}
 use mathlib.Core.Logic.{_⊎_}
 use mathlib.Core.Path.{_≡_}
-use Prim.Native.Nat.{ℕ, _+_, _*_, _%_, _≤_}
+use Prim.Native.Nat.{ℕ, _+_, _*_, _%_, _≤_, _<_}
 use lib.ListN.{length, take, drop, replicate}
 use Rattle.octets.specs.Bytes.{part, le}
 use Rattle.octets.specs.Time.{later}
 use Rattle.octets.specs.declared.error.Error.{Error}
+use Rattle.octets.specs.declared.error.Error.the-variants.{Eof}
 use Rattle.octets.specs.declared.time.Instant.{Instant}
 use Rattle.channels.specs.Hop.{eventChannel}
 use Rattle.channels.specs.Map.{marks}
-use Rattle.channels.specs.declared.phy.AdvertisingChannel.the-variants.{Channel38, Channel39}
+use Rattle.channels.specs.declared.phy.AdvertisingChannel.the-variants.{Channel37, Channel38, Channel39}
 use Rattle.records.specs.Area.{rewritten}
-use Rattle.addresses.specs.Address.{kindNumber, kindOf, addressOf}
+use Rattle.addresses.specs.Address.{kindOf, addressOf}
 use Rattle.addresses.specs.Header.{headerOf, bits, rxAdd}
-use Rattle.addresses.specs.declared.device_address.AddressKind.the-variants.{Public}
+use Rattle.addresses.specs.declared.device_address.AddressKind.the-variants.{Public, Random}
 use Rattle.addresses.specs.declared.device_address.DeviceAddress.{DeviceAddress}
 use Rattle.addresses.specs.declared.header.Header.{Header}
 use Rattle.advertising.specs.Pdu.{decodeOf, wellFormed}
 use Rattle.advertising.specs.PduBuf.{flagsRecord, payloadOf}
 use Rattle.advertising.specs.declared.pdu.Outcome.the-variants as outcome
-use Rattle.radio.specs.Calls.{isAdvertising, isConnected, instant, fresh, packetOf}
-use Rattle.radio.specs.Demand.{numberIn}
-use Rattle.radio.specs.Trace.{Call, start, tick, packet, event, stop, callOf, octetsOf, forBoard, mapIn, hopIn, connects, Entry, trace, eventOn, channelsBy, times, Strikable}
+use Rattle.advertising.specs.declared.pdu_buf.PduBuf.{PduBuf}
+use Rattle.radio.specs.Calls.{isAdvertising, isConnected, instant, fresh, packetOf, packetAfter}
+use Rattle.radio.specs.Demand.{numberIn, replyHeader, replyOctets}
+use Rattle.radio.specs.Trace.{Call, start, tick, packet, event, stop, setScanData, callOf, octetsOf, forBoard, scans, mapIn, hopIn, connects, replySize, Entry, trace, eventOn, channelsBy, times, Strikable}
 use Rattle.radio.specs.declared.link.Answer.{Answer}
-use Rattle.radio.specs.declared.link.Answer.the-variants.{Refused, Sent, Listen, Respond, FirstEvent, NextEvent}
+use Rattle.radio.specs.declared.link.Answer.the-variants.{Refused, Sent, Listen, Respond, FirstEvent, NextEvent, Stopped, ScanDataSet}
 use Rattle.radio.specs.declared.link.Device.{Device}
 use Rattle.radio.specs.declared.link.Mode.{Mode}
 use Rattle.radio.specs.declared.link.Mode.the-variants.{Standby, Advertising, Connected}
@@ -51,8 +56,16 @@ pub record Requests (own : DeviceAddress) (h : Header) (p : List ℕ) (crcGood :
   pub second : addressOf (part 6 p 6) (kindOf (rxAdd h)) ≡ own
   pub some : 1 ≤ marks (part 5 p 28)
 
+-- a CRC-good, well-formed packet of type 3 whose second address is `own`
+pub record Scans (own : DeviceAddress) (h : Header) (p : List ℕ) (crcGood : Bool) : Type 0 where
+  pub crc : crcGood ≡ true
+  pub good : wellFormed h p ≡ true
+  pub type : bits 0 4 h ≡ 3
+  pub second : addressOf (part 6 p 6) (kindOf (rxAdd h)) ≡ own
+
 -- What the words of demand 3 mean: a fresh device is in standby, made with its own address; a packet is well-formed exactly if its header and payload
--- decode without refusal, and for this board, or a request that begins a connection, exactly if it is as above; its map and its hop are these octets.
+-- decode without refusal, and for this board, a scan request to it, or a request that begins a connection, exactly if it is as above; its map and its hop
+-- are these octets.
 pub record Words (own : DeviceAddress) (h : Header) (p : List ℕ) : Type 0 where
   pub standby : fresh own .mode ≡ Standby
   pub address : fresh own .«dev_addr» ≡ own
@@ -60,8 +73,10 @@ pub record Words (own : DeviceAddress) (h : Header) (p : List ℕ) : Type 0 wher
   pub well-formed-if : decodeOf h p .outcome ≡ outcome.Accepted → wellFormed h p ≡ true
   pub for-board : forBoard own h p ≡ true → ForBoard own h p
   pub for-board-if : ForBoard own h p → forBoard own h p ≡ true
-  pub request : (end : Instant) (crcGood : Bool) → connects own (packet end h p crcGood) ≡ true → Requests own h p crcGood
-  pub request-if : (end : Instant) (crcGood : Bool) → Requests own h p crcGood → connects own (packet end h p crcGood) ≡ true
+  pub scan-request : (crcGood : Bool) → scans own crcGood h p ≡ true → Scans own h p crcGood
+  pub scan-request-if : (crcGood : Bool) → Scans own h p crcGood → scans own crcGood h p ≡ true
+  pub request : (end : Instant) (crcGood : Bool) (tx : List ℕ) → connects own (packet end h p crcGood tx) ≡ true → Requests own h p crcGood
+  pub request-if : (end : Instant) (crcGood : Bool) (tx : List ℕ) → Requests own h p crcGood → connects own (packet end h p crcGood tx) ≡ true
   pub map : mapIn p ≡ part 5 p 28
   pub hop : hopIn p ≡ le (part 1 p 33) % 32
 
@@ -76,9 +91,10 @@ pub record Modes (m : Mode) : Type 0 where
 abbrev pub lentBy : Call → List (List ℕ)
 lentBy (start time interval records tx) = records ∷ tx ∷ []
 lentBy (tick tx) = tx ∷ []
-lentBy (packet end header payload crcGood) = payload ∷ []
+lentBy (packet end header payload crcGood tx) = payload ∷ tx ∷ []
 lentBy event = []
 lentBy stop = []
+lentBy (setScanData records) = records ∷ []
 
 -- A refused call, of any device, leaves the device and every buffer as they were.
 pub record Refusing (d : Device) (c : Call) (e : Error) : Type 0 where
@@ -94,20 +110,47 @@ pub record Transmits (d : Device) (tx : List ℕ) : Type 0 where
       → let payload : List ℕ = (d .«dev_addr» .bytes ++ flagsRecord) ++ rewritten records in
       octetsOf d (start time interval records tx) ≡ records ∷ (payload ++ drop (length payload) tx) ∷ []
 
--- What a packet to an advertising device comes to. Bad, malformed or foreign ones, and type 1 sent to us, keep listening; a scan request to us gets a header
--- of type 4, own kind and length 6; a connect request to us gives event 0, at packet end + window offset + window size + 1,750 µs, with access address and
--- CRC start, by the request's own octets.
-pub record Hearing (d : Device) (end : Instant) (h : Header) (p : List ℕ) (crcGood : Bool) : Type 0 where
-  pub bad : d .mode ≡ Advertising → Strikable (d .«dev_addr») (packet end h p crcGood)
-      → packetOf d end h p crcGood ≡ record { answer = Listen (d .adv .channel); device = d }
+-- the PDU is the reply of the address `own` with the scan data s
+pub record ReplyOf (own : DeviceAddress) (s : List ℕ) (b : PduBuf) : Type 0 where
+  pub header : b .header ≡ replyHeader own s
+  pub payload : payloadOf b ≡ replyOctets own s
+
+-- "A fresh device", of an address of six octets, has the reply without scan data.
+abbrev pub Bare : DeviceAddress → Type 0
+Bare own = ReplyOf own [] (fresh own .«scan_response»)
+
+-- Setting scan data, where it is not refused, makes the reply of them and changes nothing else; no other call changes the reply.
+pub record Setting (d : Device) : Type 0 where
+  pub reply : length (d .«dev_addr» .bytes) ≡ 6 → (s : List ℕ) → numberIn (callOf d (setScanData s) .answer) ≡ 0
+      → ReplyOf (d .«dev_addr») s (callOf d (setScanData s) .device .«scan_response»)
+  pub alone : (s : List ℕ)
+      → callOf d (setScanData s) .device
+      ≡ record { mode = d .mode; «dev_addr» = d .«dev_addr»; «scan_response» = callOf d (setScanData s) .device .«scan_response»; adv = d .adv; conn = d .conn }
+  pub starting : (time : Instant) (interval : ℕ) (records tx : List ℕ) → callOf d (start time interval records tx) .device .«scan_response» ≡ d .«scan_response»
+  pub ticking : (tx : List ℕ) → callOf d (tick tx) .device .«scan_response» ≡ d .«scan_response»
+  pub hearing : (end : Instant) (h : Header) (p : List ℕ) (crcGood : Bool) (tx : List ℕ) → callOf d (packet end h p crcGood tx) .device .«scan_response» ≡ d .«scan_response»
+  pub hopping : callOf d event .device .«scan_response» ≡ d .«scan_response»
+  pub stopping : callOf d stop .device .«scan_response» ≡ d .«scan_response»
+
+-- What a packet to an advertising device comes to. Bad, malformed or foreign ones, and type 1 sent to us, keep listening; a scan request to us gets the reply
+-- with the scan data s, where the transmit buffer has room; a connect request to us gives event 0, at packet end + window offset + window size + 1,750 µs,
+-- with access address and CRC start, by the request's own octets. Only the reply is written.
+pub record Hearing (d : Device) (end : Instant) (h : Header) (p : List ℕ) (crcGood : Bool) (tx : List ℕ) : Type 0 where
+  pub bad : d .mode ≡ Advertising → Strikable (d .«dev_addr») (packet end h p crcGood tx)
+      → packetOf d end h p crcGood tx ≡ record { answer = Listen (d .adv .channel); device = d }
   pub other : d .mode ≡ Advertising → crcGood ≡ true → ForBoard (d .«dev_addr») h p → bits 0 4 h ≡ 1
-      → packetOf d end h p crcGood ≡ record { answer = Listen (d .adv .channel); device = d }
-  pub scan : d .mode ≡ Advertising → crcGood ≡ true → ForBoard (d .«dev_addr») h p → bits 0 4 h ≡ 3
-      → packetOf d end h p crcGood ≡ record { answer = Respond (headerOf (0x0604 + 64 * kindNumber (d .«dev_addr» .kind))) (d .adv .channel); device = d }
+      → packetOf d end h p crcGood tx ≡ record { answer = Listen (d .adv .channel); device = d }
+  pub scan : (s : List ℕ) → length (d .«dev_addr» .bytes) ≡ 6 → ReplyOf (d .«dev_addr») s (d .«scan_response») → d .mode ≡ Advertising → Scans (d .«dev_addr») h p crcGood
+      → replySize s ≤ length tx
+      → (packetOf d end h p crcGood tx ≡ record { answer = Respond (replyHeader (d .«dev_addr») s) (d .adv .channel); device = d })
+      × (packetAfter d h p crcGood tx ≡ replyOctets (d .«dev_addr») s ++ drop (replySize s) tx)
+  pub no-room : (s : List ℕ) → length (d .«dev_addr» .bytes) ≡ 6 → ReplyOf (d .«dev_addr») s (d .«scan_response») → d .mode ≡ Advertising → Scans (d .«dev_addr») h p crcGood
+      → length tx < replySize s → packetOf d end h p crcGood tx ≡ record { answer = Refused Eof; device = d }
   pub request : d .mode ≡ Advertising → Requests (d .«dev_addr») h p crcGood
-      → packetOf d end h p crcGood .answer
+      → packetOf d end h p crcGood tx .answer
       ≡ FirstEvent (record { index = eventChannel (part 5 p 28) (le (part 1 p 33) % 32) 0 })
       (instant (later (end .0) (le (part 2 p 20) * 1250 + le (part 1 p 19) * 1250 + 1750))) (le (part 4 p 12)) (le (part 3 p 16))
+  pub unwritten : (Scans (d .«dev_addr») h p crcGood → ⊥) → packetAfter d h p crcGood tx ≡ tx
 
 -- A list of calls: a start at 4294967290 with an interval of 100, a tick, a connect request at 1000 with window size 2, window offset 3, map
 -- 0A 00 00 00 00 and hop 5, and 36 events.
@@ -124,7 +167,7 @@ exampleTrace =
     trace board (
     start (instant 4294967290) 100 (0x02 ∷ 0x0A ∷ 0x00 ∷ []) (replicate 14 0xFF)
     ∷ tick (replicate 12 0)
-    ∷ packet (instant 1000) (headerOf 0x2205) request true
+    ∷ packet (instant 1000) (headerOf 0x2205) request true []
     ∷ replicate 36 event
     )
 
@@ -144,4 +187,50 @@ pub record Example : Type 0 where
   pub octets : map (λ (e : Entry). e .octets) (take 2 exampleTrace)
       ≡ ((0x02 ∷ 0x0A ∷ 0x00 ∷ []) ∷ (0x01 ∷ 0x02 ∷ 0x03 ∷ 0x04 ∷ 0x05 ∷ 0x06 ∷ 0x02 ∷ 0x01 ∷ 0x06 ∷ 0x02 ∷ 0x0A ∷ 0x00 ∷ 0xFF ∷ 0xFF ∷ []) ∷ [])
       ∷ ((0x01 ∷ 0x02 ∷ 0x03 ∷ 0x04 ∷ 0x05 ∷ 0x06 ∷ 0x02 ∷ 0x01 ∷ 0x06 ∷ 0x02 ∷ 0x0A ∷ 0x00 ∷ []) ∷ [])
+      ∷ []
+
+-- A list of calls of a board with a random address: Flags with an undefined bit and the name "Go" are set, refused data change nothing, a start, a scan
+-- request from 11 12 13 14 15 16 with a transmit buffer of 14 octets, the same with one octet too few; then a stop, a start and a tick, and the request again.
+abbrev pub title : List ℕ
+title = 0x02 ∷ 0x01 ∷ 0x86 ∷ 0x03 ∷ 0x09 ∷ 0x47 ∷ 0x6F ∷ []
+
+abbrev pub asked : ℕ → Call
+asked n =
+    packet (instant 1000) (headerOf 0x0C83) (0x11 ∷ 0x12 ∷ 0x13 ∷ 0x14 ∷ 0x15 ∷ 0x16 ∷ 0x01 ∷ 0x02 ∷ 0x03 ∷ 0x04 ∷ 0x05 ∷ 0xC6 ∷ []) true (replicate n 0xFF)
+
+abbrev pub titledTrace : List Entry
+titledTrace =
+    trace (addressOf (0x01 ∷ 0x02 ∷ 0x03 ∷ 0x04 ∷ 0x05 ∷ 0xC6 ∷ []) Random) (
+    setScanData title
+    ∷ setScanData (0x02 ∷ 0x09 ∷ [])
+    ∷ start (instant 0) 100 [] (replicate 9 0)
+    ∷ asked 14
+    ∷ asked 12
+    ∷ stop
+    ∷ start (instant 0) 100 [] (replicate 9 0)
+    ∷ tick (replicate 9 0)
+    ∷ asked 13
+    ∷ []
+    )
+
+pub record Titled : Type 0 where
+  pub answers : map (λ (e : Entry). e .result .answer) titledTrace
+      ≡ ScanDataSet
+      ∷ Refused Eof
+      ∷ Sent (headerOf 0x0940) Channel38 (instant 100)
+      ∷ Respond (headerOf 0x0D44) Channel38
+      ∷ Refused Eof
+      ∷ Stopped
+      ∷ Sent (headerOf 0x0940) Channel38 (instant 100)
+      ∷ Sent (headerOf 0x0940) Channel39 (instant 200)
+      ∷ Respond (headerOf 0x0D44) Channel39
+      ∷ []
+  -- the buffers behind the first: the own address, the data with Flags 06, and the octet behind them kept; as lent; none; what the start wrote; none; the reply
+  pub octets : map (λ (e : Entry). drop 1 (e .octets)) (drop 3 titledTrace)
+      ≡ ((0x01 ∷ 0x02 ∷ 0x03 ∷ 0x04 ∷ 0x05 ∷ 0xC6 ∷ 0x02 ∷ 0x01 ∷ 0x06 ∷ 0x03 ∷ 0x09 ∷ 0x47 ∷ 0x6F ∷ 0xFF ∷ []) ∷ [])
+      ∷ (replicate 12 0xFF ∷ [])
+      ∷ []
+      ∷ ((0x01 ∷ 0x02 ∷ 0x03 ∷ 0x04 ∷ 0x05 ∷ 0xC6 ∷ 0x02 ∷ 0x01 ∷ 0x06 ∷ []) ∷ [])
+      ∷ []
+      ∷ ((0x01 ∷ 0x02 ∷ 0x03 ∷ 0x04 ∷ 0x05 ∷ 0xC6 ∷ 0x02 ∷ 0x01 ∷ 0x06 ∷ 0x03 ∷ 0x09 ∷ 0x47 ∷ 0x6F ∷ []) ∷ [])
       ∷ []

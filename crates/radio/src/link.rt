@@ -1,7 +1,8 @@
 // The link layer: a device in standby, advertising or connected. It goes into each call by value and comes back beside the answer.
 ghost use mathlib.Core.Path.{_≡_};
 ghost use Rattle.advertising.specs.PduBuf.{payloadTo, payloadAfter};
-ghost use Rattle.radio.specs.Calls.{fresh, isAdvertising, isConnected, refusal, listens, responds, connectsTo, addressed, advertised, sent, isFor, heard, hops, startOf, startAfter, tickOf, tickAfter, packetOf, eventOf, stopOf};
+ghost use mathlib.Core.Bool.{_&&_};
+ghost use Rattle.radio.specs.Calls.{fresh, isAdvertising, isConnected, isScanRequest, refusal, listens, responds, repliesWith, repliedIf, connectsTo, addressed, advertised, sent, isFor, heard, hops, startOf, startAfter, tickOf, tickAfter, packetOf, packetAfter, scanDataOf, eventOf, stopOf};
 use addresses::device_address::DeviceAddress;
 use addresses::header::Header;
 use addresses::header::PduType;
@@ -53,6 +54,8 @@ pub struct Connection {
 pub struct Device {
     mode: Mode,
     dev_addr: DeviceAddress,
+    // What a scan request is answered with, in every mode: the own address and the scan data.
+    scan_response: PduBuf,
     adv: Advertisement,
     conn: Connection,
 }
@@ -84,6 +87,8 @@ pub enum Answer {
     NextEvent(DataChannel),
     // Standby: nothing is sent, and nothing listened for.
     Stopped,
+    // The scan response has these data from now on.
+    ScanDataSet,
 }
 
 // What a call answers, and the device after it.
@@ -93,13 +98,16 @@ pub struct Called {
 }
 
 impl Device {
-    // A device in standby.
+    // A device in standby, without scan data.
     pub fn new(dev_addr: DeviceAddress) -> Device
         ensures { λ r. ⌜ r ≡ fresh «dev_addr» ⌝ }
     {
+        let bare = PduBuf::scan_response(dev_addr, &[0u8; 0]);
+        let scan_response = bare.pdu;
         Device {
             mode: Mode::Standby,
             dev_addr,
+            scan_response,
             adv: Advertisement {
                 next_adv: Instant::from_raw_micros(0),
                 interval: 0,
@@ -157,21 +165,36 @@ impl Device {
         }
     }
 
-    // Takes a packet from the channel that it listens on.
+    // Sets the records of the scan response, which are lent encoded, in any mode; none make it bare. They outlive start and stop.
+    pub fn set_scan_data(self, data: &[u8]) -> Called
+        ensures { λ r. ⌜ r ≡ scanDataOf self (now («data» .entry)) ⌝ }
+    {
+        let own = self.dev_addr;
+        let built = PduBuf::scan_response(own, data);
+        let scan_response = built.pdu;
+        let outcome = built.outcome;
+        match outcome {
+            Outcome::Accepted => self.reply_with(scan_response),
+            Outcome::Refused(error) => self.refused(error),
+        }
+    }
+
+    // Takes a packet from the channel that it listens on. Only the reply to a scan request is written to the transmit buffer.
     pub fn process_adv_packet(
         self,
         rx_end: Instant,
         header: Header,
         payload: &[u8],
         crc_ok: bool,
+        tx: &mut [u8],
     ) -> Called
-        ensures { λ r. ⌜ r ≡ packetOf self «rx_end» header (now (payload .entry)) «crc_ok» ⌝ }
+        ensures { λ r. ⌜ (r ≡ packetOf self «rx_end» header (now (payload .entry)) «crc_ok» (now (tx .entry))) × (now (tx .exit) ≡ packetAfter self header (now (payload .entry)) «crc_ok» (now (tx .entry))) ⌝ }
     {
         if self.is_advertising() {
             if crc_ok {
                 let decoded = Pdu::from_header_and_payload(header, payload);
                 let pdu = decoded.pdu;
-                return self.hear(rx_end, pdu);
+                return self.hear(rx_end, pdu, tx);
             }
             return self.listen();
         }
@@ -203,6 +226,8 @@ impl Device {
         ensures { λ r. ⌜ r ≡ stopOf self ⌝ }
     {
         let dev_addr = self.dev_addr;
+        // Scan data outlive a stop.
+        let kept = self.scan_response;
         let adv = self.adv;
         let conn = self.conn;
         Called {
@@ -210,6 +235,7 @@ impl Device {
             device: Device {
                 mode: Mode::Standby,
                 dev_addr,
+                scan_response: kept,
                 adv,
                 conn,
             },
@@ -237,6 +263,26 @@ impl Device {
         }
     }
 
+    // The device with another scan response.
+    fn reply_with(self, scan_response: PduBuf) -> Called
+        ensures { λ r. ⌜ r ≡ repliesWith self «scan_response» ⌝ }
+    {
+        let mode = self.mode;
+        let dev_addr = self.dev_addr;
+        let adv = self.adv;
+        let conn = self.conn;
+        Called {
+            answer: Answer::ScanDataSet,
+            device: Device {
+                mode,
+                dev_addr,
+                scan_response,
+                adv,
+                conn,
+            },
+        }
+    }
+
     // Makes a tick of an advertisement where the transmit buffer has room for its payload.
     fn transmit(self, adv: Advertisement, tx: &mut [u8]) -> Called
         ensures { λ r. ⌜ (r ≡ sent self adv (payloadTo (adv .pdu) (now (tx .entry)))) × (now (tx .exit) ≡ payloadAfter (adv .pdu) (now (tx .entry))) ⌝ }
@@ -258,6 +304,7 @@ impl Device {
         let due = adv.next_adv;
         let next_adv = due.add(adv.interval);
         let dev_addr = self.dev_addr;
+        let scan_response = self.scan_response;
         let conn = self.conn;
         Called {
             answer: Answer::Sent {
@@ -268,6 +315,7 @@ impl Device {
             device: Device {
                 mode: Mode::Advertising,
                 dev_addr,
+                scan_response,
                 adv: Advertisement {
                     next_adv,
                     interval: adv.interval,
@@ -280,22 +328,22 @@ impl Device {
     }
 
     // A CRC-good packet.
-    fn hear(self, rx_end: Instant, pdu: Pdu) -> Called
-        ensures { λ r. ⌜ r ≡ heard self «rx_end» pdu ⌝ }
+    fn hear(self, rx_end: Instant, pdu: Pdu, tx: &mut [u8]) -> Called
+        ensures { λ r. ⌜ (r ≡ heard self «rx_end» pdu (now (tx .entry))) × (now (tx .exit) ≡ repliedIf (isFor (self .«dev_addr») pdu && isScanRequest (pdu .ty)) self (now (tx .entry))) ⌝ }
     {
         let own = self.dev_addr;
         if is_for(own, pdu) {
-            return self.take(rx_end, pdu);
+            return self.take(rx_end, pdu, tx);
         }
         self.listen()
     }
 
     // Of the packets to this device only the two requests are answered.
-    fn take(self, rx_end: Instant, pdu: Pdu) -> Called
-        ensures { λ r. ⌜ r ≡ addressed self «rx_end» (pdu .lldata) (pdu .ty) ⌝ }
+    fn take(self, rx_end: Instant, pdu: Pdu, tx: &mut [u8]) -> Called
+        ensures { λ r. ⌜ (r ≡ addressed self «rx_end» (pdu .lldata) (now (tx .entry)) (pdu .ty)) × (now (tx .exit) ≡ repliedIf (isScanRequest (pdu .ty)) self (now (tx .entry))) ⌝ }
     {
         match pdu.ty() {
-            PduType::ScanReq => self.respond(),
+            PduType::ScanReq => self.respond(tx),
             PduType::ConnectReq => {
                 let lldata = pdu.lldata;
                 self.connect(rx_end, lldata)
@@ -304,21 +352,22 @@ impl Device {
         }
     }
 
-    // A scan response without records. The transmit buffer is left alone: its address octets are those that the last tick wrote.
-    fn respond(self) -> Called
-        ensures { λ r. ⌜ r ≡ responds self ⌝ }
+    // Answers a scan request where the transmit buffer has room for the scan response's payload.
+    fn respond(self, tx: &mut [u8]) -> Called
+        ensures { λ r. ⌜ (r ≡ responds self (payloadTo (self .«scan_response») (now (tx .entry)))) × (now (tx .exit) ≡ payloadAfter (self .«scan_response») (now (tx .entry))) ⌝ }
     {
-        let own = self.dev_addr;
+        let response = self.scan_response;
         let adv = self.adv;
         let channel = adv.channel;
-        let response = PduBuf::scan_response(own, &[0u8; 0]);
-        let pdu = response.pdu;
-        Called {
-            answer: Answer::Respond {
-                header: pdu.header(),
-                channel,
+        match response.write_payload(tx) {
+            Written::To(_) => Called {
+                answer: Answer::Respond {
+                    header: response.header(),
+                    channel,
+                },
+                device: self,
             },
-            device: self,
+            Written::Refused(e) => self.refused(e),
         }
     }
 
@@ -336,6 +385,7 @@ impl Device {
                 // rubble's margin of 500 µs: with the 1,250 that the window's end includes, document 01's 1,750.
                 let at = rx_end.add(lldata.end_of_tx_window()).add(500);
                 let dev_addr = self.dev_addr;
+                let scan_response = self.scan_response;
                 let adv = self.adv;
                 Called {
                     answer: Answer::FirstEvent {
@@ -347,6 +397,7 @@ impl Device {
                     device: Device {
                         mode: Mode::Connected,
                         dev_addr,
+                        scan_response,
                         adv,
                         conn: Connection {
                             channel_map,
@@ -370,12 +421,14 @@ impl Device {
             Hop::To { unmapped, channel } => {
                 let mode = self.mode;
                 let dev_addr = self.dev_addr;
+                let scan_response = self.scan_response;
                 let adv = self.adv;
                 Called {
                     answer: Answer::NextEvent(channel),
                     device: Device {
                         mode,
                         dev_addr,
+                        scan_response,
                         adv,
                         conn: Connection {
                             channel_map,

@@ -46,7 +46,8 @@ fn is_request(letter: u8) -> bool {
     match letter {
         b'a'..=b'e' => true,
         b'g'..=b'i' => true,
-        b'k' | b'm' | b'n' | b'p' | b'w' | b'x' => true,
+        b'k' | b'm' | b'n' | b'p' => true,
+        b'w'..=b'y' => true,
         b'r'..=b't' => true,
         _ => false,
     }
@@ -59,8 +60,8 @@ fn least(letter: u8) -> usize {
         b'c' => 3,
         b'w' => 4,
         b'g' | b'm' => 5,
-        b'h' | b'n' | b'p' => 7,
-        b'b' | b'k' => 8,
+        b'h' | b'n' => 7,
+        b'b' | b'k' | b'p' => 8,
         b's' => 9,
         _ => 0,
     }

@@ -13,9 +13,10 @@
 //     n address 7                        a new device, for the calls that follow
 //     s time 4, interval 4, room, records    a start with a transmit buffer of `room` octets of FF
 //     t room                             a tick
-//     p end 4, CRC, header 2, payload    a packet
+//     p end 4, CRC, room, header 2, payload  a packet, with a transmit buffer of `room` octets of FF
 //     e                                  an event
 //     x                                  a stop
+//     y records                          scan data to set
 //     k address 7, room, records         a beacon, made and sent
 //     c CRC, header 2, payload           a scanner that reports all senders
 //     #                                  a remark: anything may stand behind it. Its answer is the letter alone, as of `n`
@@ -502,6 +503,7 @@ fn answer(out: &mut Page, at: usize, a: Answer) -> usize {
         } => first_event(out, at, channel, instant, access_address, crc_init),
         Answer::NextEvent(channel) => number(out, at, channel.index() as u64),
         Answer::Stopped => say(out, at, Word::Stopped),
+        Answer::ScanDataSet => say(out, at, Word::Set),
     }
 }
 
@@ -509,16 +511,23 @@ fn start_advertise(d: Device, s: &[u8], lent: &mut [u8]) -> Called {
     d.start_advertise(instant(s), word(s, 4), rest(s, 9), lent)
 }
 
-fn packet(d: Device, s: &[u8]) -> Called {
-    d.process_adv_packet(instant(s), header_in(s, 5), rest(s, 7), octet(s, 4) == 1)
+fn packet(d: Device, s: &[u8], lent: &mut [u8]) -> Called {
+    d.process_adv_packet(
+        instant(s),
+        header_in(s, 6),
+        rest(s, 8),
+        octet(s, 4) == 1,
+        lent,
+    )
 }
 
 fn call(d: Device, letter: u8, s: &[u8], lent: &mut [u8]) -> Called {
     match letter {
         b'e' => d.event(),
-        b'p' => packet(d, s),
+        b'p' => packet(d, s, lent),
         b's' => start_advertise(d, s, lent),
         b't' => d.update_timer(lent),
+        b'y' => d.set_scan_data(s),
         _ => d.stop(),
     }
 }
@@ -564,14 +573,14 @@ fn ask(out: &mut Page, at: usize, letter: u8, s: &[u8], lent: &mut [u8]) -> usiz
 
 fn is_call(letter: u8) -> bool {
     match letter {
-        b'e' | b'p' | b's' | b't' | b'x' => true,
+        b'e' | b'p' | b's' | b't' | b'x' | b'y' => true,
         _ => false,
     }
 }
 
 fn is_lent(letter: u8) -> bool {
     match letter {
-        b'k' | b'r' | b's' | b't' | b'w' => true,
+        b'k' | b'p' | b'r' | b's' | b't' | b'w' => true,
         _ => false,
     }
 }
@@ -580,6 +589,7 @@ fn is_lent(letter: u8) -> bool {
 fn room_at(letter: u8) -> usize {
     match letter {
         b'k' => 7,
+        b'p' => 5,
         b's' => 8,
         b'w' => 3,
         _ => 0,

@@ -39,6 +39,9 @@ returns-6 c =
 returns-7 : tie.Need-returns-7
 returns-7 c = ap (λ (a : Answer). answerSaid a (c .before .before .args .advertising) (c .before .before .args .connected)) (sym (c .enum-told .given .1))
 
+returns-8 : tie.Need-returns-8
+returns-8 c = ap (λ (a : Answer). answerSaid a (c .before .before .args .advertising) (c .before .before .args .connected)) (sym (c .enum-told2 .given .1))
+
 pub say-spec : {M : Type 1} → statement M
 say-spec =
     tie.close
@@ -60,10 +63,12 @@ say-spec =
     (λ c. search needs)
     (λ c κs. search needs)
     (λ c. search needs)
+    (λ c. search needs)
     returns
     returns-2
     returns-3
     returns-4
     returns-5
     returns-6
-    returns-7)
+    returns-7
+    returns-8)

@@ -20,13 +20,13 @@ is c =
 
 returns : tie.Need-returns
 returns c =
-    let there = c .before .before .before .before .before .before .before .before .before .before in
+    let there = c .before .before .before .before .before .before .before .before .before .before .before in
     let a = there .before .before .before .args in
-    let time : c .before .before .before .before .add2 .result .0 ≡ firstEventAt (a .rx-end) (a .lldata) .0 =
-    c .before .before .before .before .add2 .ensures
-    ∙ rw (c .before .before .before .before .before .add .ensures, c .before .before .before .before .before .before .end-of-tx-window .ensures)
+    let time : c .before .before .before .before .before .add2 .result .0 ≡ firstEventAt (a .rx-end) (a .lldata) .0 =
+    c .before .before .before .before .before .add2 .ensures
+    ∙ rw (c .before .before .before .before .before .before .add .ensures, c .before .before .before .before .before .before .before .end-of-tx-window .ensures)
     (first-event (a .rx-end .0) (a .lldata .«win_offset») (a .lldata .«win_size»)) in
-    rw (is there, c .before .before .before .before .before .before .before .before .unmapped-channel .given .1, there .before .before .channel-map .ensures, there .before .hop .ensures, c .crc-init .ensures, c .before .access-address .ensures, time)
+    rw (is there, c .before .before .before .before .before .before .before .before .before .unmapped-channel .given .1, there .before .before .channel-map .ensures, there .before .hop .ensures, c .crc-init .ensures, c .before .access-address .ensures, time)
 
 returns-2 : tie.Need-returns-2
 returns-2 c = c .refused .ensures ∙ sym (is (c .before .before .before .before) ∙ ap (connectedAt _ _ _) (c .before .before .error .given .1))

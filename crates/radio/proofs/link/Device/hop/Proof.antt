@@ -20,7 +20,7 @@ enum-known-e : tie.Need-enum-known-e
 enum-known-e c = search needs
 
 returns : tie.Need-returns
-returns c = sym (is (c .before .before .before .before .before) ∙ ap (hoppedTo _) (c .before .before .before .unmapped .given .1))
+returns c = sym (is (c .before .before .before .before .before .before) ∙ ap (hoppedTo _) (c .before .before .before .before .unmapped .given .1))
 
 returns-2 : tie.Need-returns-2
 returns-2 c = c .refused .ensures ∙ sym (is (c .before .before .before .before) ∙ ap (hoppedTo _) (c .before .before .e .given .1))
