@@ -18,7 +18,7 @@ const SCANNER: usize = 4;
 const DEVICE_OFF: [&str; 6] = ["a bit of the address", "RxAdd", "the CRC", "the length", "the type", "an empty map"];
 const SCANNER_OFF: [&str; 5] = ["the type", "the CRC", "the length", "the entry's kind", "a bit of the entry"];
 
-const REPLIES: [(&str, usize); 4] = [("bare", 6), ("1-30 octets", 7), ("31 octets", 37), ("more", 38)];
+const REPLIES: [(&str, usize); 3] = [("bare", 6), ("with 1 to 30 octets of data", 7), ("with 31", 37)];
 const SETS: [&str; 4] = ["refused with 1", "refused with 2", "accepted", "accepted without data"];
 
 const CONNECTIONS: [(&str, usize); 4] = [("none", 0), ("1", 1), ("2", 2), ("3 or more", 3)];

@@ -177,26 +177,18 @@ fn calls(r: &Request) -> Vec<Line> {
         let room = [buffer.len() as u8];
         let header = u16::from_le_bytes([a[5], a[6]]);
         let part = c.get(14..14 + c[3] as usize).unwrap_or(&[]);
+        // What was transmitted stands at the front of the buffer.
+        let n = if matches!(a[1], 1 | 3) { (header >> 8) as usize & 63 } else { 0 };
+        let lent = octets(&buffer[..n]) + &octets(&vec![0xFF; buffer.len() - n]);
         let answer = match (a[0], a[1]) {
-            (0, 1) => {
-                let n = (header >> 8) as usize & 63;
-                let kept = octets(&vec![0xFF; buffer.len() - n]);
-                format!(" {header:04x} on {} at {}{}{kept}", a[4], word(a, 7), octets(&buffer[..n]))
-            }
-            (0, 2) => format!(" listens on {}{}", a[4], octets(&vec![0xFF; buffer.len()])),
-            (0, 3) => {
-                let n = (header >> 8) as usize & 63;
-                let kept = octets(&vec![0xFF; buffer.len() - n]);
-                format!(" {header:04x} on {}{}{kept}", a[4], octets(&buffer[..n]))
-            }
-            (0, 4) => {
-                let kept = octets(&vec![0xFF; buffer.len()]);
-                format!(" {} at {} {:08x} {:06x}{kept}", a[4], word(a, 7), word(a, 11), word(a, 15))
-            }
+            (0, 1) => format!(" {header:04x} on {} at {}{lent}", a[4], word(a, 7)),
+            (0, 2) => format!(" listens on {}{lent}", a[4]),
+            (0, 3) => format!(" {header:04x} on {}{lent}", a[4]),
+            (0, 4) => format!(" {} at {} {:08x} {:06x}{lent}", a[4], word(a, 7), word(a, 11), word(a, 15)),
             (0, 5) => format!(" {}", a[4]),
             (0, 6) => " stopped".to_string(),
             (0, _) => " set".to_string(),
-            (n, _) if c[0] < 3 => format!(" refused {n}{}", octets(&vec![0xFF; buffer.len()])),
+            (n, _) if c[0] < 3 => format!(" refused {n}{lent}"),
             (n, _) => format!(" refused {n}"),
         };
         let shows = (a[0], a[1]);
