@@ -216,6 +216,7 @@ static void ran(const char *name, const uint8_t *calls, size_t calls_len, const 
 /* Every call, and one more, in each mode; octets 1 and 2 of a call; a connect request that marks no channel; lists and calls that are cut; a reply with
  * scan data, by both buffers. */
 static void device(void) {
+    static const uint8_t name[] = {3, 9, 0x47, 0x6F};
     static uint8_t calls[2 * 272], call[272], scan[14] = {0x83, 0x0C};
     memcpy(scan + 8, other, 6);
     call_of(calls, 0, 5, 30, beacon, records + 6, 3), call_of(calls + 272, 2, 232, 3, request, request + 2, 34);
@@ -243,7 +244,7 @@ static void device(void) {
     call_of(call, 2, 5, 30, scan, scan + 2, 12);
     ran("25", calls, 272, call, 25);
     ran("13", calls, 272, call, 13);
-    call_of(calls, 5, 0, 0, beacon, records + 6, 3), call_of(calls + 272, 0, 5, 30, beacon, bits, 0);
+    call_of(calls, 5, 0, 0, beacon, S(name)), call_of(calls + 272, 0, 5, 30, beacon, bits, 0);
     call_of(call, 2, 7, 50, scan, scan + 2, 12);
     ran("reply", S(calls), S(call));
     call[2] = 1;

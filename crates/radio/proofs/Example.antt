@@ -10,7 +10,7 @@ use Rattle.addresses.specs.Address.{sameOctets, sameAddress}
 use Rattle.addresses.specs.Header.{pduType}
 use Rattle.advertising.specs.Pdu.{requestOf, directed, connectRequest, byType, decodeOf}
 use Rattle.advertising.specs.PduBuf.{bufOf, afterReading, withRecords}
-use Rattle.radio.specs.Calls.{isFor, connectsTo, addressed, hops, startOf, startAfter, tickOf, tickAfter, packetOf, packetAfter, scanDataOf, eventOf}
+use Rattle.radio.specs.Calls.{isFor, connectsTo, addressed, hops, startOf, startAfter, tickOf, tickAfter, packetOf, packetAfter, eventOf}
 use Rattle.radio.specs.Laws.{Example, Titled}
 use Rattle.radio.specs.Trace.{trace}
 
@@ -19,5 +19,5 @@ unfolding flatten count placed mapped marked marks channelAt cleared cut reads a
 example = record { answers = refl; channel-1 = refl; channel-3 = refl; octets = refl }
 
 pub titled : Titled
-unfolding flatten cut reads areaOf readArea rewritten sameOctets sameAddress pduType directed byType decodeOf bufOf afterReading withRecords isFor addressed startOf startAfter tickOf tickAfter packetOf packetAfter scanDataOf trace named flagsRead uuidsRead dataRead upTo recordRead first withFirst clean
+unfolding flatten cut reads areaOf readArea rewritten sameOctets sameAddress pduType directed byType decodeOf bufOf afterReading withRecords isFor addressed startOf startAfter tickOf tickAfter packetOf packetAfter trace named flagsRead uuidsRead dataRead upTo recordRead first withFirst clean
 titled = record { answers = refl; octets = refl }

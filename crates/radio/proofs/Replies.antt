@@ -1,14 +1,12 @@
 -- The reply to a scan request: `bare`, `setting`, and what is known of the reply that is built. Assumes nothing.
 use mathlib.Core.Bool.{Bool, true, false, cond, false≢true}
-use mathlib.Core.List.{List, [], _++_, append-nil, flatten}
+use mathlib.Core.List.{List, [], _++_, append-nil}
 use mathlib.Core.Path.{_≡_, refl, sym, ap, _∙_}
-use Prim.Native.Nat.{ℕ, _+_, _*_, _≤_, _<_}
-use native.Mathlib.Nat.{zero-add}
+use Prim.Native.Nat.{ℕ, _+_, _*_, _≤_}
 use native.Mathlib.Omega.{arith}
 use lib.Dec.{ltb}
 use lib.ListN.{length, length-append}
 use borrow.Author.Tests.{eq-eqb, ltb-true, ltb-false}
-use Rattle.octets.specs.Bytes.{has}
 use Rattle.octets.specs.Error.{numberOf}
 use Rattle.octets.specs.declared.bytes.Written.{Written}
 use Rattle.octets.specs.declared.bytes.Written.the-variants as written
@@ -34,15 +32,14 @@ use Rattle.advertising.specs.declared.pdu.Outcome.{Outcome}
 use Rattle.advertising.specs.declared.pdu.Outcome.the-variants as outcome
 use Rattle.advertising.specs.declared.pdu_buf.Built.{Built}
 use Rattle.advertising.specs.declared.pdu_buf.PduBuf.{PduBuf}
-use Rattle.radio.specs.Calls.{fresh, isAdvertising, isConnected, isFor, refusal, sent, beginning, discoverable, started, listens, responds, connectedAt, connectsTo, addressed, setTo, scanDataOf, hoppedTo, hops, startOf, tickOf, packetOf, eventOf}
-use Rattle.radio.specs.Demand.{numberIn, replyHeader, replyOctets}
+use Rattle.radio.specs.Calls.{isAdvertising, isConnected, isFor, refusal, sent, beginning, discoverable, started, listens, responds, connectedAt, connectsTo, addressed, setTo, scanDataOf, hoppedTo, hops, startOf, tickOf, packetOf, eventOf}
+use Rattle.radio.specs.Demand.{numberIn}
 use Rattle.radio.specs.Laws.{ReplyOf, Bare, Setting}
 use Rattle.radio.specs.Trace.{replySize}
 use Rattle.radio.specs.declared.link.Advertisement.{Advertisement}
 use Rattle.radio.specs.declared.link.Called.{Called}
 use Rattle.radio.specs.declared.link.Device.{Device}
 use Rattle.radio.proofs.Answers.{no-zero}
-use Rattle.octets.specs.declared.error.Error.{Error}
 use Rattle.octets.specs.declared.error.Error.the-variants.{WrongMode}
 use Rattle.octets.specs.declared.time.Instant.{Instant}
 
@@ -121,7 +118,6 @@ module _ (d : Device) where
 
   set-reply : length (d .«dev_addr» .bytes) ≡ 6 → (s : List ℕ) (a : Area) → readArea s ≡ a → (many : Bool) → ltb 31 (length s) ≡ many → numberIn (scanDataOf d s .answer) ≡ 0
       → ReplyOf (d .«dev_addr») s (scanDataOf d s .device .«scan_response»)
-  unfolding scanDataOf
   set-reply six s (area.Refused e) good many m is =
       let no : numberOf e ≡ 0 = rw (building .bad-area ScanRsp (d .«dev_addr») [] s e good) at is in
       absurd (false≢true (sym (no-zero e) ∙ eq-eqb (numberOf e) 0 no))
@@ -134,7 +130,7 @@ module _ (d : Device) where
       rw (builders (d .«dev_addr») s six .scan-response .accepted n good few) (built-reply (d .«dev_addr») s six n good few)
 
   pub setting : Setting d
-  unfolding startOf tickOf packetOf scanDataOf eventOf hops
+  unfolding startOf tickOf packetOf eventOf hops
   setting =
       record {
         reply = λ six s is. set-reply six s (readArea s) refl (ltb 31 (length s)) refl is;

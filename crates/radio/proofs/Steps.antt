@@ -5,10 +5,10 @@ use mathlib.Core.Path.{_≡_, refl, sym, ap, _∙_}
 use Prim.Native.Nat.{ℕ, _+_, _%_, _≤_, _<_}
 use native.Mathlib.Nat.{mod-lt, zero-add}
 use native.Mathlib.Omega.{arith}
-use lib.Dec.{eqb, leb, ltb}
+use lib.Dec.{eqb, ltb}
 use lib.ListN.{length, drop, length-append}
 use borrow.Author.Tests.{le-ltb, le-leb, lt-leb, ne-eqb, eq-eqb, ltb-true, ltb-false}
-use Rattle.octets.proofs.Places.{both-true, enough, too-few}
+use Rattle.octets.proofs.Places.{enough, too-few}
 use Rattle.octets.specs.Error.{numberOf}
 use Rattle.octets.specs.declared.error.Error.{Error}
 use Rattle.octets.specs.declared.error.Error.the-variants.{Eof, WrongMode, EmptyMap}
@@ -36,7 +36,7 @@ use Rattle.advertising.specs.PduBuf.{headerFor, flagsRecord, scanResponsePdu, p
 use Rattle.advertising.specs.declared.pdu.Pdu.{Pdu}
 use Rattle.advertising.specs.declared.pdu_buf.PduBuf.{PduBuf}
 use Rattle.radio.specs.Calls.{isAdvertising, isConnected, isScanRequest, refusal, advertised, sent, beginning, isFor, listens, responds, repliesWith, repliedIf, connectedAt, hoppedTo, connectsTo, addressed, hops, startOf, startAfter, tickOf, tickAfter, packetOf, packetAfter, scanDataOf, eventOf, stopOf}
-use Rattle.radio.specs.Demand.{numberIn, isFirstEvent, isReply, replyOctets}
+use Rattle.radio.specs.Demand.{numberIn, isFirstEvent, isReply}
 use Rattle.radio.specs.Laws.{ReplyOf}
 use Rattle.radio.specs.Trace.{Call, start, tick, packet, event, stop, setScanData, callOf, octetsOf, isConnectRequest, requested, asks, scans, mapIn, hopIn, connects, scansWith, replySize, Reading, startNumber, scanDataNumber, refusedBy, readOn, passes, tickRole, eventRole, hearRole}
 use Rattle.radio.specs.declared.link.Answer.{Answer}
@@ -316,7 +316,7 @@ module _ (scan : List ℕ) (d : Device) (sound : Sound scan d) where
     no-connect-set = simp and-false
 
     set-happens : (a : Area) → readArea records ≡ a → (many : Bool) → ltb 31 (length records) ≡ many → Happens scan d this-set (scanDataOf d records)
-    unfolding scanDataOf scanDataNumber refusedBy
+    unfolding scanDataNumber refusedBy
     set-happens (area.Refused e) is many m =
         rw (building .bad-area ScanRsp (d .«dev_addr») [] records e is)
         (refused this-set e (rw is (first-number e _)) no-connect-set refl (plain scan d this-set refl))

@@ -43,7 +43,7 @@ use Rattle.advertising.specs.declared.pdu.Outcome.{Outcome}
 use Rattle.advertising.specs.declared.pdu.Outcome.the-variants as outcome
 use Rattle.advertising.specs.declared.pdu_buf.Built.{Built}
 use Rattle.advertising.specs.declared.pdu_buf.PduBuf.{PduBuf}
-use Rattle.radio.specs.Calls.{instant, isAdvertising, isConnected, isScanRequest, refusal, sent, beginning, discoverable, started, startedAfter, isFor, listens, responds, repliedIf, heard, connectedAt, connectsTo, addressed, setTo, scanDataOf, hoppedTo, hops, startOf, startAfter, tickOf, tickAfter, packetOf, packetAfter, eventOf, stopOf}
+use Rattle.radio.specs.Calls.{instant, isAdvertising, isConnected, isScanRequest, refusal, sent, beginning, discoverable, started, startedAfter, isFor, listens, responds, repliedIf, heard, connectedAt, connectsTo, addressed, setTo, hoppedTo, hops, startOf, startAfter, tickOf, tickAfter, packetOf, packetAfter, eventOf, stopOf}
 use Rattle.radio.specs.Demand.{numberIn, replyHeader, replyOctets}
 use Rattle.radio.specs.Laws.{ForBoard, Scans, Requests, Words, Modes, Refusing, Transmits, ReplyOf, Hearing}
 use Rattle.radio.specs.Trace.{Call, start, tick, packet, event, stop, setScanData, callOf, isConnectRequest, forBoard, requested, scans, mapIn, hopIn, connects, replySize, Strikable}
@@ -268,7 +268,7 @@ module _ (d : Device) where
   event-refused true (hop.To u c) is = no-refusal (hoppedTo d (hop.To u c) .answer) refl is
 
 pub refusing : (d : Device) (c : Call) (e : Error) → Refusing d c e
-unfolding startOf startAfter tickOf tickAfter packetOf packetAfter scanDataOf eventOf hops
+unfolding startOf startAfter tickOf tickAfter packetOf packetAfter eventOf hops
 refusing d (start time interval records tx) e =
     let b : Built = discoverable d records in
     record {

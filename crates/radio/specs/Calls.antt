@@ -207,7 +207,7 @@ abbrev pub setTo : Device → PduBuf → Outcome → Called
 setTo d pdu outcome.Accepted = repliesWith d pdu
 setTo d pdu (outcome.Refused e) = refusal d e
 
-unfoldable pub scanDataOf : Device → List ℕ → Called
+abbrev pub scanDataOf : Device → List ℕ → Called
 scanDataOf d records = setTo d (scanResponsePdu (d .«dev_addr») records .pdu) (scanResponsePdu (d .«dev_addr») records .outcome)
 
 -- Events, and the stop
