@@ -190,7 +190,8 @@ pub record Example : Type 0 where
       ∷ []
 
 -- A list of calls of a board with a random address: Flags with an undefined bit and the name "Go" are set, refused data change nothing, a start, a scan
--- request from 11 12 13 14 15 16 with a transmit buffer of 14 octets, the same with one octet too few; then a stop, a start and a tick, and the request again.
+-- request from 11 12 13 14 15 16 with a transmit buffer of 14 octets, the same with one octet too few; then a stop, a start and a tick, and the request again;
+-- then no data are set, and the request has a buffer of 6 octets and one of 5.
 abbrev pub title : List ℕ
 title = 0x02 ∷ 0x01 ∷ 0x86 ∷ 0x03 ∷ 0x09 ∷ 0x47 ∷ 0x6F ∷ []
 
@@ -210,6 +211,9 @@ titledTrace =
     ∷ start (instant 0) 100 [] (replicate 9 0)
     ∷ tick (replicate 9 0)
     ∷ asked 13
+    ∷ setScanData []
+    ∷ asked 6
+    ∷ asked 5
     ∷ []
     )
 
@@ -224,8 +228,12 @@ pub record Titled : Type 0 where
       ∷ Sent (headerOf 0x0940) Channel38 (instant 100)
       ∷ Sent (headerOf 0x0940) Channel39 (instant 200)
       ∷ Respond (headerOf 0x0D44) Channel39
+      ∷ ScanDataSet
+      ∷ Respond (headerOf 0x0644) Channel39
+      ∷ Refused Eof
       ∷ []
-  -- the buffers behind the first: the own address, the data with Flags 06, and the octet behind them kept; as lent; none; what the start wrote; none; the reply
+  -- the buffers behind the first: the own address, the data with Flags 06, and the octet behind them kept; as lent; none; what the start wrote; none; the
+  -- reply; none; the own address alone; as lent
   pub octets : map (λ (e : Entry). drop 1 (e .octets)) (drop 3 titledTrace)
       ≡ ((0x01 ∷ 0x02 ∷ 0x03 ∷ 0x04 ∷ 0x05 ∷ 0xC6 ∷ 0x02 ∷ 0x01 ∷ 0x06 ∷ 0x03 ∷ 0x09 ∷ 0x47 ∷ 0x6F ∷ 0xFF ∷ []) ∷ [])
       ∷ (replicate 12 0xFF ∷ [])
@@ -233,4 +241,7 @@ pub record Titled : Type 0 where
       ∷ ((0x01 ∷ 0x02 ∷ 0x03 ∷ 0x04 ∷ 0x05 ∷ 0xC6 ∷ 0x02 ∷ 0x01 ∷ 0x06 ∷ []) ∷ [])
       ∷ []
       ∷ ((0x01 ∷ 0x02 ∷ 0x03 ∷ 0x04 ∷ 0x05 ∷ 0xC6 ∷ 0x02 ∷ 0x01 ∷ 0x06 ∷ 0x03 ∷ 0x09 ∷ 0x47 ∷ 0x6F ∷ []) ∷ [])
+      ∷ []
+      ∷ ((0x01 ∷ 0x02 ∷ 0x03 ∷ 0x04 ∷ 0x05 ∷ 0xC6 ∷ []) ∷ [])
+      ∷ (replicate 5 0xFF ∷ [])
       ∷ []
