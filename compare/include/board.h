@@ -185,8 +185,8 @@ typedef struct BoardSaid {
 /* A call on a device after the calls before it. A call, numbers least significant octet first:
  *   | 0 kind | 1 CRC good | 2 buffer | 3 length n | 4 time 4 | 8 interval 4 | 12 header 2 | 14 records or payload, n of 258 |
  * kind: 0 start, 1 tick, 2 packet, 3 event, 5 scan data to set, otherwise stop. CRC good: 1, and no other number. buffer: 1 where a start, a tick or
- * the reply to a scan request is written to `second`, otherwise to `first`. time: of a start, or the end of a packet. interval: of a start. Both
- * buffers go through all calls of the list. */
+ * the reply to a scan request is written to `second`, otherwise to `first`. time: of a start, or the end of a packet. interval: of a start. Scan data
+ * that do not lie whole in the call are none, and none make the reply bare. Both buffers go through all calls of the list. */
 BoardSaid board_call(const uint8_t own[6], bool random, const uint8_t *calls, size_t calls_len, const uint8_t *call, size_t call_len, uint8_t *first, size_t first_len, uint8_t *second, size_t second_len);
 
 /* --- libbasics.a: records --- */

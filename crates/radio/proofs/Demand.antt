@@ -1,4 +1,4 @@
--- Demand 3 holds of every own address and every list of calls: `demand-3`. Assumes nothing.
+-- Demand 3 holds of every own address of six octets and every list of calls: `demand-3`. Assumes nothing.
 use mathlib.Core.Bool.{Bool, true, false, cond, _&&_, and-false, false≢true}
 use mathlib.Core.List.{List, [], _∷_}
 use mathlib.Core.Path.{_≡_, refl, sym, ap, subst, _∙_}
@@ -11,8 +11,8 @@ use Rattle.addresses.specs.declared.device_address.DeviceAddress.{DeviceAddress
 use Rattle.addresses.specs.declared.header.Header.{Header}
 use Rattle.advertising.specs.Pdu.{decodeOf}
 use Rattle.radio.specs.Calls.{fresh, isAdvertising, listens, refusal, addressed, packetOf}
-use Rattle.radio.specs.Demand.{RefusedAt, TicksFrom, ListeningFrom, RepliesAt, SetsAt, BeginsAt, EventsFrom, StopsAt, Events, Demand3}
-use Rattle.radio.specs.Trace.{Call, packet, callOf, forBoard, Reading, unread, readOn, Entry, traceFrom, trace, deviceFrom, deviceAfter, readFrom, modeAfter, gather, tickRole, eventRole, AtEach, none, here, Strikable, crcBad, malformed, foreign, Choice, keep, strike, remaining}
+use Rattle.radio.specs.Demand.{RefusedAt, TicksFrom, ListeningFrom, RepliesAt, SetsAt, BeginsAt, EventsFrom, StopsAt, Events, ReplyOf, Demand3}
+use Rattle.radio.specs.Trace.{Call, packet, callOf, forBoard, Reading, unread, readOn, Entry, traceFrom, trace, deviceFrom, deviceAfter, readFrom, modeAfter, scanDataAfter, gather, tickRole, eventRole, AtEach, none, here, Strikable, crcBad, malformed, foreign, Choice, keep, strike, remaining}
 use Rattle.radio.specs.declared.link.Called.{Called}
 use Rattle.radio.specs.declared.link.Device.{Device}
 use Rattle.radio.proofs.Packets.{not-for}
@@ -49,6 +49,10 @@ module _ (own : DeviceAddress) where
   same-mode : (l : Reading) (scan : List ℕ) (d : Device) (cs : List Call) → Ours own scan d → l ≡ reading scan d → deviceFrom d cs .mode ≡ readFrom own l cs .mode
   same-mode l scan d [] ours is = sym (ap (λ (x : Reading). x .mode) is)
   same-mode l scan d (c ∷ cs) ours is = same-mode (readOn own l c) (scanAfter scan c) (callOf d c .device) cs (next-ours c ours) (next-reading l scan d c ours is)
+
+  same-reply : (l : Reading) (scan : List ℕ) (d : Device) (cs : List Call) → Ours own scan d → l ≡ reading scan d → ReplyOf own (readFrom own l cs .scanData) (deviceFrom d cs .«scan_response»)
+  same-reply l scan d [] ours is = rw (is, ← ours .address) (ours .sound .reply)
+  same-reply l scan d (c ∷ cs) ours is = same-reply (readOn own l c) (scanAfter scan c) (callOf d c .device) cs (next-ours c ours) (next-reading l scan d c ours is)
 
   at-each : (P : Entry → List Entry → Type 0)
       → ((scan : List ℕ) (d : Device) (c : Call) (cs : List Call) → Ours own scan d → P (entryOf scan d c (callOf d c)) (traced (scanAfter scan c) (callOf d c .device) cs))
@@ -100,7 +104,7 @@ module _ (own : DeviceAddress) where
 -- The whole
 
 pub demand-3 : (own : DeviceAddress) → length (own .bytes) ≡ 6 → (calls : List Call) → Demand3 own calls
-unfolding deviceAfter modeAfter
+unfolding deviceAfter modeAfter scanDataAfter
 demand-3 own six calls =
     let ours : Ours own [] (fresh own) = fresh-ours own six in
     let by-device = fresh-trace own six in
@@ -122,6 +126,7 @@ demand-3 own six calls =
           [] (fresh own) calls ours);
       stops = rw (by-device calls) (at-each own StopsAt (λ scan d c cs o. stops-at (happens scan d (o .sound) c)) [] (fresh own) calls ours);
       mode = same-mode own unread [] (fresh own) calls ours refl;
+      carries = same-reply own unread [] (fresh own) calls ours refl;
       others-same = λ ch. by-device (remaining ch calls) ∙ (others-same own [] (fresh own) ch ours ∙ ap (remaining ch) (sym (by-device calls)));
       end-same = λ ch. end-same own [] (fresh own) ch ours;
     }

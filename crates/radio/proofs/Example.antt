@@ -1,4 +1,4 @@
--- Lists of calls by computation: `example`, `titled`. Assumes nothing.
+-- Lists of calls by computation: `example`, `titled`, `limits`. Assumes nothing.
 use mathlib.Core.List.{flatten}
 use mathlib.Core.Path.{refl}
 use Rattle.channels.specs.Count.{count, placed}
@@ -11,7 +11,7 @@ use Rattle.addresses.specs.Header.{pduType}
 use Rattle.advertising.specs.Pdu.{requestOf, directed, connectRequest, byType, decodeOf}
 use Rattle.advertising.specs.PduBuf.{bufOf, afterReading, withRecords}
 use Rattle.radio.specs.Calls.{isFor, connectsTo, addressed, hops, startOf, startAfter, tickOf, tickAfter, packetOf, packetAfter, eventOf}
-use Rattle.radio.specs.Laws.{Example, Titled}
+use Rattle.radio.specs.Laws.{Example, Titled, Limits}
 use Rattle.radio.specs.Trace.{trace}
 
 pub example : Example
@@ -21,3 +21,7 @@ example = record { answers = refl; channel-1 = refl; channel-3 = refl; octets = 
 pub titled : Titled
 unfolding flatten cut reads areaOf readArea rewritten sameOctets sameAddress pduType directed byType decodeOf bufOf afterReading withRecords isFor addressed startOf startAfter tickOf tickAfter packetOf packetAfter trace named flagsRead uuidsRead dataRead upTo recordRead first withFirst clean
 titled = record { answers = refl; octets = refl }
+
+pub limits : Limits
+unfolding flatten count placed mapped marked marks channelAt cleared cut reads areaOf readArea rewritten sameOctets sameAddress pduType requestOf directed connectRequest byType decodeOf bufOf afterReading withRecords isFor connectsTo addressed hops startOf startAfter tickOf tickAfter packetOf packetAfter eventOf trace named flagsRead uuidsRead dataRead upTo recordRead first withFirst clean
+limits = record { answers = refl; octets = refl; longest = refl }

@@ -1,4 +1,4 @@
--- The reply to a scan request: `bare`, `setting`, and what is known of the reply that is built. Assumes nothing.
+-- The reply to a scan request: `judged`, `bare`, `setting`, and what is known of the reply that is built. Assumes nothing.
 use mathlib.Core.Bool.{Bool, true, false, cond, false≢true}
 use mathlib.Core.List.{List, [], _++_, append-nil}
 use mathlib.Core.Path.{_≡_, refl, sym, ap, _∙_}
@@ -28,13 +28,14 @@ use Rattle.advertising.specs.Laws.{ReadsBack}
 use Rattle.advertising.specs.Pdu.{decodeOf}
 use Rattle.advertising.specs.PduBuf.{scanResponsePdu, payloadOf, payloadTo}
 use Rattle.advertising.specs.declared.pdu.ConnectRequestData.{ConnectRequestData}
+use Rattle.advertising.specs.declared.pdu.Decoded.{Decoded}
 use Rattle.advertising.specs.declared.pdu.Outcome.{Outcome}
 use Rattle.advertising.specs.declared.pdu.Outcome.the-variants as outcome
 use Rattle.advertising.specs.declared.pdu_buf.Built.{Built}
 use Rattle.advertising.specs.declared.pdu_buf.PduBuf.{PduBuf}
 use Rattle.radio.specs.Calls.{isAdvertising, isConnected, isFor, refusal, sent, beginning, discoverable, started, listens, responds, connectedAt, connectsTo, addressed, setTo, scanDataOf, hoppedTo, hops, startOf, tickOf, packetOf, eventOf}
-use Rattle.radio.specs.Demand.{numberIn}
-use Rattle.radio.specs.Laws.{ReplyOf, Bare, Setting}
+use Rattle.radio.specs.Demand.{numberIn, replyHeader, replyOctets, ReplyOf}
+use Rattle.radio.specs.Laws.{Judged, Bare, Setting}
 use Rattle.radio.specs.Trace.{replySize}
 use Rattle.radio.specs.declared.link.Advertisement.{Advertisement}
 use Rattle.radio.specs.declared.link.Called.{Called}
@@ -57,6 +58,19 @@ module _ (own : DeviceAddress) (s : List ℕ) (six : length (own .bytes) ≡ 6) 
         header = ap headerOf (builders own s six .scan-response .header n good few ∙ size);
         payload = ap (λ (b : Built). payloadOf (b .pdu)) (back .built) ∙ (back .payload ∙ ap (λ (l : List ℕ). l ++ rewritten s) (append-nil (own .bytes)));
       }
+
+pub judged : (own : DeviceAddress) (s : List ℕ) (n : ℕ) → length (own .bytes) ≡ 6 → readArea s ≡ area.Accepted n → length s ≤ 31 → Judged own s n
+judged own s n six good few =
+    let back : ReadsBack ScanRsp own [] s n = building .adv ScanRsp own s n refl six good few in
+    let made : ReplyOf own s (back .pdu) = rw (← ap (λ (b : Built). b .pdu) (back .built)) (built-reply own s six n good few) in
+    let read : decodeOf (replyHeader own s) (replyOctets own s) ≡ decodeOf (back .pdu .header) (payloadOf (back .pdu)) = sym (λ i. decodeOf (made .header i) (made .payload i)) in
+    record {
+      header = refl;
+      decoded = ap (λ (x : Decoded). x .outcome) (read ∙ back .reads);
+      type = ap (λ (x : Decoded). x .pdu .ty) (read ∙ back .reads);
+      sender = ap (λ (x : Decoded). x .pdu .sender) (read ∙ back .reads);
+      count = ap (λ (x : Decoded). x .pdu .«adv_data» .count) (read ∙ back .reads) ∙ back .count;
+    }
 
 pub bare : (own : DeviceAddress) → length (own .bytes) ≡ 6 → Bare own
 unfolding readArea areaOf reads cut
@@ -133,6 +147,11 @@ module _ (d : Device) where
   unfolding startOf tickOf packetOf eventOf hops
   setting =
       record {
+        accepted = λ six s n good few. rw (builders (d .«dev_addr») s six .scan-response .accepted n good few);
+        bad-area = λ s e good. rw (building .bad-area ScanRsp (d .«dev_addr») [] s e good);
+        too-long = λ six s n good many.
+            let front : length (d .«dev_addr» .bytes ++ []) ≡ 6 = simp append-nil six in
+            rw (building .too-long ScanRsp (d .«dev_addr») [] s n good (omega (arith, front)) (omega (arith, front, many)));
         reply = λ six s is. set-reply six s (readArea s) refl (ltb 31 (length s)) refl is;
         alone = λ s. set-alone (scanResponsePdu (d .«dev_addr») s) (scanResponsePdu (d .«dev_addr») s .outcome);
         starting = λ time interval records tx. start-keeps (beginning time interval (discoverable d records .pdu)) tx (discoverable d records .outcome);

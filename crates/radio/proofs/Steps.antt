@@ -36,8 +36,7 @@ use Rattle.advertising.specs.PduBuf.{headerFor, flagsRecord, scanResponsePdu, p
 use Rattle.advertising.specs.declared.pdu.Pdu.{Pdu}
 use Rattle.advertising.specs.declared.pdu_buf.PduBuf.{PduBuf}
 use Rattle.radio.specs.Calls.{isAdvertising, isConnected, isScanRequest, refusal, advertised, sent, beginning, isFor, listens, responds, repliesWith, repliedIf, connectedAt, hoppedTo, connectsTo, addressed, hops, startOf, startAfter, tickOf, tickAfter, packetOf, packetAfter, scanDataOf, eventOf, stopOf}
-use Rattle.radio.specs.Demand.{numberIn, isFirstEvent, isReply}
-use Rattle.radio.specs.Laws.{ReplyOf}
+use Rattle.radio.specs.Demand.{numberIn, isFirstEvent, isReply, ReplyOf}
 use Rattle.radio.specs.Trace.{Call, start, tick, packet, event, stop, setScanData, callOf, octetsOf, isConnectRequest, requested, asks, scans, mapIn, hopIn, connects, scansWith, replySize, Reading, startNumber, scanDataNumber, refusedBy, readOn, passes, tickRole, eventRole, hearRole}
 use Rattle.radio.specs.declared.link.Answer.{Answer}
 use Rattle.radio.specs.declared.link.Answer.the-variants.{Refused, Sent, Listen, Respond, FirstEvent, NextEvent, Stopped, ScanDataSet}

@@ -14,7 +14,7 @@ use Rattle.octets.specs.Bytes.{part, le, has}
 use Rattle.octets.specs.Error.{numberOf}
 use Rattle.octets.specs.Time.{later}
 use Rattle.octets.specs.declared.error.Error.{Error}
-use Rattle.octets.specs.declared.error.Error.the-variants.{Eof, WrongMode}
+use Rattle.octets.specs.declared.error.Error.the-variants.{Eof, EmptyMap, WrongMode}
 use Rattle.octets.specs.declared.time.Instant.{Instant}
 use Rattle.channels.proofs.Events.{run}
 use Rattle.channels.specs.Hop.{unmapped, eventChannel, unmappedBefore, hopped}
@@ -44,8 +44,8 @@ use Rattle.advertising.specs.declared.pdu.Outcome.the-variants as outcome
 use Rattle.advertising.specs.declared.pdu_buf.Built.{Built}
 use Rattle.advertising.specs.declared.pdu_buf.PduBuf.{PduBuf}
 use Rattle.radio.specs.Calls.{instant, isAdvertising, isConnected, isScanRequest, refusal, sent, beginning, discoverable, started, startedAfter, isFor, listens, responds, repliedIf, heard, connectedAt, connectsTo, addressed, setTo, hoppedTo, hops, startOf, startAfter, tickOf, tickAfter, packetOf, packetAfter, eventOf, stopOf}
-use Rattle.radio.specs.Demand.{numberIn, replyHeader, replyOctets}
-use Rattle.radio.specs.Laws.{ForBoard, Scans, Requests, Words, Modes, Refusing, Transmits, ReplyOf, Hearing}
+use Rattle.radio.specs.Demand.{numberIn, replyHeader, replyOctets, ReplyOf}
+use Rattle.radio.specs.Laws.{ForBoard, Scans, Requests, Words, Modes, Refusing, Transmits, Hearing}
 use Rattle.radio.specs.Trace.{Call, start, tick, packet, event, stop, setScanData, callOf, isConnectRequest, forBoard, requested, scans, mapIn, hopIn, connects, replySize, Strikable}
 use Rattle.radio.specs.declared.link.Advertisement.{Advertisement}
 use Rattle.radio.specs.declared.link.Answer.{Answer}
@@ -448,6 +448,18 @@ module _ (d : Device) (end : Instant) (h : Header) (p : List ℕ) (crcGood : Boo
         ∙ (ap (λ (l : ConnectRequestData). connectsTo d end l .answer) (known h p .request (ap isConnectRequest is))
         ∙ ap (λ (x : Hop). connectedAt d end (requestOf p) x .answer) (first-hop (r .some)))
 
+    requested-empty : crcGood ≡ true → ForBoard own h p → bits 0 4 h ≡ 5 → marks (part 5 p 28) ≡ 0 → packetOf d end h p crcGood tx ≡ refusal d EmptyMap
+    unfolding addressed connectsTo requestOf
+    requested-empty crc ours five zero-marks =
+        let is : decodeOf h p .pdu .ty ≡ ConnectReq = typed ours ConnectReq (ap pduType five ∙ codes .code-5) in
+        taken crc ours ConnectReq is
+        ∙ (ap (λ (l : ConnectRequestData). connectsTo d end l) (known h p .request (ap isConnectRequest is))
+        ∙ rw (eq-eqb (marks (mapIn p)) 0 zero-marks))
+
+  off : isAdvertising (d .mode) ≡ false → packetOf d end h p crcGood tx ≡ refusal d WrongMode
+  unfolding packetOf
+  off standing = rw standing
+
   pub hearing : Hearing d end h p crcGood tx
   unfolding addressed
   hearing =
@@ -457,5 +469,7 @@ module _ (d : Device) (end : Instant) (h : Header) (p : List ℕ) (crcGood : Boo
         scan = λ s six reply on r. scanned on s six reply r;
         no-room = λ s six reply on r. no-room on s six reply r;
         request = requested-first;
+        empty = requested-empty;
+        off = off;
         unwritten = unwritten;
       }

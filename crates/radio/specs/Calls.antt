@@ -11,7 +11,7 @@
 --   isScanRequest ty
 --   listens d                 == the device keeps listening
 --   responds d w              == a scan request whose reply was written to the transmit buffer, or not
---   repliedIf asked d tx      == the transmit buffer with the reply's payload at its front, where that was asked for
+--   repliedIf asked d tx      == the transmit buffer with the reply's payload at its front, where that was asked for and there is room
 --   connectsTo d end l        == the connection that a request asks for, at its first event
 --   addressed d end l tx ty   == a packet of type ty that is for this device
 --   heard d end pdu tx        == a CRC-good packet

@@ -1,5 +1,6 @@
 -- Demand 3: what holds of every list of calls from a fresh device in standby. `demand-3` of proofs/Demand.antt proves it of every own address of six
--- octets and every list; `Words` of specs/Laws.antt says what its words mean, and specs/Trace.antt has `Call`, `Entry` and `trace`.
+-- octets and every list; `Words` of specs/Laws.antt says what its words mean, `Setting`, `Hearing` and `Limits` there which calls the table refuses, and
+-- specs/Trace.antt has `Call`, `Entry` and `trace`.
 --
 --     an Entry of the trace  | mode, channel, scanData, number, call      | result, octets                                        |
 --                            | what the list says: the mode before, the   | what the call of the device returned, and what stands |
@@ -15,7 +16,7 @@
 --   transmitted xs c          == the lent buffers of the call c with the payload xs transmitted
 --   Tick, Ticks               == one tick of what a start set up, and all of them
 --   Events p es               == the events of the connection whose request has the payload p
---   replyHeader, replyOctets  == the header and the payload of a reply
+--   replyHeader, replyOctets  == the header and the payload of a reply; ReplyOf: a PDU that has both
 --   repliedTo own e           == the list says that this call is a scan request to an advertising board, with room for the reply
 --   Reply                     == what such a call answers and writes
 --   RefusedAt, TicksFrom, ListeningFrom, RepliesAt, BeginsAt, EventsFrom, StopsAt, SetsAt   == what holds at an entry, with the entries after it
@@ -41,9 +42,10 @@ use Rattle.addresses.specs.Header.{headerOf}
 use Rattle.addresses.specs.declared.device_address.DeviceAddress.{DeviceAddress}
 use Rattle.addresses.specs.declared.header.Header.{Header}
 use Rattle.addresses.specs.declared.header.PduType.the-variants.{AdvInd}
-use Rattle.advertising.specs.PduBuf.{headerFor, flagsRecord}
+use Rattle.advertising.specs.PduBuf.{headerFor, flagsRecord, payloadOf}
+use Rattle.advertising.specs.declared.pdu_buf.PduBuf.{PduBuf}
 use Rattle.radio.specs.Calls.{instant, isAdvertising}
-use Rattle.radio.specs.Trace.{Call, start, tick, packet, event, stop, setScanData, mapIn, hopIn, connects, scansWith, replySize, Entry, accepted, trace, deviceAfter, modeAfter, AtEach, sentOn, eventOn, channelsBy, gather, tickRole, eventRole, hearRole, ListensOn, times, Choice, remaining}
+use Rattle.radio.specs.Trace.{Call, start, tick, packet, event, stop, setScanData, mapIn, hopIn, connects, scansWith, replySize, Entry, accepted, trace, deviceAfter, modeAfter, scanDataAfter, AtEach, sentOn, eventOn, channelsBy, gather, tickRole, eventRole, hearRole, ListensOn, times, Choice, remaining}
 use Rattle.radio.specs.declared.link.Answer.{Answer}
 use Rattle.radio.specs.declared.link.Answer.the-variants.{Refused, Sent, Listen, Respond, FirstEvent, NextEvent, Stopped, ScanDataSet}
 
@@ -124,6 +126,11 @@ replyHeader own s = headerOf (4 + 64 * kindNumber (own .kind) + 256 * replySize 
 abbrev pub replyOctets : DeviceAddress → List ℕ → List ℕ
 replyOctets own s = own .bytes ++ rewritten s
 
+-- the PDU is the reply of the address `own` with the scan data s
+pub record ReplyOf (own : DeviceAddress) (s : List ℕ) (b : PduBuf) : Type 0 where
+  pub header : b .header ≡ replyHeader own s
+  pub payload : payloadOf b ≡ replyOctets own s
+
 abbrev pub repliedTo : DeviceAddress → Entry → Bool
 repliedTo own e = isAdvertising (e .mode) && scansWith (replySize (e .scanData)) own (e .call)
 
@@ -181,9 +188,10 @@ pub record Demand3 (own : DeviceAddress) (calls : List Call) : Type 0 where
   pub ticks : AtEach (TicksFrom own) (trace own calls)
   -- "bad, malformed or foreign packets, and other types sent to us, keep listening", as a scan request's reply does: on the channel of the last accepted tick
   pub listening : AtEach ListeningFrom (trace own calls)
-  -- document 02, Note 1: "On a good scan request to us the reply payload is now written to a lent transmit buffer"; "A new call sets record octets for the
-  -- reply, in any mode; they outlive start and stop"
+  -- document 02, Note 1: "On a good scan request to us the reply payload is now written to a lent transmit buffer", of the scan data that "outlive start and
+  -- stop"
   pub replies : AtEach (RepliesAt own) (trace own calls)
+  -- "A new call sets record octets for the reply": where the table, which asks no mode of it, does not refuse them
   pub sets : AtEach SetsAt (trace own calls)
   -- "A connection begins exactly when an advertising board is handed a CRC-good, well-formed connect request to its own address, kind included, marking
   -- n ≥ 1 channels; that request's call gives its first event."
@@ -195,6 +203,8 @@ pub record Demand3 (own : DeviceAddress) (calls : List Call) : Type 0 where
   pub stops : AtEach StopsAt (trace own calls)
   -- "The mode is read from the list": the device's is the same
   pub mode : deviceAfter own calls .mode ≡ modeAfter own calls
+  -- Note 1: "the device's state carries the built reply", that of the scan data which the list gives
+  pub carries : ReplyOf own (scanDataAfter own calls) (deviceAfter own calls .«scan_response»)
   -- "Striking out any of the list's CRC-bad or malformed packets, or of those not for this board, leaves every other call's result and octets,
   pub others-same : (ch : Choice own calls) → trace own (remaining ch calls) ≡ remaining ch (trace own calls)
   -- and the device at the end, the same."

@@ -4,12 +4,14 @@
 --   Modes         Words.modes              which mode advertises, and which is connected
 --   Refusing      Words.refusing           a refused call changes nothing
 --   Transmits     Words.transmits          what an accepted start and tick write
+--   Judged        Replies.judged           a reply by the Core: its header by numbers, and what it is read as
 --   Bare          Replies.bare             a fresh device's reply has no scan data
---   Setting       Replies.setting          what setting scan data changes, and what nothing else does
---   Hearing       Words.hearing            what a packet to an advertising device comes to
+--   Setting       Replies.setting          which scan data are set, what that changes, and that no other call changes the reply
+--   Hearing       Words.hearing            what a packet comes to
 --   Example       Example.example          a list of calls with document 01's row of the hop
 --   Titled        Example.titled           a list of calls with scan data, and the octets of a reply
-use mathlib.Core.Bool.{Bool, true}
+--   Limits        Example.limits           a list of calls on both sides of each limit
+use mathlib.Core.Bool.{Bool, true, false}
 use mathlib.Core.List.{List, [], _∷_, _++_, map}
 use mathlib.Core.Logic.{_⊎_}
 use mathlib.Core.Path.{_≡_}
@@ -18,23 +20,24 @@ use lib.ListN.{length, take, drop, replicate}
 use Rattle.octets.specs.Bytes.{part, le}
 use Rattle.octets.specs.Time.{later}
 use Rattle.octets.specs.declared.error.Error.{Error}
-use Rattle.octets.specs.declared.error.Error.the-variants.{Eof}
+use Rattle.octets.specs.declared.error.Error.the-variants.{Eof, InvalidLength, WrongMode, EmptyMap}
 use Rattle.octets.specs.declared.time.Instant.{Instant}
 use Rattle.channels.specs.Hop.{eventChannel}
 use Rattle.channels.specs.Map.{marks}
 use Rattle.channels.specs.declared.phy.AdvertisingChannel.the-variants.{Channel38, Channel39}
-use Rattle.records.specs.Area.{rewritten}
-use Rattle.addresses.specs.Address.{kindOf, addressOf}
+use Rattle.records.specs.Area.{readArea, rewritten}
+use Rattle.records.specs.declared.area.Area.the-variants as area
+use Rattle.addresses.specs.Address.{kindNumber, kindOf, addressOf}
 use Rattle.addresses.specs.Header.{headerOf, bits, rxAdd}
 use Rattle.addresses.specs.declared.device_address.AddressKind.the-variants.{Public, Random}
 use Rattle.addresses.specs.declared.device_address.DeviceAddress.{DeviceAddress}
 use Rattle.addresses.specs.declared.header.Header.{Header}
+use Rattle.addresses.specs.declared.header.PduType.the-variants.{ScanRsp}
 use Rattle.advertising.specs.Pdu.{decodeOf, wellFormed}
 use Rattle.advertising.specs.PduBuf.{flagsRecord, payloadOf}
 use Rattle.advertising.specs.declared.pdu.Outcome.the-variants as outcome
-use Rattle.advertising.specs.declared.pdu_buf.PduBuf.{PduBuf}
 use Rattle.radio.specs.Calls.{isAdvertising, isConnected, instant, fresh, packetOf, packetAfter}
-use Rattle.radio.specs.Demand.{numberIn, replyHeader, replyOctets}
+use Rattle.radio.specs.Demand.{numberIn, replyHeader, replyOctets, ReplyOf}
 use Rattle.radio.specs.Trace.{Call, start, tick, packet, event, stop, setScanData, callOf, octetsOf, forBoard, scans, mapIn, hopIn, connects, replySize, Entry, trace, eventOn, channelsBy, times, Strikable}
 use Rattle.radio.specs.declared.link.Answer.{Answer}
 use Rattle.radio.specs.declared.link.Answer.the-variants.{Refused, Sent, Listen, Respond, FirstEvent, NextEvent, Stopped, ScanDataSet}
@@ -110,17 +113,25 @@ pub record Transmits (d : Device) (tx : List ℕ) : Type 0 where
       → let payload : List ℕ = (d .«dev_addr» .bytes ++ flagsRecord) ++ rewritten records in
       octetsOf d (start time interval records tx) ≡ records ∷ (payload ++ drop (length payload) tx) ∷ []
 
--- the PDU is the reply of the address `own` with the scan data s
-pub record ReplyOf (own : DeviceAddress) (s : List ℕ) (b : PduBuf) : Type 0 where
-  pub header : b .header ≡ replyHeader own s
-  pub payload : payloadOf b ≡ replyOctets own s
+-- What is answered and written is, by the Core, a SCAN_RSP of the address `own`, kind included, with the records of s, of which there are n.
+pub record Judged (own : DeviceAddress) (s : List ℕ) (n : ℕ) : Type 0 where
+  -- the 16 bits of the header: type 4, TxAdd the kind, no RxAdd, no reserved bit, the length
+  pub header : replyHeader own s .0 ≡ 4 + 64 * kindNumber (own .kind) + 256 * (6 + length s)
+  pub decoded : decodeOf (replyHeader own s) (replyOctets own s) .outcome ≡ outcome.Accepted
+  pub type : decodeOf (replyHeader own s) (replyOctets own s) .pdu .ty ≡ ScanRsp
+  pub sender : decodeOf (replyHeader own s) (replyOctets own s) .pdu .sender ≡ own
+  pub count : decodeOf (replyHeader own s) (replyOctets own s) .pdu .«adv_data» .count ≡ n
 
 -- "A fresh device", of an address of six octets, has the reply without scan data.
 abbrev pub Bare : DeviceAddress → Type 0
 Bare own = ReplyOf own [] (fresh own .«scan_response»)
 
--- Setting scan data, where it is not refused, makes the reply of them and changes nothing else; no other call changes the reply.
+-- Scan data are set, in any mode, where they are an accepted area of at most 31 octets, and refused otherwise, a bad area as its first bad record is. The
+-- reply is then theirs, and nothing else changes; no other call changes the reply.
 pub record Setting (d : Device) : Type 0 where
+  pub accepted : length (d .«dev_addr» .bytes) ≡ 6 → (s : List ℕ) (n : ℕ) → readArea s ≡ area.Accepted n → length s ≤ 31 → callOf d (setScanData s) .answer ≡ ScanDataSet
+  pub bad-area : (s : List ℕ) (e : Error) → readArea s ≡ area.Refused e → callOf d (setScanData s) .answer ≡ Refused e
+  pub too-long : length (d .«dev_addr» .bytes) ≡ 6 → (s : List ℕ) (n : ℕ) → readArea s ≡ area.Accepted n → 31 < length s → callOf d (setScanData s) .answer ≡ Refused Eof
   pub reply : length (d .«dev_addr» .bytes) ≡ 6 → (s : List ℕ) → numberIn (callOf d (setScanData s) .answer) ≡ 0
       → ReplyOf (d .«dev_addr») s (callOf d (setScanData s) .device .«scan_response»)
   pub alone : (s : List ℕ)
@@ -132,10 +143,12 @@ pub record Setting (d : Device) : Type 0 where
   pub hopping : callOf d event .device .«scan_response» ≡ d .«scan_response»
   pub stopping : callOf d stop .device .«scan_response» ≡ d .«scan_response»
 
--- What a packet to an advertising device comes to. Bad, malformed or foreign ones, and type 1 sent to us, keep listening; a scan request to us gets the reply
--- with the scan data s, where the transmit buffer has room; a connect request to us gives event 0, at packet end + window offset + window size + 1,750 µs,
--- with access address and CRC start, by the request's own octets. Only the reply is written.
+-- What a packet comes to. A device that does not advertise refuses it with 5. To one that does, bad, malformed or foreign ones, and type 1 sent to us, keep
+-- listening; a scan request to us gets the reply with the scan data s, whichever the device has, and where the transmit buffer has no room for it is 1;
+-- a connect request to us gives event 0, at packet end + window offset + window size + 1,750 µs, with access address and CRC start, by the request's own
+-- octets, and where it marks no channel is 6. Only a scan request to us changes the transmit buffer.
 pub record Hearing (d : Device) (end : Instant) (h : Header) (p : List ℕ) (crcGood : Bool) (tx : List ℕ) : Type 0 where
+  pub off : isAdvertising (d .mode) ≡ false → packetOf d end h p crcGood tx ≡ record { answer = Refused WrongMode; device = d }
   pub bad : d .mode ≡ Advertising → Strikable (d .«dev_addr») (packet end h p crcGood tx)
       → packetOf d end h p crcGood tx ≡ record { answer = Listen (d .adv .channel); device = d }
   pub other : d .mode ≡ Advertising → crcGood ≡ true → ForBoard (d .«dev_addr») h p → bits 0 4 h ≡ 1
@@ -150,6 +163,8 @@ pub record Hearing (d : Device) (end : Instant) (h : Header) (p : List ℕ) (crc
       → packetOf d end h p crcGood tx .answer
       ≡ FirstEvent (record { index = eventChannel (part 5 p 28) (le (part 1 p 33) % 32) 0 })
       (instant (later (end .0) (le (part 2 p 20) * 1250 + le (part 1 p 19) * 1250 + 1750))) (le (part 4 p 12)) (le (part 3 p 16))
+  pub empty : d .mode ≡ Advertising → crcGood ≡ true → ForBoard (d .«dev_addr») h p → bits 0 4 h ≡ 5 → marks (part 5 p 28) ≡ 0
+      → packetOf d end h p crcGood tx ≡ record { answer = Refused EmptyMap; device = d }
   pub unwritten : (Scans (d .«dev_addr») h p crcGood → ⊥) → packetAfter d h p crcGood tx ≡ tx
 
 -- A list of calls: a start at 4294967290 with an interval of 100, a tick, a connect request at 1000 with window size 2, window offset 3, map
@@ -232,8 +247,8 @@ pub record Titled : Type 0 where
       ∷ Respond (headerOf 0x0644) Channel39
       ∷ Refused Eof
       ∷ []
-  -- the buffers behind the first: the own address, the data with Flags 06, and the octet behind them kept; as lent; none; what the start wrote; none; the
-  -- reply; none; the own address alone; as lent
+  -- the buffers behind the first, from the first request on: the own address, the data with Flags 06, and the octet behind them kept; as lent; a stop has
+  -- none; what the start wrote; the tick's is its first; the reply; the data that are set are the first; the own address alone; as lent
   pub octets : map (λ (e : Entry). drop 1 (e .octets)) (drop 3 titledTrace)
       ≡ ((0x01 ∷ 0x02 ∷ 0x03 ∷ 0x04 ∷ 0x05 ∷ 0xC6 ∷ 0x02 ∷ 0x01 ∷ 0x06 ∷ 0x03 ∷ 0x09 ∷ 0x47 ∷ 0x6F ∷ 0xFF ∷ []) ∷ [])
       ∷ (replicate 12 0xFF ∷ [])
@@ -245,3 +260,75 @@ pub record Titled : Type 0 where
       ∷ ((0x01 ∷ 0x02 ∷ 0x03 ∷ 0x04 ∷ 0x05 ∷ 0xC6 ∷ []) ∷ [])
       ∷ (replicate 5 0xFF ∷ [])
       ∷ []
+
+-- A list of calls of a board with a public address, on both sides of each limit: in standby a tick, an event, a scan request; starts with 29 and 28 octets of
+-- records, the second with a transmit buffer of 36 and of 37, and a tick with 36; the bare reply with a buffer of 7 octets, 6 and 5; while advertising scan data
+-- of 31 octets, of 32, and of 32 that end in a bad record; the reply with a buffer of 36 and 37; connect requests without a channel and with two; while
+-- connected a scan request, a tick, an event, and no scan data; after a start the bare reply.
+abbrev pub manufacturer : ℕ → List ℕ
+manufacturer n = (1 + n) ∷ 0xFF ∷ replicate n 0x2A
+
+abbrev pub askedPublic : ℕ → Call
+askedPublic n =
+    packet (instant 1000) (headerOf 0x0C03) (0x11 ∷ 0x12 ∷ 0x13 ∷ 0x14 ∷ 0x15 ∷ 0x16 ∷ 0x01 ∷ 0x02 ∷ 0x03 ∷ 0x04 ∷ 0x05 ∷ 0x06 ∷ []) true (replicate n 0xFF)
+
+abbrev pub limitsTrace : List Entry
+limitsTrace =
+    trace board (
+    tick (replicate 37 0)
+    ∷ event
+    ∷ askedPublic 37
+    ∷ start (instant 0) 100 (manufacturer 27) (replicate 38 0)
+    ∷ start (instant 0) 100 (manufacturer 26) (replicate 36 0)
+    ∷ start (instant 0) 100 (manufacturer 26) (replicate 37 0)
+    ∷ tick (replicate 36 0)
+    ∷ askedPublic 7
+    ∷ askedPublic 6
+    ∷ askedPublic 5
+    ∷ setScanData (manufacturer 29)
+    ∷ setScanData (manufacturer 30)
+    ∷ setScanData (manufacturer 29 ++ (0x00 ∷ []))
+    ∷ askedPublic 36
+    ∷ askedPublic 37
+    ∷ packet (instant 1000) (headerOf 0x2205) (take 28 request ++ (0x00 ∷ 0x00 ∷ 0x00 ∷ 0x00 ∷ 0xE0 ∷ 0x05 ∷ [])) true []
+    ∷ packet (instant 1000) (headerOf 0x2205) request true []
+    ∷ askedPublic 37
+    ∷ tick (replicate 37 0)
+    ∷ event
+    ∷ setScanData []
+    ∷ start (instant 0) 100 [] (replicate 9 0)
+    ∷ askedPublic 6
+    ∷ []
+    )
+
+pub record Limits : Type 0 where
+  pub answers : map (λ (e : Entry). e .result .answer) limitsTrace
+      ≡ Refused WrongMode
+      ∷ Refused WrongMode
+      ∷ Refused WrongMode
+      ∷ Refused Eof
+      ∷ Refused Eof
+      ∷ Sent (headerOf 0x2500) Channel38 (instant 100)
+      ∷ Refused Eof
+      ∷ Respond (headerOf 0x0604) Channel38
+      ∷ Respond (headerOf 0x0604) Channel38
+      ∷ Refused Eof
+      ∷ ScanDataSet
+      ∷ Refused Eof
+      ∷ Refused InvalidLength
+      ∷ Refused Eof
+      ∷ Respond (headerOf 0x2504) Channel38
+      ∷ Refused EmptyMap
+      ∷ FirstEvent (record { index = 3 }) (instant 9000) 0x8E89BED6 0x123456
+      ∷ Refused WrongMode
+      ∷ Refused WrongMode
+      ∷ NextEvent (record { index = 1 })
+      ∷ ScanDataSet
+      ∷ Sent (headerOf 0x0900) Channel38 (instant 100)
+      ∷ Respond (headerOf 0x0604) Channel38
+      ∷ []
+  -- what the bare replies and the longest one write
+  pub octets : map (λ (e : Entry). drop 1 (e .octets)) (take 2 (drop 7 limitsTrace))
+      ≡ ((0x01 ∷ 0x02 ∷ 0x03 ∷ 0x04 ∷ 0x05 ∷ 0x06 ∷ 0xFF ∷ []) ∷ []) ∷ ((0x01 ∷ 0x02 ∷ 0x03 ∷ 0x04 ∷ 0x05 ∷ 0x06 ∷ []) ∷ []) ∷ []
+  pub longest : map (λ (e : Entry). drop 1 (e .octets)) (take 1 (drop 14 limitsTrace))
+      ≡ ((0x01 ∷ 0x02 ∷ 0x03 ∷ 0x04 ∷ 0x05 ∷ 0x06 ∷ 0x1E ∷ 0xFF ∷ replicate 29 0x2A) ∷ []) ∷ []

@@ -10,7 +10,7 @@
 --   refusedBy own l c         == the number of the row of the table that refuses a call; 0 where none does
 --   readOn own l c            == the reading after the call
 --   trace own calls           == the calls from a fresh device, each with what the list says of it and what it gave
---   deviceAfter, modeAfter    == the device at the end, and the mode that the list gives then
+--   deviceAfter, modeAfter, scanDataAfter == the device at the end, and the mode and the scan data that the list gives then
 --   gather role entries       == the entries of a run of ticks, of events or of packets
 --   sentOn a, eventOn a       == the channel of a tick's answer, and of an event's; channelsBy: those of entries
 --   times c k n channels      == how many of the n channels from place k on are c
@@ -120,8 +120,8 @@ scansWith n own event = false
 scansWith n own stop = false
 scansWith n own (setScanData records) = false
 
--- the mode; how many octets the payload has that the last accepted start set up; the channel of the last accepted tick, a start's own included; and the
--- scan data of the last accepted call that set them, none before it
+-- the mode; how many octets the payload has that the last accepted start set up; the channel of the last accepted tick, a start's own included, and the first
+-- channel before it; and the scan data of the last accepted call that set them, none before it
 pub record Reading : Type 0 where
   pub mode : Mode
   pub payload : ℕ
@@ -167,7 +167,7 @@ refusedBy own l stop = 0
 refusedBy own l (setScanData records) = scanDataNumber records
 
 -- advertising after an accepted start, connected after a connect request while advertising, standby after a stop; each accepted tick goes on to the next
--- channel, a start's own from the first
+-- channel, a start's own from the first; only scan data that are accepted take the place of others
 unfoldable pub readOn : DeviceAddress → Reading → Call → Reading
 readOn own l (start time interval records tx) =
     cond (eqb (startNumber records tx) 0) (record { mode = Advertising; payload = 9 + length records; channel = cycled firstChannel; scanData = l .scanData }) l
@@ -222,6 +222,9 @@ readFrom own l (c ∷ cs) = readFrom own (readOn own l c) cs
 
 unfoldable pub modeAfter : DeviceAddress → List Call → Mode
 modeAfter own calls = readFrom own unread calls .mode
+
+unfoldable pub scanDataAfter : DeviceAddress → List Call → List ℕ
+scanDataAfter own calls = readFrom own unread calls .scanData
 
 -- P holds at each entry, with the entries that follow it
 pub data AtEach (P : Entry → List Entry → Type 0) : List Entry → Type 0 where
