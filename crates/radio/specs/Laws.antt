@@ -210,9 +210,13 @@ pub record Example : Type 0 where
 abbrev pub title : List ℕ
 title = 0x02 ∷ 0x01 ∷ 0x86 ∷ 0x03 ∷ 0x09 ∷ 0x47 ∷ 0x6F ∷ []
 
+-- a packet under a header, to the address 01 02 03 04 05 and one octet more, with a transmit buffer of n octets
+abbrev pub sentTo : ℕ → ℕ → Bool → ℕ → Call
+sentTo header last crcGood n =
+    packet (instant 1000) (headerOf header) (0x11 ∷ 0x12 ∷ 0x13 ∷ 0x14 ∷ 0x15 ∷ 0x16 ∷ 0x01 ∷ 0x02 ∷ 0x03 ∷ 0x04 ∷ 0x05 ∷ last ∷ []) crcGood (replicate n 0xFF)
+
 abbrev pub asked : ℕ → Call
-asked n =
-    packet (instant 1000) (headerOf 0x0C83) (0x11 ∷ 0x12 ∷ 0x13 ∷ 0x14 ∷ 0x15 ∷ 0x16 ∷ 0x01 ∷ 0x02 ∷ 0x03 ∷ 0x04 ∷ 0x05 ∷ 0xC6 ∷ []) true (replicate n 0xFF)
+asked n = sentTo 0x0C83 0xC6 true n
 
 abbrev pub titledTrace : List Entry
 titledTrace =
@@ -262,15 +266,15 @@ pub record Titled : Type 0 where
       ∷ []
 
 -- A list of calls of a board with a public address, on both sides of each limit: in standby a tick, an event, a scan request; starts with 29 and 28 octets of
--- records, the second with a transmit buffer of 36 and of 37, and a tick with 36; the bare reply with a buffer of 7 octets, 6 and 5; while advertising scan data
--- of 31 octets, of 32, and of 32 that end in a bad record; the reply with a buffer of 36 and 37; connect requests without a channel and with two; while
--- connected a scan request, a tick, an event, and no scan data; after a start the bare reply.
+-- records, the second with a transmit buffer of 36 and of 37, and a tick with 36; the bare reply with a buffer of 7 octets, 6 and 5; a scan request that is
+-- CRC-bad, to another address, to the random one, and type 1 to us; while advertising scan data of 31 octets, of 32, and of 32 that end in a bad record; the
+-- reply with a buffer of 36 and 37; connect requests without a channel and with two; while connected a scan request, a tick, a bad start, an event, and no
+-- scan data; after a start the bare reply.
 abbrev pub manufacturer : ℕ → List ℕ
 manufacturer n = (1 + n) ∷ 0xFF ∷ replicate n 0x2A
 
 abbrev pub askedPublic : ℕ → Call
-askedPublic n =
-    packet (instant 1000) (headerOf 0x0C03) (0x11 ∷ 0x12 ∷ 0x13 ∷ 0x14 ∷ 0x15 ∷ 0x16 ∷ 0x01 ∷ 0x02 ∷ 0x03 ∷ 0x04 ∷ 0x05 ∷ 0x06 ∷ []) true (replicate n 0xFF)
+askedPublic n = sentTo 0x0C03 0x06 true n
 
 abbrev pub limitsTrace : List Entry
 limitsTrace =
@@ -285,6 +289,10 @@ limitsTrace =
     ∷ askedPublic 7
     ∷ askedPublic 6
     ∷ askedPublic 5
+    ∷ sentTo 0x0C03 0x06 false 37
+    ∷ sentTo 0x0C03 0x07 true 37
+    ∷ sentTo 0x0C83 0x06 true 37
+    ∷ sentTo 0x0C01 0x06 true 5
     ∷ setScanData (manufacturer 29)
     ∷ setScanData (manufacturer 30)
     ∷ setScanData (manufacturer 29 ++ (0x00 ∷ []))
@@ -294,6 +302,7 @@ limitsTrace =
     ∷ packet (instant 1000) (headerOf 0x2205) request true []
     ∷ askedPublic 37
     ∷ tick (replicate 37 0)
+    ∷ start (instant 0) 100 (0x00 ∷ []) (replicate 9 0)
     ∷ event
     ∷ setScanData []
     ∷ start (instant 0) 100 [] (replicate 9 0)
@@ -313,6 +322,10 @@ pub record Limits : Type 0 where
       ∷ Respond (headerOf 0x0604) Channel38
       ∷ Respond (headerOf 0x0604) Channel38
       ∷ Refused Eof
+      ∷ Listen Channel38
+      ∷ Listen Channel38
+      ∷ Listen Channel38
+      ∷ Listen Channel38
       ∷ ScanDataSet
       ∷ Refused Eof
       ∷ Refused InvalidLength
@@ -322,13 +335,21 @@ pub record Limits : Type 0 where
       ∷ FirstEvent (record { index = 3 }) (instant 9000) 0x8E89BED6 0x123456
       ∷ Refused WrongMode
       ∷ Refused WrongMode
+      ∷ Refused InvalidLength
       ∷ NextEvent (record { index = 1 })
       ∷ ScanDataSet
       ∷ Sent (headerOf 0x0900) Channel38 (instant 100)
       ∷ Respond (headerOf 0x0604) Channel38
       ∷ []
-  -- what the bare replies and the longest one write
-  pub octets : map (λ (e : Entry). drop 1 (e .octets)) (take 2 (drop 7 limitsTrace))
-      ≡ ((0x01 ∷ 0x02 ∷ 0x03 ∷ 0x04 ∷ 0x05 ∷ 0x06 ∷ 0xFF ∷ []) ∷ []) ∷ ((0x01 ∷ 0x02 ∷ 0x03 ∷ 0x04 ∷ 0x05 ∷ 0x06 ∷ []) ∷ []) ∷ []
-  pub longest : map (λ (e : Entry). drop 1 (e .octets)) (take 1 (drop 14 limitsTrace))
+  -- what the first seven packets leave in their transmit buffers, the bare replies' and the others as they were lent; and the longest reply
+  pub octets : map (λ (e : Entry). drop 1 (e .octets)) (take 7 (drop 7 limitsTrace))
+      ≡ ((0x01 ∷ 0x02 ∷ 0x03 ∷ 0x04 ∷ 0x05 ∷ 0x06 ∷ 0xFF ∷ []) ∷ [])
+      ∷ ((0x01 ∷ 0x02 ∷ 0x03 ∷ 0x04 ∷ 0x05 ∷ 0x06 ∷ []) ∷ [])
+      ∷ (replicate 5 0xFF ∷ [])
+      ∷ (replicate 37 0xFF ∷ [])
+      ∷ (replicate 37 0xFF ∷ [])
+      ∷ (replicate 37 0xFF ∷ [])
+      ∷ (replicate 5 0xFF ∷ [])
+      ∷ []
+  pub longest : map (λ (e : Entry). drop 1 (e .octets)) (take 1 (drop 18 limitsTrace))
       ≡ ((0x01 ∷ 0x02 ∷ 0x03 ∷ 0x04 ∷ 0x05 ∷ 0x06 ∷ 0x1E ∷ 0xFF ∷ replicate 29 0x2A) ∷ []) ∷ []
