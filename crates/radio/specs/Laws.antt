@@ -205,8 +205,8 @@ pub record Example : Type 0 where
       ∷ []
 
 -- A list of calls of a board with a random address: Flags with an undefined bit and the name "Go" are set, refused data change nothing, a start, a scan
--- request from 11 12 13 14 15 16 with a transmit buffer of 14 octets, the same with one octet too few; then a stop, a start and a tick, and the request again;
--- then no data are set, and the request has a buffer of 6 octets and one of 5.
+-- request from 11 12 13 14 15 16 with a transmit buffer of 14 octets, the same with one octet too few; then a stop and the request, a start and a tick, and
+-- the request again; then no data are set, and the request has a buffer of 6 octets and one of 5.
 abbrev pub title : List ℕ
 title = 0x02 ∷ 0x01 ∷ 0x86 ∷ 0x03 ∷ 0x09 ∷ 0x47 ∷ 0x6F ∷ []
 
@@ -227,6 +227,7 @@ titledTrace =
     ∷ asked 14
     ∷ asked 12
     ∷ stop
+    ∷ asked 13
     ∷ start (instant 0) 100 [] (replicate 9 0)
     ∷ tick (replicate 9 0)
     ∷ asked 13
@@ -244,6 +245,7 @@ pub record Titled : Type 0 where
       ∷ Respond (headerOf 0x0D44) Channel38
       ∷ Refused Eof
       ∷ Stopped
+      ∷ Refused WrongMode
       ∷ Sent (headerOf 0x0940) Channel38 (instant 100)
       ∷ Sent (headerOf 0x0940) Channel39 (instant 200)
       ∷ Respond (headerOf 0x0D44) Channel39
@@ -252,11 +254,12 @@ pub record Titled : Type 0 where
       ∷ Refused Eof
       ∷ []
   -- the buffers behind the first, from the first request on: the own address, the data with Flags 06, and the octet behind them kept; as lent; a stop has
-  -- none; what the start wrote; the tick's is its first; the reply; the data that are set are the first; the own address alone; as lent
+  -- none; as lent; what the start wrote; the tick's is its first; the reply; the data that are set are the first; the own address alone; as lent
   pub octets : map (λ (e : Entry). drop 1 (e .octets)) (drop 3 titledTrace)
       ≡ ((0x01 ∷ 0x02 ∷ 0x03 ∷ 0x04 ∷ 0x05 ∷ 0xC6 ∷ 0x02 ∷ 0x01 ∷ 0x06 ∷ 0x03 ∷ 0x09 ∷ 0x47 ∷ 0x6F ∷ 0xFF ∷ []) ∷ [])
       ∷ (replicate 12 0xFF ∷ [])
       ∷ []
+      ∷ (replicate 13 0xFF ∷ [])
       ∷ ((0x01 ∷ 0x02 ∷ 0x03 ∷ 0x04 ∷ 0x05 ∷ 0xC6 ∷ 0x02 ∷ 0x01 ∷ 0x06 ∷ []) ∷ [])
       ∷ []
       ∷ ((0x01 ∷ 0x02 ∷ 0x03 ∷ 0x04 ∷ 0x05 ∷ 0xC6 ∷ 0x02 ∷ 0x01 ∷ 0x06 ∷ 0x03 ∷ 0x09 ∷ 0x47 ∷ 0x6F ∷ []) ∷ [])
