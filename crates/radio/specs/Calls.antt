@@ -15,7 +15,7 @@
 --   connectsTo d end l        == the connection that a request asks for, at its first event
 --   addressed d end l tx ty   == a packet of type ty that is for this device
 --   heard d end pdu tx        == a CRC-good packet
---   repliesWith d pdu         == the device with another reply
+--   repliesWith d pdu         == the device with another reply; setTo d pdu o: where the builder took the data
 --   hops d                    == the next event of the connection
 --   startOf, tickOf, packetOf, scanDataOf, eventOf, stopOf == what the six calls answer
 --   startAfter, tickAfter, packetAfter == the transmit buffer after them

@@ -54,7 +54,7 @@ pub struct Connection {
 pub struct Device {
     mode: Mode,
     dev_addr: DeviceAddress,
-    // What a scan request is answered with, in every mode: the own address and the scan data.
+    // The reply to a scan request, the own address and the scan data: it has a meaning in every mode.
     scan_response: PduBuf,
     adv: Advertisement,
     conn: Connection,
