@@ -16,16 +16,13 @@ returns-2 c = (
   c .before .before .before .before .before .before .write-payload .ensures .1,
 )
 
-header-requires : tie.Need-header-requires
-header-requires c κs = search needs
-
 pub respond-spec : {M : Type 1} → statement M
 respond-spec =
     tie.close
     (tie.spec
     (λ c κs. search needs)
     (λ c. search needs)
-    header-requires
+    (λ c κs. search needs)
     (λ c. search needs)
     (λ c κs. search needs)
     (λ c. search needs)
