@@ -1,0 +1,81 @@
+-- Laws of the bits of a number. Assumes nothing.
+use mathlib.Core.Path.{_≡_, refl, sym, ap, ap₂, _∙_}
+use mathlib.Core.Bool.{Bool, true, false}
+use mathlib.Core.List.{List, [], _∷_, _++_}
+use Prim.Native.Nat.{ℕ, zero, suc, _+_, _*_, _/_, _%_, _^_, _<_}
+use native.Mathlib.Nat.{mod-lt, pow-suc, div-add-mod'}
+use native.Mathlib.Omega.{arith}
+use lib.Bits.{block-half, block-odd}
+use lib.Dec.{eqb}
+use lib.ListN.{length}
+use Rattle.channels.specs.Count.{bit}
+use Rattle.whitening.specs.Bits.{bits, number}
+
+-- a number below 2
+pub below-two : (P : ℕ → Type 0) → P 0 → P 1 → (n : ℕ) → n < 2 → P n
+below-two P p q zero h = p
+below-two P p q (suc zero) h = q
+below-two P p q (suc (suc n)) h = absurd (omega arith)
+
+pub odd-bit : (x : ℕ) → bit (eqb (x % 2) 1) ≡ x % 2
+odd-bit x = below-two (λ n. bit (eqb n 1) ≡ n) refl refl (x % 2) (mod-lt x (omega arith))
+
+pub bit-odd : (b : Bool) (n : ℕ) → eqb ((bit b + 2 * n) % 2) 1 ≡ b
+bit-odd true n = let e : (1 + 2 * n) % 2 ≡ 1 = omega arith in rw e
+bit-odd false n = let e : (0 + 2 * n) % 2 ≡ 0 = omega arith in rw e
+
+pub bit-half : (b : Bool) (n : ℕ) → (bit b + 2 * n) / 2 ≡ n
+bit-half true n = omega arith
+bit-half false n = omega arith
+
+pub number-bits-8 : (x : ℕ) → number (bits 8 x) ≡ x % 256
+unfolding number bits
+number-bits-8 x =
+    omega (
+      arith,
+      odd-bit x,
+      odd-bit (x / 2),
+      odd-bit (x / 2 / 2),
+      odd-bit (x / 2 / 2 / 2),
+      odd-bit (x / 2 / 2 / 2 / 2),
+      odd-bit (x / 2 / 2 / 2 / 2 / 2),
+      odd-bit (x / 2 / 2 / 2 / 2 / 2 / 2),
+      odd-bit (x / 2 / 2 / 2 / 2 / 2 / 2 / 2),
+    )
+
+-- the highest bits of a small number are 0
+pub bits-more : (n x : ℕ) → x < 2 ^ n → bits n x ++ false ∷ [] ≡ bits (suc n) x
+unfolding bits
+bits-more zero x h = let e : x ≡ 0 = omega arith in rw e
+bits-more (suc n) x h = ap (λ (l : List Bool). eqb (x % 2) 1 ∷ l) (bits-more n (x / 2) (omega (arith, pow-suc 2 n)))
+
+pub bits-length : (n x : ℕ) → length (bits n x) ≡ n
+unfolding bits
+bits-length zero x = refl
+bits-length (suc n) x = ap suc (bits-length n (x / 2))
+
+-- a number and its bits determine each other
+pub bits-number : (bs : List Bool) → bits (length bs) (number bs) ≡ bs
+unfolding bits number
+bits-number [] = refl
+bits-number (b ∷ bs) = ap₂ _∷_ (bit-odd b (number bs)) (ap (bits (length bs)) (bit-half b (number bs)) ∙ bits-number bs)
+
+pub number-bits : (n x : ℕ) → x < 2 ^ n → number (bits n x) ≡ x
+unfolding bits number
+number-bits zero x h = omega arith
+number-bits (suc n) x h = omega (arith, odd-bit x, number-bits n (x / 2) (omega (arith, pow-suc 2 n)))
+
+pub number-small : (bs : List Bool) → number bs < 2 ^ length bs
+unfolding number
+number-small [] = omega arith
+number-small (true ∷ bs) = omega (arith, number-small bs, pow-suc 2 (length bs))
+number-small (false ∷ bs) = omega (arith, number-small bs, pow-suc 2 (length bs))
+
+-- higher bits do not count
+bits-low : (n a r : ℕ) → bits n (a * 2 ^ n + r) ≡ bits n r
+unfolding bits
+bits-low zero a r = refl
+bits-low (suc n) a r = ap₂ (λ (d h : ℕ). eqb d 1 ∷ bits n h) (block-odd a n r) (block-half a n r) ∙ ap (λ (l : List Bool). eqb (r % 2) 1 ∷ l) (bits-low n a (r / 2))
+
+pub bits-24 : (x : ℕ) → bits 24 (x % 2 ^ 24) ≡ bits 24 x
+bits-24 x = sym (bits-low 24 (x / 2 ^ 24) (x % 2 ^ 24)) ∙ ap (bits 24) (div-add-mod' x (2 ^ 24))

@@ -1,0 +1,14 @@
+pub mod Octets
+pub mod Bits
+pub mod Registers
+pub mod Steps
+pub mod Rows
+pub mod Adding
+pub mod Twice
+pub mod Errors
+pub mod Limits
+pub mod Heard
+pub mod Numbers
+pub mod Starts
+pub mod Polynomials
+pub mod Examples

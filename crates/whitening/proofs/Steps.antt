@@ -1,0 +1,153 @@
+-- Eight shifts of the CRC's register at once: the register is linear in what it holds and takes in, and no bit fed back within eight shifts leaves in them. What
+-- the eight bits fed back come to is one computed test over all 256 of them. Assumes nothing.
+use mathlib.Core.Path.{_≡_, refl, sym, ap, ap₂, subst, _∙_}
+use Prim.Native.Nat.{ℕ, zero, suc, _+_, _*_, _/_, _%_, _^_, _<_}
+use native.Mathlib.Nat.{mod-lt, pow-suc, add-zero, div-add-mod'}
+use native.Mathlib.Omega.{arith}
+use lib.Arith.{bin-ind}
+use lib.Dec.{eqb}
+use lib.Bits.{bitXor, differ, xor-step, xor-shr, xor-mod, xor-zero-l, xor-zero-r, xor-comm, xor-add-and, xor-lt, xor-shifted, shifted-half, shifted-even}
+use borrow.Author.Tests.{eqb-true}
+use Rattle.channels.specs.Count.{count}
+use Rattle.channels.proofs.Counting.{count-all}
+use Rattle.whitening.specs.Bits.{bits}
+use Rattle.whitening.specs.Crc.{crcAfter}
+use Rattle.whitening.specs.Number.{Register}
+use Rattle.whitening.proofs.Bits.{below-two}
+use Rattle.whitening.proofs.Registers.{crcNumber, register-after-bit, register-turn}
+
+-- ---- sums modulo 2
+
+xor-assoc : (a b c : ℕ) → bitXor (bitXor a b) c ≡ bitXor a (bitXor b c)
+xor-assoc =
+    bin-ind (λ (n : ℕ). (b c : ℕ) → bitXor (bitXor n b) c ≡ bitXor n (bitXor b c))
+    (λ b c. ap (λ (m : ℕ). bitXor m c) (xor-zero-l b) ∙ sym (xor-zero-l (bitXor b c)))
+    (λ n ih b c.
+    xor-step (bitXor n b) c
+    ∙ ap₂ (λ (h d : ℕ). bitXor h (c / 2) * 2 + differ d (c % 2)) (xor-shr n b 1) (xor-mod n b 1)
+    ∙ ap₂ (λ (h d : ℕ). h * 2 + d) (ih (b / 2) (c / 2)) (digit (n % 2) (b % 2) (c % 2) (mod-lt n (omega arith)) (mod-lt b (omega arith)) (mod-lt c (omega arith)))
+    ∙ sym (ap₂ (λ (h d : ℕ). bitXor (n / 2) h * 2 + differ (n % 2) d) (xor-shr b c 1) (xor-mod b c 1))
+    ∙ sym (xor-step n (bitXor b c)))
+  where
+    digit : (x y z : ℕ) → x < 2 → y < 2 → z < 2 → differ (bitXor x y) z ≡ differ x (bitXor y z)
+    digit x y z h l m =
+        below-two (λ x. differ (bitXor x y) z ≡ differ x (bitXor y z))
+        (below-two (λ y. differ (bitXor 0 y) z ≡ differ 0 (bitXor y z))
+        (below-two (λ z. differ (bitXor 0 0) z ≡ differ 0 (bitXor 0 z)) refl refl z m)
+        (below-two (λ z. differ (bitXor 0 1) z ≡ differ 0 (bitXor 1 z)) refl refl z m)
+        y
+        l)
+        (below-two (λ y. differ (bitXor 1 y) z ≡ differ 1 (bitXor y z))
+        (below-two (λ z. differ (bitXor 1 0) z ≡ differ 1 (bitXor 0 z)) refl refl z m)
+        (below-two (λ z. differ (bitXor 1 1) z ≡ differ 1 (bitXor 1 z)) refl refl z m)
+        y
+        l)
+        x
+        h
+
+xor-swap : (a b c : ℕ) → bitXor (bitXor a b) c ≡ bitXor (bitXor a c) b
+xor-swap a b c = xor-assoc a b c ∙ ap (bitXor a) (xor-comm b c) ∙ sym (xor-assoc a c b)
+
+xor-four : (a b c d : ℕ) → bitXor (bitXor a b) (bitXor c d) ≡ bitXor (bitXor a c) (bitXor b d)
+xor-four a b c d =
+    sym (xor-assoc (bitXor a b) c d) ∙ ap (λ (n : ℕ). bitXor n d) (xor-swap a b c) ∙ xor-assoc (bitXor a c) b d
+
+-- ---- the register as a number: after a bit, and after k bits of d
+
+abbrev afterBit : ℕ → ℕ → ℕ
+afterBit r d = bitXor (r / 2) (crcNumber * ((r + d) % 2))
+
+unfoldable reached : ℕ → ℕ → ℕ → ℕ
+reached zero r d = r
+reached (suc k) r d = reached k (afterBit r d) (d / 2)
+
+reached-is : (k r d : ℕ) → r < 2 ^ 24 → Register (reached k r d) (crcAfter (bits 24 r) (bits k d))
+unfolding reached bits crcAfter
+reached-is zero r d h = record { same = refl; small = h }
+reached-is (suc k) r d h =
+    let one = register-after-bit r d h in
+    let rest = reached-is k (afterBit r d) (d / 2) (one .small) in
+    record { same = rest .same ∙ register-turn k r d (afterBit r d) (one .same); small = rest .small }
+
+-- bits that are taken in might as well stand in the register's lowest places
+into : (k r d : ℕ) → d < 2 ^ k → reached k r d ≡ reached k (bitXor r d) 0
+unfolding reached
+into zero r d h = let e : d ≡ 0 = omega arith in sym (ap (bitXor r) e ∙ xor-zero-r r)
+into (suc k) r d h = into k (afterBit r d) (d / 2) (omega (arith, pow-suc 2 k)) ∙ ap (λ (n : ℕ). reached k n 0) (turn r d)
+  where
+    turn : (r d : ℕ) → bitXor (afterBit r d) (d / 2) ≡ afterBit (bitXor r d) 0
+    turn r d =
+        let odd : (r + d) % 2 ≡ (bitXor r d + 0) % 2 = omega (arith, xor-add-and r d) in
+        xor-swap (r / 2) (crcNumber * ((r + d) % 2)) (d / 2)
+        ∙ ap₂ (λ (h b : ℕ). bitXor h (crcNumber * b)) (sym (xor-shr r d 1)) odd
+
+two-taps : (m n : ℕ) → m < 2 → n < 2 → crcNumber * ((m + n) % 2) ≡ bitXor (crcNumber * m) (crcNumber * n)
+two-taps m n h l =
+    below-two (λ m. crcNumber * ((m + n) % 2) ≡ bitXor (crcNumber * m) (crcNumber * n))
+    (below-two (λ n. crcNumber * ((0 + n) % 2) ≡ bitXor (crcNumber * 0) (crcNumber * n)) refl refl n l)
+    (below-two (λ n. crcNumber * ((1 + n) % 2) ≡ bitXor (crcNumber * 1) (crcNumber * n)) refl refl n l)
+    m
+    h
+
+linear : (k u v : ℕ) → reached k (bitXor u v) 0 ≡ bitXor (reached k u 0) (reached k v 0)
+unfolding reached
+linear zero u v = refl
+linear (suc k) u v = ap (λ (n : ℕ). reached k n 0) (turn u v) ∙ linear k (afterBit u 0) (afterBit v 0)
+  where
+    turn : (u v : ℕ) → afterBit (bitXor u v) 0 ≡ bitXor (afterBit u 0) (afterBit v 0)
+    turn u v =
+        let odd : (bitXor u v + 0) % 2 ≡ ((u + 0) % 2 + (v + 0) % 2) % 2 = omega (arith, xor-add-and u v) in
+        ap₂ (λ (h b : ℕ). bitXor h (crcNumber * b)) (xor-shr u v 1) odd
+        ∙ ap (bitXor (bitXor (u / 2) (v / 2))) (two-taps ((u + 0) % 2) ((v + 0) % 2) (mod-lt (u + 0) (omega arith)) (mod-lt (v + 0) (omega arith)))
+        ∙ xor-four (u / 2) (v / 2) (crcNumber * ((u + 0) % 2)) (crcNumber * ((v + 0) % 2))
+
+-- zeros only leave
+moved : (k h : ℕ) → reached k (h * 2 ^ k) 0 ≡ h
+unfolding reached
+moved zero h = omega arith
+moved (suc k) h = ap (λ (n : ℕ). reached k n 0) (turn k h) ∙ moved k h
+  where
+    turn : (k h : ℕ) → afterBit (h * 2 ^ suc k) 0 ≡ h * 2 ^ k
+    turn k h =
+        let even : (h * 2 ^ suc k + 0) % 2 ≡ 0 = ap (λ (n : ℕ). n % 2) (add-zero (h * 2 ^ suc k)) ∙ shifted-even h k in
+        ap₂ (λ (a b : ℕ). bitXor a (crcNumber * b)) (shifted-half h k) even ∙ xor-zero-r (h * 2 ^ k)
+
+-- ---- an octet
+
+-- the eight bits fed back, moved to the place of each term: 64 and 128, 4096 and 8192, 32768 and 65536 by pairs, and 1024
+abbrev pair : ℕ → ℕ
+pair x = bitXor x (2 * x)
+
+abbrev fed : ℕ → ℕ
+fed x = bitXor (1024 * x) (bitXor (64 * pair x) (bitXor (4096 * pair x) (32768 * pair x)))
+
+fed-is : (x : ℕ) → x < 256 → reached 8 x 0 ≡ fed x
+unfolding reached count
+fed-is x l = eqb-true (reached 8 x 0) (fed x) (count-all (λ x. eqb (reached 8 x 0) (fed x)) 256 refl x l)
+
+eight : (r d : ℕ) → d < 256 → reached 8 r d ≡ bitXor (bitXor r d / 256) (reached 8 (bitXor r d % 256) 0)
+eight r d h =
+    let y = bitXor r d in
+    let parts : y ≡ bitXor (y / 256 * 256) (y % 256) = sym (xor-shifted (y / 256) 8 (y % 256) (mod-lt y (omega arith)) ∙ div-add-mod' y 256) in
+    into 8 r d h
+    ∙ ap (λ (n : ℕ). reached 8 n 0) parts
+    ∙ linear 8 (y / 256 * 256) (y % 256)
+    ∙ ap (λ (n : ℕ). bitXor n (reached 8 (y % 256) 0)) (moved 8 (y / 256))
+
+pub register-after-octet : (r d : ℕ) → r < 2 ^ 24 → d < 256
+    → Register
+    (bitXor (bitXor (bitXor r d / 256) (1024 * (bitXor r d % 256)))
+    (bitXor (64 * pair (bitXor r d % 256)) (bitXor (4096 * pair (bitXor r d % 256)) (32768 * pair (bitXor r d % 256)))))
+    (crcAfter (bits 24 r) (bits 8 d))
+register-after-octet r d h l =
+    let y = bitXor r d in
+    let x = y % 256 in
+    let at-once = reached-is 8 r d h in
+    let is =
+    eight r d l
+    ∙ ap (bitXor (y / 256)) (fed-is x (mod-lt y (omega arith)))
+    ∙ sym (xor-assoc (y / 256) (1024 * x) (bitXor (64 * pair x) (bitXor (4096 * pair x) (32768 * pair x)))) in
+    record { same = ap (bits 24) (sym is) ∙ at-once .same; small = subst (λ (n : ℕ). n < 2 ^ 24) is (at-once .small) }
+
+pub pair-small : (y : ℕ) → bitXor (y % 256) (2 * (y % 256)) < 512
+pair-small y = xor-lt 9 (y % 256) (2 * (y % 256)) (omega arith) (omega arith)

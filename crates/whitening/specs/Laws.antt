@@ -1,0 +1,97 @@
+-- What holds of whitening and of the CRC, each with the theorem of proofs/ that proves it.
+--   Polynomials     Polynomials.polynomials   the two registers' terms, as the Core writes them and as rubble's number
+--   Starts          Starts.starts             where whitening starts: `whitening_iv` of each channel is the register's start
+--   Whitens         Twice.whitens             whitening adds the register's bits to the packet's, and twice is not at all
+--   Numbers         Numbers.numbers           the CRC as a number and as octets; which bits of a start value count
+--   Checks start    Errors.checks             a packet's own CRC is right, no other is, and of two packets that differ in one bit not both are right
+--   Refusing        Limits.refusing           which calls are refused, in which order, and what they leave
+--   Starting        Limits.starting           where the CRC starts on each channel
+--   Hears           Heard.hears               the same of packets as they are heard on a channel, by the flag
+-- Worked values stand in specs/Examples.
+use mathlib.Core.Path.{_≡_}
+use mathlib.Core.Bool.{Bool, true, false, xor, _||_}
+use mathlib.Core.List.{List, [], _∷_, _++_, reverse}
+use Prim.Native.Nat.{ℕ, zero, suc, _+_, _≤_, _<_, _^_, _%_}
+use lib.Dec.{eqb}
+use lib.ListN.{length}
+use Rattle.octets.specs.Bytes.{le, leBytes}
+use Rattle.channels.specs.Phy.{indexOf, whiteningStart, dataWhitening, advertisingWhitening}
+use Rattle.channels.specs.declared.phy.AdvertisingChannel.{AdvertisingChannel}
+use Rattle.channels.specs.declared.phy.DataChannel.{DataChannel}
+use Rattle.whitening.specs.Bits.{bits, number, heard}
+use Rattle.whitening.specs.Whitening.{whiteningTaps, registerOn, leaving, whitened}
+use Rattle.whitening.specs.Crc.{crcTaps, crcOf, crcOctets, crcGood}
+use Rattle.whitening.specs.Packet.{allowed, leaves, startOn, flagOf, whitenedNumber, flagNumber}
+use Rattle.whitening.specs.declared.packet.Whitened.the-variants as w
+use Rattle.whitening.specs.declared.packet.Flag.the-variants as flag
+
+-- the terms of a polynomial below x^n, by their exponents: positions n - 1 to 0
+unfoldable pub isIn : ℕ → List ℕ → Bool
+isIn n [] = false
+isIn n (e ∷ es) = eqb n e || isIn n es
+
+unfoldable pub terms : ℕ → List ℕ → List Bool
+terms zero exponents = []
+terms (suc n) exponents = isIn n exponents ∷ terms n exponents
+
+pub record Polynomials : Type 0 where
+  -- x^7 + x^4 + 1
+  pub whitening : whiteningTaps ≡ terms 7 (4 ∷ 0 ∷ [])
+  -- x^24 + x^10 + x^9 + x^6 + x^4 + x^3 + x + 1, and rubble's `CRC_POLY`
+  pub crc : crcTaps ≡ terms 24 (10 ∷ 9 ∷ 6 ∷ 4 ∷ 3 ∷ 1 ∷ 0 ∷ [])
+  pub crc-poly : number (reverse crcTaps) + 2 ^ 24 ≡ 0b1_00000000_00000110_01011011
+
+-- There is one start value: the number that `channels` gives for an index is the register, position 6 its lowest bit.
+pub record Starts : Type 0 where
+  pub register : (channel : ℕ) → bits 7 (whiteningStart channel) ≡ registerOn channel
+  pub number-is : (channel : ℕ) → number (registerOn channel) ≡ whiteningStart channel
+  pub data-channels : (c : DataChannel) → bits 7 (dataWhitening c) ≡ registerOn (c .index)
+  pub advertising-channels : (c : AdvertisingChannel) → bits 7 (advertisingWhitening c) ≡ registerOn (indexOf c)
+
+-- bits added modulo 2; what is longer is cut
+unfoldable pub sum : List Bool → List Bool → List Bool
+sum [] ys = []
+sum (x ∷ xs) [] = []
+sum (x ∷ xs) (y ∷ ys) = xor x y ∷ sum xs ys
+
+pub record Whitens : Type 0 where
+  pub adds : (channel : ℕ) (packet : List ℕ) → heard (whitened channel packet) ≡ sum (heard packet) (leaving 336 (registerOn channel))
+  pub as-long : (channel : ℕ) (packet : List ℕ) → length packet ≤ 42 → length (whitened channel packet) ≡ length packet
+  pub twice : (channel : ℕ) (packet : List ℕ) → length packet ≤ 42 → whitened channel (whitened channel packet) ≡ packet
+
+-- The octets that are sent are the number's, least significant first; "the low 24 bits of any start value" count.
+pub record Numbers (start : ℕ) (octets : List ℕ) : Type 0 where
+  pub small : crcOf start octets < 2 ^ 24
+  pub sent : crcOctets start octets ≡ leBytes 3 (crcOf start octets)
+  pub low-24 : crcOf start octets ≡ crcOf (start % 2 ^ 24) octets
+
+pub record Checks (start : ℕ) : Type 0 where
+  pub own : (octets : List ℕ) → crcGood start (octets ++ crcOctets start octets) ≡ true
+  pub no-other : (octets last : List ℕ) → length last ≡ 3 → crcGood start (octets ++ last) ≡ true → last ≡ crcOctets start octets
+  pub one-bit : (p q : List ℕ) (before after : List Bool) (b d : Bool) → heard p ≡ before ++ b ∷ after → heard q ≡ before ++ d ∷ after
+      → crcGood start p ≡ true → crcGood start q ≡ true → b ≡ d
+
+-- "10, channel above 39, tested first; a packet above 42 octets is 2, one under 5 is 1"; what is refused stays as it is.
+pub record Refusing (channel : ℕ) (packet : List ℕ) : Type 0 where
+  pub no-channel : 39 < channel → whitenedNumber (allowed channel (length packet)) ≡ 10
+  pub too-long : channel ≤ 39 → 42 < length packet → whitenedNumber (allowed channel (length packet)) ≡ 2
+  pub too-short : channel ≤ 39 → length packet < 5 → whitenedNumber (allowed channel (length packet)) ≡ 1
+  pub others : channel ≤ 39 → 5 ≤ length packet → length packet ≤ 42 → allowed channel (length packet) ≡ w.Done
+  pub kept : (whitenedNumber (allowed channel (length packet)) ≡ 0 → ⊥) → leaves (allowed channel (length packet)) channel packet ≡ packet
+  pub done : allowed channel (length packet) ≡ w.Done → leaves (allowed channel (length packet)) channel packet ≡ whitened channel packet
+  -- the flag is refused as whitening is
+  pub flags : (start : ℕ) → flagNumber (flagOf channel start packet) ≡ whitenedNumber (allowed channel (length packet))
+
+-- "started from `0x555555` on advertising channels and from the connect request's value afterwards", which is "unused on 37 to 39".
+pub record Starting (channel start : ℕ) : Type 0 where
+  pub data-channels : channel ≤ 36 → startOn channel start ≡ start
+  pub advertising-channels : 37 ≤ channel → startOn channel start ≡ 0x555555
+  pub unused : 37 ≤ channel → (other : ℕ) (packet : List ℕ) → flagOf channel start packet ≡ flagOf channel other packet
+
+pub record Hears (channel start : ℕ) : Type 0 where
+  pub own : (octets : List ℕ) → channel ≤ 39 → 2 ≤ length octets → length octets ≤ 39
+      → flagOf channel start (whitened channel (octets ++ crcOctets (startOn channel start) octets)) ≡ flag.Is true
+  pub no-other : (octets last : List ℕ) → length octets ≤ 39 → length last ≡ 3 → flagOf channel start (whitened channel (octets ++ last)) ≡ flag.Is true
+      → last ≡ crcOctets (startOn channel start) octets
+  pub one-bit : (p q : List ℕ) (before after : List Bool) (b d : Bool) → heard p ≡ before ++ b ∷ after → heard q ≡ before ++ d ∷ after
+      → flagOf channel start p ≡ flag.Is true → flagOf channel start q ≡ flag.Is true → b ≡ d

@@ -1,0 +1,49 @@
+-- A packet as it is heard: which calls are refused, and what the others answer and leave.
+--
+--   | header 2 | payload 0 .. 37 | CRC 3 |
+--
+--   allowed channel n                 == whether there is a channel of this index and a packet of n octets, tested in this order
+--   leaves answer channel packet      == a packet after the call of `whiten` with this answer
+--   startOn channel start             == where the CRC starts on a channel
+--   flagOf channel start packet       == the CRC flag of a packet that is still whitened
+--   whitenedNumber, flagNumber answer == document 01's number of an answer, 0 where it is no refusal
+use Prim.Native.Nat.{ℕ}
+use mathlib.Core.Bool.{Bool, cond}
+use mathlib.Core.List.{List}
+use lib.Dec.{ltb}
+use lib.ListN.{length}
+use Rattle.octets.specs.Error.{numberOf}
+use Rattle.octets.specs.declared.error.Error.the-variants.{Eof, InvalidLength, NoSuchIndex}
+use Rattle.whitening.specs.Crc.{crcGood}
+use Rattle.whitening.specs.Whitening.{whitened}
+use Rattle.whitening.specs.declared.packet.Whitened.{Whitened}
+use Rattle.whitening.specs.declared.packet.Whitened.the-variants as w
+use Rattle.whitening.specs.declared.packet.Flag.{Flag}
+use Rattle.whitening.specs.declared.packet.Flag.the-variants as flag
+
+abbrev pub allowed : ℕ → ℕ → Whitened
+allowed channel n =
+    cond (ltb 39 channel) (w.Refused NoSuchIndex) (cond (ltb 42 n) (w.Refused InvalidLength) (cond (ltb n 5) (w.Refused Eof) w.Done))
+
+abbrev pub leaves : Whitened → ℕ → List ℕ → List ℕ
+leaves w.Done channel packet = whitened channel packet
+leaves (w.Refused e) channel packet = packet
+
+-- 0x555555 on the advertising channels, which do not use the connect request's value
+abbrev pub startOn : ℕ → ℕ → ℕ
+startOn channel start = cond (ltb 36 channel) 0x555555 start
+
+abbrev pub flagged : Whitened → Bool → Flag
+flagged w.Done good = flag.Is good
+flagged (w.Refused e) good = flag.Refused e
+
+abbrev pub flagOf : ℕ → ℕ → List ℕ → Flag
+flagOf channel start packet = flagged (allowed channel (length packet)) (crcGood (startOn channel start) (whitened channel packet))
+
+abbrev pub whitenedNumber : Whitened → ℕ
+whitenedNumber w.Done = 0
+whitenedNumber (w.Refused e) = numberOf e
+
+abbrev pub flagNumber : Flag → ℕ
+flagNumber (flag.Is good) = 0
+flagNumber (flag.Refused e) = numberOf e

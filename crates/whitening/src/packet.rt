@@ -1,0 +1,134 @@
+// A packet as it is heard: its whitening and its check. A packet is a header of 2 octets, up to 37 of payload and 3 of CRC.
+use crate::crc::CRC_PRESET;
+use crate::crc::after_octet;
+use crate::crc::register_at;
+use crate::table::WHITENING;
+use octets::error::Error;
+ghost use mathlib.Core.Path.{_≡_};
+ghost use Prim.Native.Nat.{_*_, _≤_, _<_, _^_};
+ghost use lib.ListN.{length};
+ghost use Rattle.whitening.specs.Bits.{bits, heard};
+ghost use Rattle.whitening.specs.Crc.{crcStart, crcAfter, crcGood};
+ghost use Rattle.whitening.specs.Number.{Register};
+ghost use Rattle.whitening.specs.Packet.{allowed, leaves, startOn, flagOf};
+ghost use Rattle.whitening.specs.Whitening.{plus, whitened};
+
+// The access address before every packet on the advertising channels.
+pub const ACCESS_ADDRESS: u32 = 0x8E89BED6;
+
+// Whether a packet was whitened, or why not.
+pub enum Whitened {
+    Done,
+    Refused(Error),
+}
+
+// Whether a packet's CRC is right, or why that cannot be told.
+pub enum Flag {
+    Is(bool),
+    Refused(Error),
+}
+
+// Whether there is such a channel and such a packet, tested in this order.
+fn allows(channel: u8, octets: usize) -> Whitened
+    ensures { λ r. ⌜ r ≡ allowed channel octets ⌝ }
+{
+    if 39 < channel {
+        return Whitened::Refused(Error::NoSuchIndex);
+    }
+    if 42 < octets {
+        return Whitened::Refused(Error::InvalidLength);
+    }
+    if octets < 5 {
+        return Whitened::Refused(Error::Eof);
+    }
+    Whitened::Done
+}
+
+// Adds octets to as many of a packet, modulo 2.
+fn add(packet: &mut [u8], octets: &[u8])
+    requires { ⌜ length (now packet) ≡ length (now octets) ⌝ }
+    ensures { λ _. ⌜ now (packet .exit) ≡ plus (now (packet .entry)) (now (octets .entry)) ⌝ }
+{
+    let mut i = 0;
+    while i < packet.len() {
+        packet[i] ^= octets[i];
+        i += 1;
+    }
+}
+
+// Where a channel's row begins in the table.
+fn row_of(channel: u8) -> usize
+    ensures { λ r. ⌜ r ≡ 42 * channel ⌝ }
+{
+    42 * (channel as usize)
+}
+
+// Whitens a packet that is allowed. The table is named once and a row of it lent: naming it lays it out.
+fn add_whitening(channel: u8, packet: &mut [u8])
+    requires { ⌜ (channel ≤ 39) × (length (now packet) ≤ 42) ⌝ }
+    ensures { λ _. ⌜ now (packet .exit) ≡ whitened channel (now (packet .entry)) ⌝ }
+{
+    let from = row_of(channel);
+    let to = from + packet.len();
+    add(packet, &WHITENING[from..to]);
+}
+
+// Whitens a packet, or takes the whitening off, in place. What is refused stays as it is.
+pub fn whiten(channel: u8, packet: &mut [u8]) -> Whitened
+    ensures { λ r. ⌜ (r ≡ allowed channel (length (now (packet .entry)))) × (now (packet .exit) ≡ leaves (allowed channel (length (now (packet .entry)))) channel (now (packet .entry))) ⌝ }
+{
+    let answer = allows(channel, packet.len());
+    match answer {
+        Whitened::Refused(error) => Whitened::Refused(error),
+        Whitened::Done => {
+            add_whitening(channel, packet);
+            Whitened::Done
+        }
+    }
+}
+
+// The register at the start of a packet: the connect request's value does not count on the advertising channels.
+fn register_on(channel: u8, start: u32) -> u32
+    ensures { λ r. ⌜ Register r (crcStart (startOn channel start)) ⌝ }
+{
+    if 36 < channel {
+        return register_at(CRC_PRESET);
+    }
+    register_at(start)
+}
+
+// The register after a packet, as many octets being added to it on the way.
+fn after_sum(register: u32, packet: &[u8], octets: &[u8]) -> u32
+    requires { ⌜ (register < 2 ^ 24) × (length (now packet) ≡ length (now octets)) ⌝ }
+    ensures { λ r. ⌜ Register r (crcAfter (bits 24 register) (heard (plus (now (packet .entry)) (now (octets .entry))))) ⌝ }
+{
+    let mut reached = register;
+    let mut i = 0;
+    while i < packet.len() {
+        reached = after_octet(reached, packet[i] ^ octets[i]);
+        i += 1;
+    }
+    reached
+}
+
+// Whether a packet that is allowed is right, its whitening taken off on the way: after its own CRC the register holds zeros.
+fn is_good(channel: u8, start: u32, packet: &[u8]) -> bool
+    requires { ⌜ (channel ≤ 39) × ((5 ≤ length (now packet)) × (length (now packet) ≤ 42)) ⌝ }
+    ensures { λ r. ⌜ r ≡ crcGood (startOn channel start) (whitened channel (now (packet .entry))) ⌝ }
+{
+    let from = row_of(channel);
+    let to = from + packet.len();
+    after_sum(register_on(channel, start), packet, &WHITENING[from..to]) == 0
+}
+
+// The CRC flag of a packet that was heard on a channel and is still whitened. `start` is the connect request's value, of which the low
+// 24 bits count; it is not used on the channels 37 to 39.
+pub fn crc_flag(channel: u8, start: u32, packet: &[u8]) -> Flag
+    ensures { λ r. ⌜ r ≡ flagOf channel start (now (packet .entry)) ⌝ }
+{
+    let answer = allows(channel, packet.len());
+    match answer {
+        Whitened::Refused(error) => Flag::Refused(error),
+        Whitened::Done => Flag::Is(is_good(channel, start, packet)),
+    }
+}
