@@ -4,9 +4,9 @@ use mathlib.Core.Bool.{Bool, xor}
 use mathlib.Core.List.{List, [], _∷_, _++_}
 use Prim.Native.Nat.{ℕ, zero, suc, _+_, _-_, _*_, _≤_, _<_}
 use native.Mathlib.Omega.{arith}
-use lib.Bits.{bitXor}
-use lib.ListN.{length, getD, take, drop, List·getD-append}
-use lib.Seq.{drop-at, drop-drop, getD-drop, take-append-le}
+use lib.Bits.{bitXor, xor-zero-l}
+use lib.ListN.{length, getD, take, drop, replicate, List·getD-append}
+use lib.Seq.{drop-at, drop-drop, getD-drop, take-append-le, take-length}
 use Rattle.whitening.specs.Bits.{bits, number, octetsOf, added}
 use Rattle.whitening.specs.Whitening.{leaving, whitening, plus, whitened}
 use Rattle.whitening.proofs.Octets.{table}
@@ -69,11 +69,22 @@ plus-cut [] octets = refl
 plus-cut (x ∷ packet) [] = refl
 plus-cut (x ∷ packet) (y ∷ octets) = ap (λ (l : List ℕ). bitXor x y ∷ l) (plus-cut packet octets)
 
--- a part of the table is what a packet is whitened with
-pub plus-row : (channel from : ℕ) (packet : List ℕ) → from ≡ 42 * channel → channel ≤ 39 → length packet ≤ 42
-    → plus packet (take (from + length packet - from) (drop from table)) ≡ whitened channel packet
+plus-zeros : (n : ℕ) (octets : List ℕ) → length octets ≡ n → plus (replicate n 0) octets ≡ octets
+unfolding plus
+plus-zeros zero [] e = refl
+plus-zeros zero (y ∷ octets) e = absurd (omega arith)
+plus-zeros (suc n) [] e = absurd (omega arith)
+plus-zeros (suc n) (y ∷ octets) e = ap₂ _∷_ (xor-zero-l y) (plus-zeros n octets (omega arith))
+
+-- a row of the table is a channel's
+pub row-is : (channel : ℕ) → channel ≤ 39 → plus (replicate 42 0) (take (42 * channel + 42 - 42 * channel) (drop (42 * channel) table)) ≡ whitening channel
+row-is channel h =
+    let e : 42 * channel + 42 - 42 * channel ≡ 42 = omega arith in
+    let fits : 42 ≤ length (whitening channel) = omega (arith, whitening-length channel) in
+    let all : take 42 (whitening channel) ≡ whitening channel = ap (λ (n : ℕ). take n (whitening channel)) (sym (whitening-length channel)) ∙ take-length (whitening channel) in
+    rw (e, table-row channel h, take-append-le 42 (whitening channel), all) (plus-zeros 42 (whitening channel) (whitening-length channel))
+
+-- its front is what a packet is whitened with
+pub plus-row : (channel : ℕ) (packet row : List ℕ) → row ≡ whitening channel → plus packet (take (length packet) row) ≡ whitened channel packet
 unfolding whitened
-plus-row channel from packet is h l =
-    let e : from + length packet - from ≡ length packet = omega arith in
-    let fits : length packet ≤ length (whitening channel) = omega (arith, whitening-length channel) in
-    rw (e, is, table-row channel h, take-append-le (length packet) (whitening channel)) (plus-cut packet (whitening channel))
+plus-row channel packet row is = plus-cut packet row ∙ ap (plus packet) is

@@ -1,5 +1,5 @@
 // A packet as it is heard: its whitening and its check. A packet is a header of 2 octets, up to 37 of payload and 3 of CRC.
-use crate::crc::CRC_PRESET;
+use crate::crc::PRESET_REGISTER;
 use crate::crc::after_octet;
 use crate::crc::register_at;
 use crate::table::WHITENING;
@@ -11,7 +11,7 @@ ghost use Rattle.whitening.specs.Bits.{bits, heard};
 ghost use Rattle.whitening.specs.Crc.{crcStart, crcAfter, crcGood};
 ghost use Rattle.whitening.specs.Number.{Register};
 ghost use Rattle.whitening.specs.Packet.{allowed, leaves, startOn, flagOf};
-ghost use Rattle.whitening.specs.Whitening.{plus, whitened};
+ghost use Rattle.whitening.specs.Whitening.{plus, whitening, whitened};
 
 // The access address before every packet on the advertising channels.
 pub const ACCESS_ADDRESS: u32 = 0x8E89BED6;
@@ -56,21 +56,26 @@ fn add(packet: &mut [u8], octets: &[u8])
     }
 }
 
-// Where a channel's row begins in the table.
-fn row_of(channel: u8) -> usize
-    ensures { λ r. ⌜ r ≡ 42 * channel ⌝ }
+// The whitening octets of a channel. The table is laid out wherever it is named, so it is named here alone.
+fn row(channel: u8) -> [u8; 42]
+    requires { ⌜ channel ≤ 39 ⌝ }
+    ensures { λ r. ⌜ r ≡ whitening channel ⌝ }
 {
-    42 * (channel as usize)
+    let from = 42 * (channel as usize);
+    let to = from + 42;
+    let mut octets = [0u8; 42];
+    add(&mut octets, &WHITENING[from..to]);
+    octets
 }
 
-// Whitens a packet that is allowed. The table is named once and a row of it lent: naming it lays it out.
+// Whitens a packet that is allowed.
 fn add_whitening(channel: u8, packet: &mut [u8])
     requires { ⌜ (channel ≤ 39) × (length (now packet) ≤ 42) ⌝ }
     ensures { λ _. ⌜ now (packet .exit) ≡ whitened channel (now (packet .entry)) ⌝ }
 {
-    let from = row_of(channel);
-    let to = from + packet.len();
-    add(packet, &WHITENING[from..to]);
+    let octets = row(channel);
+    let n = packet.len();
+    add(packet, &octets[..n]);
 }
 
 // Whitens a packet, or takes the whitening off, in place. What is refused stays as it is.
@@ -92,7 +97,7 @@ fn register_on(channel: u8, start: u32) -> u32
     ensures { λ r. ⌜ Register r (crcStart (startOn channel start)) ⌝ }
 {
     if 36 < channel {
-        return register_at(CRC_PRESET);
+        return PRESET_REGISTER;
     }
     register_at(start)
 }
@@ -116,9 +121,9 @@ fn is_good(channel: u8, start: u32, packet: &[u8]) -> bool
     requires { ⌜ (channel ≤ 39) × ((5 ≤ length (now packet)) × (length (now packet) ≤ 42)) ⌝ }
     ensures { λ r. ⌜ r ≡ crcGood (startOn channel start) (whitened channel (now (packet .entry))) ⌝ }
 {
-    let from = row_of(channel);
-    let to = from + packet.len();
-    after_sum(register_on(channel, start), packet, &WHITENING[from..to]) == 0
+    let octets = row(channel);
+    let n = packet.len();
+    after_sum(register_on(channel, start), packet, &octets[..n]) == 0
 }
 
 // The CRC flag of a packet that was heard on a channel and is still whitened. `start` is the connect request's value, of which the low
