@@ -1,17 +1,13 @@
 -- Octets added to a packet one after the other. Assumes nothing.
-use mathlib.Core.Path.{_≡_, sym, ap, _∙_}
-use mathlib.Core.Bool.{Bool}
-use mathlib.Core.List.{List, _++_, append-assoc, append-nil}
-use Prim.Native.Nat.{ℕ, suc, _+_, _<_}
+use mathlib.Core.Path.{_≡_, refl, sym, ap₂}
+use mathlib.Core.List.{List, [], _∷_, _++_, append-assoc, append-nil}
+use Prim.Native.Nat.{ℕ, suc, _+_, _≤_, _<_}
 use native.Mathlib.Numerals.{add-one}
 use native.Mathlib.Omega.{arith}
-use lib.Bits.{bitXor}
-use lib.ListN.{length, getD, take, drop, set}
+use lib.Bits.{bitXor, xor-comm}
+use lib.ListN.{length, getD, take, drop, set, length-append}
 use lib.Seq.{drop-cons, take-suc-set, drop-set-lt, take-length, drop-length}
-use Rattle.whitening.specs.Bits.{bits, heard}
-use Rattle.whitening.specs.Crc.{crcAfter}
 use Rattle.whitening.specs.Whitening.{plus}
-use Rattle.whitening.proofs.Registers.{crcAfter-append}
 
 -- what is done, and what is to be done
 abbrev pub partly : ℕ → List ℕ → List ℕ → List ℕ
@@ -28,17 +24,18 @@ pub partly-all : (packet octets : List ℕ) → partly (length packet) packet oc
 unfolding plus
 partly-all packet octets = rw (take-length, drop-length, append-nil)
 
--- a turn of the loop over a packet and as many octets, and its end
-pub sum-turn : (i : ℕ) (packet octets : List ℕ) (register next : ℕ) → i < length packet → i < length octets
-    → bits 24 next ≡ crcAfter (bits 24 register) (bits 8 (bitXor (getD packet i 0) (getD octets i 0)))
-    → crcAfter (bits 24 next) (heard (plus (drop (i + 1) packet) (drop (i + 1) octets))) ≡ crcAfter (bits 24 register) (heard (plus (drop i packet) (drop i octets)))
-unfolding heard plus
-sum-turn i packet octets register next h l e =
-    ap (λ (r : List Bool). crcAfter r (heard (plus (drop (i + 1) packet) (drop (i + 1) octets)))) e
-    ∙ sym (crcAfter-append (bits 24 register) (bits 8 (bitXor (getD packet i 0) (getD octets i 0))) (heard (plus (drop (i + 1) packet) (drop (i + 1) octets))))
-    ∙ ap (crcAfter (bits 24 register)) (rw (add-one, drop-cons packet i 0, drop-cons octets i 0))
+-- in either order
+plus-none : (xs : List ℕ) → plus xs [] ≡ []
+unfolding plus
+plus-none [] = refl
+plus-none (x ∷ xs) = refl
 
-pub sum-end : (i : ℕ) (packet octets : List ℕ) (register : ℕ) → i ≡ length packet
-    → bits 24 register ≡ crcAfter (bits 24 register) (heard (plus (drop i packet) (drop i octets)))
-unfolding heard plus crcAfter
-sum-end i packet octets register e = rw (e, drop-length)
+pub plus-comm : (xs ys : List ℕ) → plus xs ys ≡ plus ys xs
+unfolding plus
+plus-comm [] ys = sym (plus-none ys)
+plus-comm (x ∷ xs) [] = refl
+plus-comm (x ∷ xs) (y ∷ ys) = ap₂ _∷_ (xor-comm x y) (plus-comm xs ys)
+
+-- octets at the front of a buffer
+pub fits-front : (front rest : List ℕ) (n : ℕ) → length front ≡ n → n ≤ length (front ++ rest)
+fits-front front rest n e = simp length-append (omega arith)

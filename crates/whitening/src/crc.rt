@@ -7,7 +7,6 @@ ghost use Prim.Native.Nat.{_<_, _^_};
 ghost use Rattle.whitening.specs.Bits.{bits, heard};
 ghost use Rattle.whitening.specs.Crc.{crcStart, crcAfter, crcOf, crcOctets};
 ghost use Rattle.whitening.specs.Number.{Register};
-ghost use Rattle.whitening.specs.Whitening.{plus};
 
 // The polynomial: x^24 + x^10 + x^9 + x^6 + x^4 + x^3 + x + 1.
 pub const CRC_POLY: u32 = 0b1_00000000_00000110_01011011;
@@ -33,7 +32,7 @@ pub(crate) fn register_at(start: u32) -> u32
 
 // The register after the eight bits of an octet. The polynomial has no term between x^24 and x^10, so that no bit fed back comes round again
 // within eight shifts: the eight bits fed back are known at once, and each term adds them, moved to its place.
-pub(crate) fn after_octet(register: u32, octet: u8) -> u32
+fn after_octet(register: u32, octet: u8) -> u32
     requires { ⌜ register < 2 ^ 24 ⌝ }
     ensures { λ r. ⌜ Register r (crcAfter (bits 24 register) (bits 8 octet)) ⌝ }
 {
@@ -44,7 +43,7 @@ pub(crate) fn after_octet(register: u32, octet: u8) -> u32
 }
 
 // The register after octets.
-fn after_octets(register: u32, octets: &[u8]) -> u32
+pub(crate) fn after_octets(register: u32, octets: &[u8]) -> u32
     requires { ⌜ register < 2 ^ 24 ⌝ }
     ensures { λ r. ⌜ Register r (crcAfter (bits 24 register) (heard (now (octets .entry)))) ⌝ }
 {

@@ -1,14 +1,13 @@
 // A packet as it is heard: its whitening and its check. A packet is a header of 2 octets, up to 37 of payload and 3 of CRC.
 use crate::crc::PRESET_REGISTER;
-use crate::crc::after_octet;
+use crate::crc::after_octets;
 use crate::crc::register_at;
 use crate::table::WHITENING;
 use octets::error::Error;
 ghost use mathlib.Core.Path.{_≡_};
-ghost use Prim.Native.Nat.{_*_, _≤_, _<_, _^_};
+ghost use Prim.Native.Nat.{_≤_};
 ghost use lib.ListN.{length};
-ghost use Rattle.whitening.specs.Bits.{bits, heard};
-ghost use Rattle.whitening.specs.Crc.{crcStart, crcAfter, crcGood};
+ghost use Rattle.whitening.specs.Crc.{crcStart, crcGood};
 ghost use Rattle.whitening.specs.Number.{Register};
 ghost use Rattle.whitening.specs.Packet.{allowed, leaves, startOn, flagOf};
 ghost use Rattle.whitening.specs.Whitening.{plus, whitening, whitened};
@@ -102,28 +101,15 @@ fn register_on(channel: u8, start: u32) -> u32
     register_at(start)
 }
 
-// The register after a packet, as many octets being added to it on the way.
-fn after_sum(register: u32, packet: &[u8], octets: &[u8]) -> u32
-    requires { ⌜ (register < 2 ^ 24) × (length (now packet) ≡ length (now octets)) ⌝ }
-    ensures { λ r. ⌜ Register r (crcAfter (bits 24 register) (heard (plus (now (packet .entry)) (now (octets .entry))))) ⌝ }
-{
-    let mut reached = register;
-    let mut i = 0;
-    while i < packet.len() {
-        reached = after_octet(reached, packet[i] ^ octets[i]);
-        i += 1;
-    }
-    reached
-}
-
-// Whether a packet that is allowed is right, its whitening taken off on the way: after its own CRC the register holds zeros.
+// Whether a packet that is allowed is right, its whitening taken off: after its own CRC the register holds zeros.
 fn is_good(channel: u8, start: u32, packet: &[u8]) -> bool
     requires { ⌜ (channel ≤ 39) × ((5 ≤ length (now packet)) × (length (now packet) ≤ 42)) ⌝ }
     ensures { λ r. ⌜ r ≡ crcGood (startOn channel start) (whitened channel (now (packet .entry))) ⌝ }
 {
-    let octets = row(channel);
     let n = packet.len();
-    after_sum(register_on(channel, start), packet, &octets[..n]) == 0
+    let mut octets = row(channel);
+    add(&mut octets[..n], packet);
+    after_octets(register_on(channel, start), &octets[..n]) == 0
 }
 
 // The CRC flag of a packet that was heard on a channel and is still whitened. `start` is the connect request's value, of which the low
