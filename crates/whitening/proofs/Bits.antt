@@ -79,3 +79,15 @@ bits-low (suc n) a r = ap₂ (λ (d h : ℕ). eqb d 1 ∷ bits n h) (block-odd a
 
 pub bits-24 : (x : ℕ) → bits 24 (x % 2 ^ 24) ≡ bits 24 x
 bits-24 x = sym (bits-low 24 (x / 2 ^ 24) (x % 2 ^ 24)) ∙ ap (bits 24) (div-add-mod' x (2 ^ 24))
+
+-- the bits of a number behind those of another
+abbrev pub more : ℕ → ℕ → ℕ
+more zero m = m
+more (suc n) m = suc (more n m)
+
+pub bits-join : (n m x y : ℕ) → x < 2 ^ n → bits (more n m) (y * 2 ^ n + x) ≡ bits n x ++ bits m y
+unfolding bits
+bits-join zero m x y h = let e : y * 1 + x ≡ y = omega arith in ap (bits m) e
+bits-join (suc n) m x y h =
+    ap₂ (λ (d r : ℕ). eqb d 1 ∷ bits (more n m) r) (block-odd y n x) (block-half y n x)
+    ∙ ap (λ (l : List Bool). eqb (x % 2) 1 ∷ l) (bits-join n m (x / 2) y (omega (arith, pow-suc 2 n)))

@@ -1,8 +1,8 @@
 -- A register that is kept as a number: a shift is a shift of the number, and the taps are added by exclusive or. Assumes nothing.
 use mathlib.Core.Path.{_≡_, refl, sym, ap, ap₂, _∙_}
 use mathlib.Core.Bool.{Bool, true, false, xor, _&&_}
-use mathlib.Core.List.{List, [], _∷_, _++_, reverseAux}
-use Prim.Native.Nat.{ℕ, suc, _+_, _-_, _*_, _/_, _%_, _^_, _<_}
+use mathlib.Core.List.{List, [], _∷_, _++_, append-assoc, reverseAux}
+use Prim.Native.Nat.{ℕ, suc, _+_, _-_, _*_, _/_, _%_, _^_, _<_, _≤_}
 use native.Mathlib.Nat.{mod-lt}
 use native.Mathlib.Omega.{arith}
 use lib.Dec.{eqb}
@@ -10,11 +10,12 @@ use lib.Bits.{bitXor, xor-shr, xor-mod, xor-lt}
 use lib.ListN.{length, getD, drop}
 use lib.Seq.{drop-cons, drop-length}
 use native.Mathlib.Numerals.{add-one}
+use Rattle.octets.specs.Bytes.{le}
 use Rattle.channels.specs.Count.{bit}
 use Rattle.whitening.specs.Bits.{bits, number, heard, octetsOf, added, shifted}
 use Rattle.whitening.specs.Crc.{crcTaps, crcAfter}
 use Rattle.whitening.specs.Number.{Register}
-use Rattle.whitening.proofs.Bits.{below-two, bits-more, number-bits-8}
+use Rattle.whitening.proofs.Bits.{below-two, bits-more, number-bits-8, bits-join}
 
 pub xor-lowest : (b : Bool) (a : ℕ) → a < 2 → eqb (bitXor a (bit b)) 1 ≡ xor (eqb a 1) b
 unfolding xor
@@ -138,14 +139,48 @@ register-turn n reached rest next e =
     ap (λ (r : List Bool). crcAfter r (bits n (rest / 2))) e ∙ sym (crcAfter-append (bits 24 reached) (bits 1 rest) (bits n (rest / 2)))
 
 -- a turn of the loop over octets, and its end
+heard-at : (i : ℕ) (octets : List ℕ) → i < length octets → heard (drop i octets) ≡ bits 8 (getD octets i 0) ++ heard (drop (i + 1) octets)
+unfolding heard
+heard-at i octets h = rw (add-one, drop-cons octets i 0)
+
 pub octets-turn : (i : ℕ) (octets : List ℕ) (register next : ℕ) → i < length octets
     → bits 24 next ≡ crcAfter (bits 24 register) (bits 8 (getD octets i 0))
     → crcAfter (bits 24 next) (heard (drop (i + 1) octets)) ≡ crcAfter (bits 24 register) (heard (drop i octets))
-unfolding heard
 octets-turn i octets register next h e =
     ap (λ (r : List Bool). crcAfter r (heard (drop (i + 1) octets))) e
     ∙ sym (crcAfter-append (bits 24 register) (bits 8 (getD octets i 0)) (heard (drop (i + 1) octets)))
-    ∙ ap (crcAfter (bits 24 register)) (rw (add-one, drop-cons octets i 0))
+    ∙ ap (crcAfter (bits 24 register)) (sym (heard-at i octets h))
+
+-- three octets as a number
+three-bits : (a b c : ℕ) → a < 256 → b < 256 → bits 24 (le (a ∷ b ∷ c ∷ 0 ∷ [])) ≡ bits 8 a ++ (bits 8 b ++ bits 8 c)
+three-bits a b c h l =
+    let e : le (a ∷ b ∷ c ∷ 0 ∷ []) ≡ (c * 2 ^ 8 + b) * 2 ^ 8 + a = omega arith in
+    ap (bits 24) e ∙ bits-join 8 16 a (c * 2 ^ 8 + b) h ∙ ap (λ (s : List Bool). bits 8 a ++ s) (bits-join 8 8 b c l)
+
+heard-three : (i : ℕ) (octets : List ℕ) → i + 3 ≤ length octets
+    → heard (drop i octets) ≡ (bits 8 (getD octets i 0) ++ (bits 8 (getD octets (i + 1) 0) ++ bits 8 (getD octets (i + 2) 0))) ++ heard (drop (i + 3) octets)
+heard-three i octets h =
+    let a = bits 8 (getD octets i 0) in
+    let b = bits 8 (getD octets (i + 1) 0) in
+    let c = bits 8 (getD octets (i + 2) 0) in
+    let rest = heard (drop (i + 3) octets) in
+    let two : i + 1 + 1 ≡ i + 2 = omega arith in
+    let three : i + 2 + 1 ≡ i + 3 = omega arith in
+    heard-at i octets (omega arith)
+    ∙ ap (λ (s : List Bool). a ++ s)
+    (heard-at (i + 1) octets (omega arith)
+    ∙ ap (λ (s : List Bool). b ++ s) (ap (λ (k : ℕ). heard (drop k octets)) two ∙ heard-at (i + 2) octets (omega arith) ∙ ap (λ (k : ℕ). c ++ heard (drop k octets)) three)
+    ∙ sym (append-assoc b c rest))
+    ∙ sym (append-assoc a (b ++ c) rest)
+
+pub three-turn : (i : ℕ) (octets : List ℕ) (register next : ℕ) → i + 3 ≤ length octets → getD octets i 0 < 256 → getD octets (i + 1) 0 < 256
+    → bits 24 next ≡ crcAfter (bits 24 register) (bits 24 (le (getD octets i 0 ∷ getD octets (i + 1) 0 ∷ getD octets (i + 2) 0 ∷ 0 ∷ [])))
+    → crcAfter (bits 24 next) (heard (drop (i + 3) octets)) ≡ crcAfter (bits 24 register) (heard (drop i octets))
+three-turn i octets register next h l m e =
+    let bs = bits 8 (getD octets i 0) ++ (bits 8 (getD octets (i + 1) 0) ++ bits 8 (getD octets (i + 2) 0)) in
+    ap (λ (r : List Bool). crcAfter r (heard (drop (i + 3) octets))) (e ∙ ap (crcAfter (bits 24 register)) (three-bits (getD octets i 0) (getD octets (i + 1) 0) (getD octets (i + 2) 0) l m))
+    ∙ sym (crcAfter-append (bits 24 register) bs (heard (drop (i + 3) octets)))
+    ∙ ap (crcAfter (bits 24 register)) (sym (heard-three i octets h))
 
 pub octets-end : (i : ℕ) (octets : List ℕ) (register : ℕ) → i ≡ length octets → bits 24 register ≡ crcAfter (bits 24 register) (heard (drop i octets))
 unfolding heard crcAfter

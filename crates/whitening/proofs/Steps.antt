@@ -1,13 +1,15 @@
--- Eight shifts of the CRC's register at once: the register is linear in what it holds and takes in, and no bit fed back within eight shifts leaves in them. What
--- the eight bits fed back come to is one computed test over all 256 of them. Assumes nothing.
+-- Many shifts of the CRC's register at once: what it holds afterwards is linear in what it holds and takes in. That eight and 24 shifts at once come to the
+-- same is a computed test each: over the 256 octets, and over the 24 single bits, which tell all of a linear function. Assumes nothing.
 use mathlib.Core.Path.{_≡_, refl, sym, ap, ap₂, subst, _∙_}
-use Prim.Native.Nat.{ℕ, zero, suc, _+_, _*_, _/_, _%_, _^_, _<_}
+use mathlib.Core.Bool.{Bool, true, false}
+use Prim.Native.Nat.{ℕ, zero, suc, _+_, _-_, _*_, _/_, _%_, _^_, _<_, _≤_}
 use native.Mathlib.Nat.{mod-lt, pow-suc, add-zero, div-add-mod'}
 use native.Mathlib.Omega.{arith}
 use lib.Arith.{bin-ind}
-use lib.Dec.{eqb}
-use lib.Bits.{bitXor, differ, xor-step, xor-shr, xor-mod, xor-zero-l, xor-zero-r, xor-comm, xor-add-and, xor-lt, xor-shifted, shifted-half, shifted-even}
-use borrow.Author.Tests.{eqb-true}
+use lib.Dec.{eqb, ltb}
+use lib.Pow.{pow-pos}
+use lib.Bits.{bitXor, differ, xor-step, xor-shr, xor-mod, xor-zero-l, xor-zero-r, xor-comm, xor-self, xor-add-and, xor-lt, xor-block, xor-shifted, shifted-half, shifted-even}
+use borrow.Author.Tests.{eqb-true, ltb-true, ltb-false}
 use Rattle.channels.specs.Count.{count}
 use Rattle.channels.proofs.Counting.{count-all}
 use Rattle.whitening.specs.Bits.{bits}
@@ -112,6 +114,53 @@ moved (suc k) h = ap (λ (n : ℕ). reached k n 0) (turn k h) ∙ moved k h
         let even : (h * 2 ^ suc k + 0) % 2 ≡ 0 = ap (λ (n : ℕ). n % 2) (add-zero (h * 2 ^ suc k)) ∙ shifted-even h k in
         ap₂ (λ (a b : ℕ). bitXor a (crcNumber * b)) (shifted-half h k) even ∙ xor-zero-r (h * 2 ^ k)
 
+-- ---- linear functions: of a sum they give the sum, so that their values at single bits tell all
+
+abbrev Linear : (ℕ → ℕ) → Type 0
+Linear f = (a b : ℕ) → f (bitXor a b) ≡ bitXor (f a) (f b)
+
+zero-of : (f : ℕ → ℕ) → Linear f → f 0 ≡ 0
+zero-of f l = l 0 0 ∙ xor-self (f 0)
+
+agree : (f g : ℕ → ℕ) → Linear f → Linear g → (n : ℕ) → ((i : ℕ) → i < n → f (1 * 2 ^ i) ≡ g (1 * 2 ^ i)) → (x : ℕ) → x < 2 ^ n → f x ≡ g x
+agree f g l m zero h x lt = let e : x ≡ 0 = omega arith in ap f e ∙ zero-of f l ∙ sym (ap g e ∙ zero-of g m)
+agree f g l m (suc n) h x lt = go (agree f g l m n (λ i k. h i (omega arith))) (ltb x (2 ^ n)) refl
+  where
+    go : ((y : ℕ) → y < 2 ^ n → f y ≡ g y) → (b : Bool) → ltb x (2 ^ n) ≡ b → f x ≡ g x
+    go below true e = below x (ltb-true x (2 ^ n) e)
+    go below false e =
+        let high : 2 ^ n ≤ x = ltb-false x (2 ^ n) e in
+        let low : x - 2 ^ n < 2 ^ n = omega (arith, pow-suc 2 n) in
+        let sum : x ≡ 1 * 2 ^ n + (x - 2 ^ n) = omega arith in
+        let parts : x ≡ bitXor (1 * 2 ^ n) (x - 2 ^ n) = sum ∙ sym (xor-shifted 1 n (x - 2 ^ n) low) in
+        ap f parts
+        ∙ l (1 * 2 ^ n) (x - 2 ^ n)
+        ∙ ap₂ bitXor (h n (omega arith)) (below (x - 2 ^ n) low)
+        ∙ sym (ap g parts ∙ m (1 * 2 ^ n) (x - 2 ^ n))
+
+-- sums of two, and one of the other
+of-sum : (f g : ℕ → ℕ) → Linear f → Linear g → Linear (λ (x : ℕ). bitXor (f x) (g x))
+of-sum f g l m a b = ap₂ bitXor (l a b) (m a b) ∙ xor-four (f a) (f b) (g a) (g b)
+
+one-of : (f g : ℕ → ℕ) → Linear f → Linear g → Linear (λ (x : ℕ). f (g x))
+one-of f g l m a b = ap f (m a b) ∙ l (g a) (g b)
+
+-- shifts up within 32 bits, shifts down, and the low 24 bits
+abbrev up : ℕ → ℕ → ℕ
+up k x = x * 2 ^ k % 2 ^ 32
+
+up-linear : (k : ℕ) → Linear (up k)
+up-linear k a b = ap (λ (n : ℕ). n % 2 ^ 32) (scaled (a * 2 ^ k) (b * 2 ^ k) (bitXor a b * 2 ^ k) (xor-block k a b 0 0 (pow-pos k) (pow-pos k))) ∙ xor-mod (a * 2 ^ k) (b * 2 ^ k) 32
+  where
+    scaled : (x y z : ℕ) → bitXor (x + 0) (y + 0) ≡ z + 0 → z ≡ bitXor x y
+    scaled x y z e = sym (ap₂ bitXor (sym (add-zero x)) (sym (add-zero y)) ∙ e ∙ add-zero z)
+
+abbrev down : ℕ → ℕ → ℕ
+down k x = x / 2 ^ k
+
+down-linear : (k : ℕ) → Linear (down k)
+down-linear k a b = xor-shr a b k
+
 -- ---- an octet
 
 -- the eight bits fed back, moved to the place of each term: 64 and 128, 4096 and 8192, 32768 and 65536 by pairs, and 1024
@@ -151,3 +200,44 @@ register-after-octet r d h l =
 
 pub pair-small : (y : ℕ) → bitXor (y % 256) (2 * (y % 256)) < 512
 pair-small y = xor-lt 9 (y % 256) (2 * (y % 256)) (omega arith) (omega arith)
+
+-- ---- three octets
+
+-- the bits that come round again, all that are fed back, and what they come to
+abbrev again : ℕ → ℕ
+again s = bitXor (bitXor (up 14 s) (up 15 s)) (bitXor (bitXor (up 18 s) (up 20 s)) (bitXor (up 21 s) (up 23 s)))
+
+abbrev backOf : ℕ → ℕ
+backOf s = bitXor s (again s) % 2 ^ 24
+
+abbrev outOf : ℕ → ℕ
+outOf b = bitXor (bitXor b (down 1 b)) (bitXor (bitXor (down 3 b) (down 4 b)) (bitXor (down 6 b) (bitXor (down 9 b) (down 10 b))))
+
+again-linear : Linear again
+again-linear =
+    of-sum (λ (x : ℕ). bitXor (up 14 x) (up 15 x)) (λ (x : ℕ). bitXor (bitXor (up 18 x) (up 20 x)) (bitXor (up 21 x) (up 23 x)))
+    (of-sum (up 14) (up 15) (up-linear 14) (up-linear 15))
+    (of-sum (λ (x : ℕ). bitXor (up 18 x) (up 20 x)) (λ (x : ℕ). bitXor (up 21 x) (up 23 x)) (of-sum (up 18) (up 20) (up-linear 18) (up-linear 20)) (of-sum (up 21) (up 23) (up-linear 21) (up-linear 23)))
+
+back-linear : Linear backOf
+back-linear = one-of (λ (x : ℕ). x % 2 ^ 24) (λ (x : ℕ). bitXor x (again x)) (λ a b. xor-mod a b 24) (of-sum (λ (x : ℕ). x) again (λ a b. refl) again-linear)
+
+out-linear : Linear outOf
+out-linear =
+    of-sum (λ (x : ℕ). bitXor x (down 1 x)) (λ (x : ℕ). bitXor (bitXor (down 3 x) (down 4 x)) (bitXor (down 6 x) (bitXor (down 9 x) (down 10 x))))
+    (of-sum (λ (x : ℕ). x) (down 1) (λ a b. refl) (down-linear 1))
+    (of-sum (λ (x : ℕ). bitXor (down 3 x) (down 4 x)) (λ (x : ℕ). bitXor (down 6 x) (bitXor (down 9 x) (down 10 x)))
+    (of-sum (down 3) (down 4) (down-linear 3) (down-linear 4))
+    (of-sum (down 6) (λ (x : ℕ). bitXor (down 9 x) (down 10 x)) (down-linear 6) (of-sum (down 9) (down 10) (down-linear 9) (down-linear 10))))
+
+single : (i : ℕ) → i < 24 → reached 24 (1 * 2 ^ i) 0 ≡ outOf (backOf (1 * 2 ^ i))
+unfolding reached count
+single i l = eqb-true (reached 24 (1 * 2 ^ i) 0) (outOf (backOf (1 * 2 ^ i))) (count-all (λ i. eqb (reached 24 (1 * 2 ^ i) 0) (outOf (backOf (1 * 2 ^ i)))) 24 refl i l)
+
+pub register-after-three : (r d : ℕ) → r < 2 ^ 24 → d < 2 ^ 24 → Register (outOf (backOf (bitXor r d))) (crcAfter (bits 24 r) (bits 24 d))
+register-after-three r d h l =
+    let at-once = reached-is 24 r d h in
+    let is =
+    into 24 r d l
+    ∙ agree (λ (x : ℕ). reached 24 x 0) (λ (x : ℕ). outOf (backOf x)) (linear 24) (one-of outOf backOf out-linear back-linear) 24 single (bitXor r d) (xor-lt 24 r d h l) in
+    record { same = ap (bits 24) (sym is) ∙ at-once .same; small = subst (λ (n : ℕ). n < 2 ^ 24) is (at-once .small) }

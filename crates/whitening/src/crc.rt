@@ -2,6 +2,7 @@
 //
 // The register is kept as a number whose bit k is position 23 - k: what leaves at a shift is its lowest bit, and its octets, lowest first, are
 // those sent.
+use octets::bytes::u32_from_le_bytes;
 ghost use mathlib.Core.Path.{_≡_};
 ghost use Prim.Native.Nat.{_<_, _^_};
 ghost use Rattle.whitening.specs.Bits.{bits, heard};
@@ -42,7 +43,21 @@ fn after_octet(register: u32, octet: u8) -> u32
     (sum / 256) ^ (1024 * back) ^ ((64 * pair) ^ ((4096 * pair) ^ (32768 * pair)))
 }
 
-// The register after octets.
+// The register after the 24 bits of three octets, here as a number. A bit fed back comes round again within 24 shifts, once: after 14, 15, 18, 20, 21 and
+// 23 of them.
+fn after_three(register: u32, three: u32) -> u32
+    requires { ⌜ (register < 2 ^ 24) × (three < 2 ^ 24) ⌝ }
+    ensures { λ r. ⌜ Register r (crcAfter (bits 24 register) (bits 24 three)) ⌝ }
+{
+    let sum = register ^ three;
+    let again = ((sum << 14) ^ (sum << 15))
+        ^ (((sum << 18) ^ (sum << 20)) ^ ((sum << 21) ^ (sum << 23)));
+    let back = (sum ^ again) % 0x1000000;
+    (back ^ (back >> 1))
+        ^ (((back >> 3) ^ (back >> 4)) ^ ((back >> 6) ^ ((back >> 9) ^ (back >> 10))))
+}
+
+// The register after octets, three at a time while there are three.
 pub(crate) fn after_octets(register: u32, octets: &[u8]) -> u32
     requires { ⌜ register < 2 ^ 24 ⌝ }
     ensures { λ r. ⌜ Register r (crcAfter (bits 24 register) (heard (now (octets .entry)))) ⌝ }
@@ -50,8 +65,16 @@ pub(crate) fn after_octets(register: u32, octets: &[u8]) -> u32
     let mut reached = register;
     let mut i = 0;
     while i < octets.len() {
-        reached = after_octet(reached, octets[i]);
-        i += 1;
+        if octets.len() - i < 3 {
+            reached = after_octet(reached, octets[i]);
+            i += 1;
+        } else {
+            reached = after_three(
+                reached,
+                u32_from_le_bytes(octets[i], octets[i + 1], octets[i + 2], 0),
+            );
+            i += 3;
+        }
     }
     reached
 }
