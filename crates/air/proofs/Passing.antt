@@ -1,4 +1,4 @@
--- What is sent on a channel passes through the air: `passes`, `beacons`, `examples`. Assumes nothing.
+-- What is sent on a channel passes through the air: `air`, `examples`. Assumes nothing.
 use mathlib.Core.Bool.{true, xor, cond}
 use mathlib.Core.List.{List, [], _∷_, _++_, flatten, append-assoc}
 use mathlib.Core.Path.{_≡_, refl, sym, ap, ap₂, _∙_}
@@ -28,12 +28,12 @@ use Rattle.beacon.specs.declared.beacon.Beacon.{Beacon}
 use Rattle.beacon.specs.declared.beacon.Made.{Made}
 use Rattle.whitening.proofs.Errors.{crcOctets-length}
 use Rattle.whitening.proofs.Heard.{hears}
-use Rattle.whitening.proofs.Twice.{whitens}
+use Rattle.whitening.proofs.Whitens.{whitens}
 use Rattle.whitening.specs.Bits.{bits, number, heard, octetsOf, added}
 use Rattle.whitening.specs.Crc.{crcAfter, crcOctets}
 use Rattle.whitening.specs.Packet.{startOn, flagOf}
 use Rattle.whitening.specs.Whitening.{leaving, whitening, plus, whitened}
-use Rattle.air.specs.Laws.{sentOn, headerIn, payloadIn, Passes, onAir, clear, Beacons, Examples}
+use Rattle.air.specs.Laws.{sentOn, headerIn, payloadIn, Passes, onAir, clear, Beacons, Air, Examples}
 
 -- the two octets of a header are read back
 header-back : (h : Header) (rest : List ℕ) → h .0 < 2 ^ 16 → headerIn (headerOctets h ++ rest) ≡ h
@@ -47,7 +47,7 @@ payload-back h p last three =
     let size : length ((headerOctets h ++ p) ++ last) - 5 ≡ length p = simp length-append (omega arith) in
     ap (λ (n : ℕ). take n (p ++ last)) size ∙ take-at p last (length p) refl
 
-pub passes : (channel start : ℕ) (h : Header) (p : List ℕ) → channel ≤ 39 → h .0 < 2 ^ 16 → length p ≤ 37 → Passes channel start h p
+passes : (channel start : ℕ) (h : Header) (p : List ℕ) → channel ≤ 39 → h .0 < 2 ^ 16 → length p ≤ 37 → Passes channel start h p
 passes channel start h p there small fits =
     let octets : List ℕ = headerOctets h ++ p in
     let last : List ℕ = crcOctets (startOn channel start) octets in
@@ -73,7 +73,7 @@ header-is a s n six good fits =
     let built = builders a s six .beacon in
     ap (λ (o : Outcome). cond (isAccepted o) (beaconPdu a s .pdu) (beaconPdu a [] .pdu) .header .0) (built .accepted n good fits) ∙ built .header n good fits
 
-pub beacons : (a : DeviceAddress) (s : List ℕ) (n channel start : ℕ) → length (a .bytes) ≡ 6 → readArea s ≡ area.Accepted n → length s ≤ 31 → channel ≤ 39
+beacons : (a : DeviceAddress) (s : List ℕ) (n channel start : ℕ) → length (a .bytes) ≡ 6 → readArea s ≡ area.Accepted n → length s ≤ 31 → channel ≤ 39
     → Beacons a s n channel start
 beacons a s n channel start six good fits there =
     let b = broadcasting a s n six good fits in
@@ -94,6 +94,9 @@ beacons a s n channel start six good fits there =
       reported = λ scanner list lets.
           ap₂ (λ (x : Header) (y : List ℕ). scanned scanner x y true list) header payload ∙ b .heard scanner list lets;
     }
+
+pub air : Air
+air = record { passes = passes; beacons = beacons }
 
 pub examples : Examples
 unfolding bits number heard octetsOf added crcAfter crcOctets leaving whitening plus whitened xor bufOf withRecords afterReading readArea areaOf reads withFirst cut first recordRead dataRead flagsRead upTo named clean rewritten flatten

@@ -1,16 +1,17 @@
--- A packet on the air: what is built is sent with its CRC and whitened, and heard, with the theorems of proofs/ that prove it.
+-- A packet on the air: what is built is sent with its CRC and whitened, and heard. `Air` is proved as Passing.air.
 --   sentOn channel start octets   == octets with their CRC behind them, whitened: what goes on the air
 --   headerIn, payloadIn packet    == a packet's header and its payload, the CRC left out
---   Passes    Passing.passes        a header and payload pass through the air unchanged, and the flag is good
---   Beacons   Passing.beacons       so a beacon that was built decodes to what was built, and is reported
---   Examples  Passing.examples      document 01's row on the air
+--   Passes, Beacons               == a header and payload pass through the air unchanged, and the flag is good; a beacon decodes to what was built
+--   Air                           == these, of every header and payload, every beacon, every channel and every start value
+--   Examples                      == document 01's row on the air, proved as Passing.examples
 use mathlib.Core.Bool.{true}
 use mathlib.Core.List.{List, [], _∷_, _++_, map}
 use mathlib.Core.Path.{_≡_}
-use Prim.Native.Nat.{ℕ, _+_, _-_}
+use Prim.Native.Nat.{ℕ, _+_, _-_, _≤_, _<_, _^_}
 use lib.ListN.{length, take, drop}
 use Rattle.octets.specs.Bytes.{le}
-use Rattle.records.specs.Area.{rewritten}
+use Rattle.records.specs.Area.{readArea, rewritten}
+use Rattle.records.specs.declared.area.Area.the-variants as area
 use Rattle.addresses.specs.Header.{headerOf, headerOctets}
 use Rattle.addresses.specs.declared.device_address.DeviceAddress.{DeviceAddress}
 use Rattle.addresses.specs.declared.header.Header.{Header}
@@ -65,6 +66,12 @@ pub record Beacons (a : DeviceAddress) (s : List ℕ) (n channel start : ℕ) : 
   pub reported : (scanner : BeaconScanner) (list : List ℕ) → Lets (scanner .filter .scan) list a
       → scanned scanner (headerIn (clear a s channel start)) (payloadIn (clear a s channel start)) true list
       ≡ record { report = report.Beacon; sender = a; «adv_data» = place; channel = scanner .channel }
+
+pub record Air : Type 0 where
+  pub passes : (channel start : ℕ) (h : Header) (p : List ℕ) → channel ≤ 39 → h .0 < 2 ^ 16 → length p ≤ 37 → Passes channel start h p
+  -- an address has six octets; n records that are read, in at most 31 octets
+  pub beacons : (a : DeviceAddress) (s : List ℕ) (n channel start : ℕ) → length (a .bytes) ≡ 6 → readArea s ≡ area.Accepted n → length s ≤ 31 → channel ≤ 39
+      → Beacons a s n channel start
 
 pub record Examples : Type 0 where
   -- document 01's row 42 09 on 37, 38 and 39, octet by octet, whatever the start value

@@ -1,7 +1,11 @@
 -- The flag as numbers.
---   flagSaid answer == the number of a refusal, or 0, and whether the CRC is right
-use mathlib.Core.Bool.{false}
+--   flagSaid answer  == the number of a refusal, or 0, and whether the CRC is right
+--   Examples         == worked values, proved as Said.examples
+use mathlib.Core.Bool.{true, false}
+use mathlib.Core.List.{[], _∷_, map}
+use mathlib.Core.Path.{_≡_}
 use Rattle.octets.specs.Error.{numberOf}
+use Rattle.octets.specs.declared.error.Error.the-variants.{NoSuchIndex}
 use Rattle.whitening.specs.declared.packet.Flag.{Flag}
 use Rattle.whitening.specs.declared.packet.Flag.the-variants as flag
 use Rattle.bit_stream.specs.declared.packet.FlagSaid.{FlagSaid}
@@ -9,3 +13,7 @@ use Rattle.bit_stream.specs.declared.packet.FlagSaid.{FlagSaid}
 abbrev pub flagSaid : Flag → FlagSaid
 flagSaid (flag.Is good) = record { number = 0; good = good }
 flagSaid (flag.Refused e) = record { number = numberOf e; good = false }
+
+pub record Examples : Type 0 where
+  pub flags : map flagSaid (flag.Is true ∷ flag.Is false ∷ flag.Refused NoSuchIndex ∷ [])
+      ≡ (record { number = 0; good = true }) ∷ (record { number = 0; good = false }) ∷ (record { number = 10; good = false }) ∷ []

@@ -1,8 +1,7 @@
 // A packet's bit stream, as numbers.
 ghost use mathlib.Core.Path.{_≡_};
-ghost use lib.ListN.{length};
 ghost use Rattle.whitening.specs.Crc.{crcOf, crcOctets};
-ghost use Rattle.whitening.specs.Packet.{allowed, leaves, flagOf, whitenedNumber};
+ghost use Rattle.whitening.specs.Packet.{whitenOf, whitenAfter, flagOf, whitenedNumber};
 ghost use Rattle.bit_stream.specs.Said.{flagSaid};
 use whitening::crc::crc;
 use whitening::crc::crc_octets;
@@ -27,7 +26,7 @@ pub struct CrcOctets {
 // The number of a refusal, or 0.
 #[no_mangle]
 pub extern "C" fn board_whiten(channel: u8, packet: &mut [u8]) -> u8
-    ensures { λ r. ⌜ (r ≡ whitenedNumber (allowed channel (length (now (packet .entry))))) × (now (packet .exit) ≡ leaves (allowed channel (length (now (packet .entry)))) channel (now (packet .entry))) ⌝ }
+    ensures { λ r. ⌜ (r ≡ whitenedNumber (whitenOf channel (now (packet .entry)))) × (now (packet .exit) ≡ whitenAfter channel (now (packet .entry))) ⌝ }
 {
     match whiten(channel, packet) {
         Whitened::Done => 0,

@@ -16,7 +16,7 @@ use Rattle.whitening.specs.declared.packet.Whitened.the-variants as w
 use Rattle.whitening.specs.declared.packet.Flag.the-variants as flag
 use Rattle.whitening.proofs.Errors.{crcOctets-length, own-good, checks, heard-length, xor-cancel}
 use Rattle.whitening.proofs.Limits.{allowed-done, allowed-is}
-use Rattle.whitening.proofs.Twice.{whitening-bits, whitened-length, whitens}
+use Rattle.whitening.proofs.Twice.{whitening-bits, whitened-length, adds, twice}
 
 flag-good : (answer : Whitened) (good : Bool) → flagged answer good ≡ flag.Is true → (answer ≡ w.Done) × (good ≡ true)
 flag-good w.Done good e = (refl, cc)
@@ -41,14 +41,14 @@ hears channel start = record { own = own; no-other = no-other; one-bit = one-bit
         let e : length (whitened channel packet) ≡ length octets + 3 = whitened-length channel packet (omega arith) ∙ n in
         ap₂ flagged
         (ap (allowed channel) e ∙ allowed-is channel (length octets + 3) h (omega arith) (omega arith))
-        (ap (crcGood (startOn channel start)) (whitens .twice channel packet (omega arith)) ∙ own-good (startOn channel start) octets)
+        (ap (crcGood (startOn channel start)) (twice channel packet (omega arith)) ∙ own-good (startOn channel start) octets)
 
     no-other : (octets last : List ℕ) → length octets ≤ 39 → length last ≡ 3 → flagOf channel start (whitened channel (octets ++ last)) ≡ flag.Is true
         → last ≡ crcOctets (startOn channel start) octets
     no-other octets last m e g =
         let n : length (octets ++ last) ≡ length octets + 3 = simp length-append (omega arith) in
         let good = flag-good (allowed channel (length (whitened channel (octets ++ last)))) (crcGood (startOn channel start) (whitened channel (whitened channel (octets ++ last)))) g in
-        checks (startOn channel start) .no-other octets last e (ap (crcGood (startOn channel start)) (sym (whitens .twice channel (octets ++ last) (omega arith))) ∙ good .1)
+        checks (startOn channel start) .no-other octets last e (ap (crcGood (startOn channel start)) (sym (twice channel (octets ++ last) (omega arith))) ∙ good .1)
 
     one-bit : (p q : List ℕ) (before after : List Bool) (b d : Bool) → heard p ≡ before ++ b ∷ after → heard q ≡ before ++ d ∷ after
         → flagOf channel start p ≡ flag.Is true → flagOf channel start q ≡ flag.Is true → b ≡ d
@@ -65,7 +65,7 @@ hears channel start = record { own = own; no-other = no-other; one-bit = one-bit
         (sum after (drop (suc (length before)) bs))
         (xor b (getD bs (length before) false))
         (xor d (getD bs (length before) false))
-        (whitens .adds channel p ∙ ap (λ (l : List Bool). sum l bs) e ∙ sum-at before b after bs place)
-        (whitens .adds channel q ∙ ap (λ (l : List Bool). sum l bs) f ∙ sum-at before d after bs place)
+        (adds channel p ∙ ap (λ (l : List Bool). sum l bs) e ∙ sum-at before b after bs place)
+        (adds channel q ∙ ap (λ (l : List Bool). sum l bs) f ∙ sum-at before d after bs place)
         (good-p .1)
         (good-q .1))

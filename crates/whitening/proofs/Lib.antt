@@ -7,8 +7,11 @@ pub mod Adding
 pub mod Twice
 pub mod Errors
 pub mod Limits
+pub mod Whitens
 pub mod Heard
 pub mod Numbers
+pub mod Dividing
 pub mod Starts
 pub mod Polynomials
 pub mod Examples
+pub mod Holding

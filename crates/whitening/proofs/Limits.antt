@@ -10,7 +10,7 @@ use borrow.Author.Tests.{ltb-false, lt-ltb, le-ltb}
 use Rattle.octets.specs.declared.error.Error.the-variants.{Eof, InvalidLength, NoSuchIndex}
 use Rattle.whitening.specs.Crc.{crcGood}
 use Rattle.whitening.specs.Laws.{Refusing, Starting}
-use Rattle.whitening.specs.Packet.{allowed, leaves, startOn, flagged, flagOf, whitenedNumber, flagNumber}
+use Rattle.whitening.specs.Packet.{allowed, leaves, startOn, flagged}
 use Rattle.whitening.specs.Whitening.{whitened}
 use Rattle.whitening.specs.declared.packet.Whitened.{Whitened}
 use Rattle.whitening.specs.declared.packet.Whitened.the-variants.{Done, Refused}
@@ -33,30 +33,18 @@ allowed-done channel n = go (ltb 39 channel) refl (ltb 42 n) refl (ltb n 5) refl
 pub allowed-is : (channel n : ℕ) → channel ≤ 39 → 5 ≤ n → n ≤ 42 → allowed channel n ≡ Done
 allowed-is channel n h l m = simp (le-ltb 39 channel h, le-ltb 42 n m, le-ltb n 5 l)
 
-module _ (channel : ℕ) (packet : List ℕ) where
-  kept-of : (answer : Whitened) → (whitenedNumber answer ≡ 0 → ⊥) → leaves answer channel packet ≡ packet
-  kept-of Done h = absurd (h refl)
-  kept-of (Refused e) h = refl
-
-  done-of : (answer : Whitened) → answer ≡ Done → leaves answer channel packet ≡ whitened channel packet
-  done-of answer e = ap (λ (a : Whitened). leaves a channel packet) e
-
-  flags-of : (answer : Whitened) (good : Bool) → flagNumber (flagged answer good) ≡ whitenedNumber answer
-  flags-of Done good = refl
-  flags-of (Refused e) good = refl
-
-  pub refusing : Refusing channel packet
-  refusing = record {
-    no-channel = λ h. simp (lt-ltb 39 channel h);
-    too-long = λ h l. simp (le-ltb 39 channel h, lt-ltb 42 (length packet) l);
-    too-short = λ h l.
-        let most : length packet ≤ 42 = omega arith in
-        simp (le-ltb 39 channel h, le-ltb 42 (length packet) most, lt-ltb (length packet) 5 l);
-    others = allowed-is channel (length packet);
-    kept = kept-of (allowed channel (length packet));
-    done = done-of (allowed channel (length packet));
-    flags = λ start. flags-of (allowed channel (length packet)) (crcGood (startOn channel start) (whitened channel packet));
-  }
+pub refusing : (channel : ℕ) (packet : List ℕ) → Refusing channel packet
+refusing channel packet = record {
+  no-channel = λ h. simp (lt-ltb 39 channel h);
+  too-long = λ h l. simp (le-ltb 39 channel h, lt-ltb 42 (length packet) l);
+  too-short = λ h l.
+      let most : length packet ≤ 42 = omega arith in
+      simp (le-ltb 39 channel h, le-ltb 42 (length packet) most, lt-ltb (length packet) 5 l);
+  others = allowed-is channel (length packet);
+  kept = λ e is. ap (λ (a : Whitened). leaves a channel packet) is;
+  done = λ is. ap (λ (a : Whitened). leaves a channel packet) is;
+  flag = λ start e is. ap (λ (a : Whitened). flagged a (crcGood (startOn channel start) (whitened channel packet))) is;
+}
 
 pub starting : (channel start : ℕ) → Starting channel start
 starting channel start = record {

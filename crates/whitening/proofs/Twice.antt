@@ -13,7 +13,7 @@ use lib.ListN.{length, getD, take, drop, length-append, length-take, length-drop
 use Rattle.octets.specs.Laws.{Octets}
 use Rattle.whitening.specs.Bits.{bits, number, heard, octetsOf, added, shifted}
 use Rattle.whitening.specs.Whitening.{whiteningTaps, registerOn, leaving, whitening, plus, whitened}
-use Rattle.whitening.specs.Laws.{sum, Whitens}
+use Rattle.whitening.specs.Laws.{sum}
 use Rattle.whitening.proofs.Bits.{below-two, odd-bit, bits-length, bits-number, number-small}
 use Rattle.whitening.proofs.Registers.{xor-lowest}
 use Rattle.whitening.proofs.Rows.{whitening-length}
@@ -144,13 +144,11 @@ pub whitened-octets : (channel : ℕ) (packet : List ℕ) → Octets packet → 
 unfolding whitened whitening
 whitened-octets channel packet o = plus-octets packet (whitening channel) o (octetsOf-octets 42 (leaving 336 (registerOn channel)))
 
-pub whitens : Whitens
+pub adds : (channel : ℕ) (packet : List ℕ) → heard (whitened channel packet) ≡ sum (heard packet) (leaving 336 (registerOn channel))
 unfolding whitened whitening
-whitens = record {
-  adds = λ channel packet.
-      heard-plus packet (whitening channel)
-      ∙ ap (sum (heard packet))
-      (heard-octetsOf 42 (leaving 336 (registerOn channel)) (whitening-bits channel));
-  as-long = whitened-length;
-  twice = λ channel packet h. plus-twice packet (whitening channel) (omega (arith, whitening-length channel));
-}
+adds channel packet =
+    heard-plus packet (whitening channel) ∙ ap (sum (heard packet)) (heard-octetsOf 42 (leaving 336 (registerOn channel)) (whitening-bits channel))
+
+pub twice : (channel : ℕ) (packet : List ℕ) → length packet ≤ 42 → whitened channel (whitened channel packet) ≡ packet
+unfolding whitened
+twice channel packet h = plus-twice packet (whitening channel) (omega (arith, whitening-length channel))

@@ -7,7 +7,7 @@ use Prim.Native.Nat.{ℕ}
 use lib.ListN.{take, drop}
 use Rattle.whitening.specs.Whitening.{whitening, whitened}
 use Rattle.whitening.specs.Crc.{crcOf, crcOctets}
-use Rattle.whitening.specs.Packet.{allowed, leaves, startOn, flagOf, whitenedNumber, flagNumber}
+use Rattle.whitening.specs.Packet.{allowed, whitenAfter, startOn, flagOf, whitenedNumber, flagNumber}
 use Rattle.whitening.specs.declared.packet.Whitened.the-variants as w
 use Rattle.whitening.specs.declared.packet.Flag.the-variants as flag
 
@@ -57,5 +57,5 @@ pub record Examples : Type 0 where
   pub no-channel : map (λ (n : ℕ). whitenedNumber (allowed 40 n)) (0 ∷ 4 ∷ 5 ∷ 42 ∷ 43 ∷ 255 ∷ []) ≡ 10 ∷ 10 ∷ 10 ∷ 10 ∷ 10 ∷ 10 ∷ []
   pub flags : map (λ (c : ℕ). flagNumber (flagOf c 0 (take 4 row))) (39 ∷ 40 ∷ []) ≡ 1 ∷ 10 ∷ []
   -- what is refused stays as it is
-  pub kept : map (λ (c : ℕ). leaves (allowed c 4) c (take 4 row)) (39 ∷ 40 ∷ []) ≡ take 4 row ∷ take 4 row ∷ []
-  pub left : leaves (allowed 39 11) 39 row ≡ whitened 39 row
+  pub kept : map (λ (c : ℕ). whitenAfter c (take 4 row)) (39 ∷ 40 ∷ []) ≡ take 4 row ∷ take 4 row ∷ []
+  pub left : whitenAfter 39 row ≡ whitened 39 row

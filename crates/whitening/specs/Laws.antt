@@ -1,27 +1,30 @@
--- What holds of whitening and of the CRC, each with the theorem of proofs/ that proves it.
---   Polynomials     Polynomials.polynomials   the two registers' terms, as the Core writes them and as rubble's number
---   Starts          Starts.starts             where whitening starts: `whitening_iv` of each channel is the register's start
---   Whitens         Twice.whitens             whitening adds the register's bits to the packet's, and twice is not at all
---   Numbers         Numbers.numbers           the CRC as a number and as octets; which bits of a start value count
---   Checks start    Errors.checks             a packet's own CRC is right, no other is, and of two packets that differ in one bit not both are right
---   Refusing        Limits.refusing           which calls are refused, in which order, and what they leave
---   Starting        Limits.starting           where the CRC starts on each channel
---   Hears           Heard.hears               the same of packets as they are heard on a channel, by the flag
+-- What holds of whitening and of the CRC: `Holds`, which is proved as Holding.holds, with a field for each law.
+--   Polynomials             the two registers' terms, as the Core writes them, and as a number
+--   Starts                  where whitening starts: `whitening_iv` of each channel is the register's start
+--   Whitens                 whitening adds the register's bits to the packet's, and twice is not at all
+--   Divides start octets    the CRC is what a division by the polynomial leaves
+--   Numbers start octets    the CRC as a number and as octets; only the low 24 bits of a start value count
+--   Checks start            a packet's own CRC is right, no other is, and of two packets that differ in one bit not both are right
+--   Refusing channel packet which calls are refused, in which order, and what they leave
+--   Starting channel start  where the CRC starts on each channel
+--   Hears channel start     a packet's own CRC, any other and one bit, of packets as they are heard on a channel, by the flag
 -- Worked values stand in specs/Examples.
 use mathlib.Core.Path.{_≡_}
-use mathlib.Core.Bool.{Bool, true, false, xor, _||_}
+use mathlib.Core.Bool.{Bool, true, false, xor, _&&_, _||_}
 use mathlib.Core.List.{List, [], _∷_, _++_, reverse}
 use Prim.Native.Nat.{ℕ, zero, suc, _+_, _≤_, _<_, _^_, _%_}
 use lib.Dec.{eqb}
-use lib.ListN.{length}
-use Rattle.octets.specs.Bytes.{le, leBytes}
+use lib.ListN.{length, replicate}
+use Rattle.octets.specs.Bytes.{leBytes}
+use Rattle.octets.specs.declared.error.Error.{Error}
+use Rattle.octets.specs.declared.error.Error.the-variants.{Eof, InvalidLength, NoSuchIndex}
 use Rattle.channels.specs.Phy.{indexOf, whiteningStart, dataWhitening, advertisingWhitening}
 use Rattle.channels.specs.declared.phy.AdvertisingChannel.{AdvertisingChannel}
 use Rattle.channels.specs.declared.phy.DataChannel.{DataChannel}
 use Rattle.whitening.specs.Bits.{bits, number, heard}
 use Rattle.whitening.specs.Whitening.{whiteningTaps, registerOn, leaving, whitened}
 use Rattle.whitening.specs.Crc.{crcTaps, crcOf, crcOctets, crcGood}
-use Rattle.whitening.specs.Packet.{allowed, leaves, startOn, flagOf, whitenedNumber, flagNumber}
+use Rattle.whitening.specs.Packet.{whitenOf, whitenAfter, startOn, flagOf}
 use Rattle.whitening.specs.declared.packet.Whitened.the-variants as w
 use Rattle.whitening.specs.declared.packet.Flag.the-variants as flag
 
@@ -37,7 +40,7 @@ terms (suc n) exponents = isIn n exponents ∷ terms n exponents
 pub record Polynomials : Type 0 where
   -- x^7 + x^4 + 1
   pub whitening : whiteningTaps ≡ terms 7 (4 ∷ 0 ∷ [])
-  -- x^24 + x^10 + x^9 + x^6 + x^4 + x^3 + x + 1, and rubble's `CRC_POLY`
+  -- x^24 + x^10 + x^9 + x^6 + x^4 + x^3 + x + 1, and the number that rubble has for it
   pub crc : crcTaps ≡ terms 24 (10 ∷ 9 ∷ 6 ∷ 4 ∷ 3 ∷ 1 ∷ 0 ∷ [])
   pub crc-poly : number (reverse crcTaps) + 2 ^ 24 ≡ 0b1_00000000_00000110_01011011
 
@@ -58,6 +61,24 @@ pub record Whitens : Type 0 where
   pub adds : (channel : ℕ) (packet : List ℕ) → heard (whitened channel packet) ≡ sum (heard packet) (leaving 336 (registerOn channel))
   pub as-long : (channel : ℕ) (packet : List ℕ) → length packet ≤ 42 → length (whitened channel packet) ≡ length packet
   pub twice : (channel : ℕ) (packet : List ℕ) → length packet ≤ 42 → whitened channel (whitened channel packet) ≡ packet
+  -- and of two calls, of any packet, refused or not
+  pub called-twice : (channel : ℕ) (packet : List ℕ) → whitenAfter channel (whitenAfter channel packet) ≡ packet
+
+-- A polynomial is the list of its coefficients, the highest first: quotient times x^24 + x^10 + x^9 + x^6 + x^4 + x^3 + x + 1 has 24 more than quotient.
+unfoldable pub each : Bool → List Bool → List Bool
+each q [] = []
+each q (t ∷ ts) = (q && t) ∷ each q ts
+
+unfoldable pub product : List Bool → List Bool
+product [] = replicate 24 false
+product (q ∷ qs) = sum (each q (terms 25 (24 ∷ 10 ∷ 9 ∷ 6 ∷ 4 ∷ 3 ∷ 1 ∷ 0 ∷ [])) ++ replicate (length qs) false) (false ∷ product qs)
+
+-- The bits as they are heard and 24 zeros behind them, the start value's 24 bits added to the front, position 23 first: divided by the polynomial, they leave the CRC.
+pub record Divides (start : ℕ) (octets : List ℕ) : Type 0 where
+  pub quotient : List Bool
+  pub size : length quotient ≡ length (heard octets)
+  pub left : sum (heard octets ++ replicate 24 false) (reverse (bits 24 start) ++ replicate (length (heard octets)) false)
+      ≡ sum (product quotient) (replicate (length (heard octets)) false ++ bits 24 (crcOf start octets))
 
 -- The octets that are sent are the number's, least significant first; "the low 24 bits of any start value" count.
 pub record Numbers (start : ℕ) (octets : List ℕ) : Type 0 where
@@ -71,16 +92,16 @@ pub record Checks (start : ℕ) : Type 0 where
   pub one-bit : (p q : List ℕ) (before after : List Bool) (b d : Bool) → heard p ≡ before ++ b ∷ after → heard q ≡ before ++ d ∷ after
       → crcGood start p ≡ true → crcGood start q ≡ true → b ≡ d
 
--- "10, channel above 39, tested first; a packet above 42 octets is 2, one under 5 is 1"; what is refused stays as it is.
+-- "10, channel above 39, tested first; a packet above 42 octets is 2, one under 5 is 1": `numberOf` of octets has these numbers. What is refused stays as it is.
 pub record Refusing (channel : ℕ) (packet : List ℕ) : Type 0 where
-  pub no-channel : 39 < channel → whitenedNumber (allowed channel (length packet)) ≡ 10
-  pub too-long : channel ≤ 39 → 42 < length packet → whitenedNumber (allowed channel (length packet)) ≡ 2
-  pub too-short : channel ≤ 39 → length packet < 5 → whitenedNumber (allowed channel (length packet)) ≡ 1
-  pub others : channel ≤ 39 → 5 ≤ length packet → length packet ≤ 42 → allowed channel (length packet) ≡ w.Done
-  pub kept : (whitenedNumber (allowed channel (length packet)) ≡ 0 → ⊥) → leaves (allowed channel (length packet)) channel packet ≡ packet
-  pub done : allowed channel (length packet) ≡ w.Done → leaves (allowed channel (length packet)) channel packet ≡ whitened channel packet
+  pub no-channel : 39 < channel → whitenOf channel packet ≡ w.Refused NoSuchIndex
+  pub too-long : channel ≤ 39 → 42 < length packet → whitenOf channel packet ≡ w.Refused InvalidLength
+  pub too-short : channel ≤ 39 → length packet < 5 → whitenOf channel packet ≡ w.Refused Eof
+  pub others : channel ≤ 39 → 5 ≤ length packet → length packet ≤ 42 → whitenOf channel packet ≡ w.Done
+  pub kept : (e : Error) → whitenOf channel packet ≡ w.Refused e → whitenAfter channel packet ≡ packet
+  pub done : whitenOf channel packet ≡ w.Done → whitenAfter channel packet ≡ whitened channel packet
   -- the flag is refused as whitening is
-  pub flags : (start : ℕ) → flagNumber (flagOf channel start packet) ≡ whitenedNumber (allowed channel (length packet))
+  pub flag : (start : ℕ) (e : Error) → whitenOf channel packet ≡ w.Refused e → flagOf channel start packet ≡ flag.Refused e
 
 -- "started from `0x555555` on advertising channels and from the connect request's value afterwards", which is "unused on 37 to 39".
 pub record Starting (channel start : ℕ) : Type 0 where
@@ -95,3 +116,14 @@ pub record Hears (channel start : ℕ) : Type 0 where
       → last ≡ crcOctets (startOn channel start) octets
   pub one-bit : (p q : List ℕ) (before after : List Bool) (b d : Bool) → heard p ≡ before ++ b ∷ after → heard q ≡ before ++ d ∷ after
       → flagOf channel start p ≡ flag.Is true → flagOf channel start q ≡ flag.Is true → b ≡ d
+
+pub record Holds : Type 0 where
+  pub polynomials : Polynomials
+  pub starts : Starts
+  pub whitens : Whitens
+  pub divides : (start : ℕ) (octets : List ℕ) → Divides start octets
+  pub numbers : (start : ℕ) (octets : List ℕ) → Numbers start octets
+  pub checks : (start : ℕ) → Checks start
+  pub refusing : (channel : ℕ) (packet : List ℕ) → Refusing channel packet
+  pub starting : (channel start : ℕ) → Starting channel start
+  pub hears : (channel start : ℕ) → Hears channel start

@@ -2,11 +2,11 @@
 --
 --   | header 2 | payload 0 .. 37 | CRC 3 |
 --
---   allowed channel n                 == whether there is a channel of this index and a packet of n octets, tested in this order
---   leaves answer channel packet      == a packet after the call of `whiten` with this answer
---   startOn channel start             == where the CRC starts on a channel
---   flagOf channel start packet       == the CRC flag of a packet that is still whitened
---   whitenedNumber, flagNumber answer == document 01's number of an answer, 0 where it is no refusal
+--   allowed channel n                    == whether there is a channel of this index and a packet of n octets, tested in this order
+--   whitenOf, whitenAfter channel packet == what `whiten` answers, and the packet after it
+--   startOn channel start                == where the CRC starts on a channel
+--   flagOf channel start packet          == the CRC flag of a packet that is still whitened
+--   whitenedNumber, flagNumber answer    == the number of an answer, 0 where it is no refusal
 use Prim.Native.Nat.{ℕ}
 use mathlib.Core.Bool.{Bool, cond}
 use mathlib.Core.List.{List}
@@ -25,9 +25,15 @@ abbrev pub allowed : ℕ → ℕ → Whitened
 allowed channel n =
     cond (ltb 39 channel) (w.Refused NoSuchIndex) (cond (ltb 42 n) (w.Refused InvalidLength) (cond (ltb n 5) (w.Refused Eof) w.Done))
 
+abbrev pub whitenOf : ℕ → List ℕ → Whitened
+whitenOf channel packet = allowed channel (length packet)
+
 abbrev pub leaves : Whitened → ℕ → List ℕ → List ℕ
 leaves w.Done channel packet = whitened channel packet
 leaves (w.Refused e) channel packet = packet
+
+abbrev pub whitenAfter : ℕ → List ℕ → List ℕ
+whitenAfter channel packet = leaves (whitenOf channel packet) channel packet
 
 -- 0x555555 on the advertising channels, which do not use the connect request's value
 abbrev pub startOn : ℕ → ℕ → ℕ
@@ -38,7 +44,7 @@ flagged w.Done good = flag.Is good
 flagged (w.Refused e) good = flag.Refused e
 
 abbrev pub flagOf : ℕ → ℕ → List ℕ → Flag
-flagOf channel start packet = flagged (allowed channel (length packet)) (crcGood (startOn channel start) (whitened channel packet))
+flagOf channel start packet = flagged (whitenOf channel packet) (crcGood (startOn channel start) (whitened channel packet))
 
 abbrev pub whitenedNumber : Whitened → ℕ
 whitenedNumber w.Done = 0

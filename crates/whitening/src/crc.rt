@@ -15,9 +15,6 @@ pub const CRC_POLY: u32 = 0b1_00000000_00000110_01011011;
 // Where the CRC starts on the advertising channels.
 pub const CRC_PRESET: u32 = 0x555555;
 
-// The register that it stands for: bit i of a start value goes to position i.
-pub(crate) const PRESET_REGISTER: u32 = 0xAAAAAA;
-
 // The register that a start value stands for: its low 24 bits in the other order.
 pub(crate) fn register_at(start: u32) -> u32
     ensures { λ r. ⌜ Register r (crcStart start) ⌝ }

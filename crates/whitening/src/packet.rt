@@ -1,5 +1,5 @@
 // A packet as it is heard: its whitening and its check. A packet is a header of 2 octets, up to 37 of payload and 3 of CRC.
-use crate::crc::PRESET_REGISTER;
+use crate::crc::CRC_PRESET;
 use crate::crc::after_octets;
 use crate::crc::register_at;
 use crate::table::WHITENING;
@@ -9,7 +9,7 @@ ghost use Prim.Native.Nat.{_≤_};
 ghost use lib.ListN.{length};
 ghost use Rattle.whitening.specs.Crc.{crcStart, crcGood};
 ghost use Rattle.whitening.specs.Number.{Register};
-ghost use Rattle.whitening.specs.Packet.{allowed, leaves, startOn, flagOf};
+ghost use Rattle.whitening.specs.Packet.{allowed, whitenOf, whitenAfter, startOn, flagOf};
 ghost use Rattle.whitening.specs.Whitening.{plus, whitening, whitened};
 
 // The access address before every packet on the advertising channels.
@@ -79,7 +79,7 @@ fn add_whitening(channel: u8, packet: &mut [u8])
 
 // Whitens a packet, or takes the whitening off, in place. What is refused stays as it is.
 pub fn whiten(channel: u8, packet: &mut [u8]) -> Whitened
-    ensures { λ r. ⌜ (r ≡ allowed channel (length (now (packet .entry)))) × (now (packet .exit) ≡ leaves (allowed channel (length (now (packet .entry)))) channel (now (packet .entry))) ⌝ }
+    ensures { λ r. ⌜ (r ≡ whitenOf channel (now (packet .entry))) × (now (packet .exit) ≡ whitenAfter channel (now (packet .entry))) ⌝ }
 {
     let answer = allows(channel, packet.len());
     match answer {
@@ -96,7 +96,7 @@ fn register_on(channel: u8, start: u32) -> u32
     ensures { λ r. ⌜ Register r (crcStart (startOn channel start)) ⌝ }
 {
     if 36 < channel {
-        return PRESET_REGISTER;
+        return register_at(CRC_PRESET);
     }
     register_at(start)
 }

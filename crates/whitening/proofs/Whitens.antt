@@ -1,0 +1,27 @@
+-- What whitening does, and what two calls do. Assumes nothing.
+use mathlib.Core.Path.{_≡_, refl, ap, _∙_}
+use mathlib.Core.List.{List}
+use Prim.Native.Nat.{ℕ}
+use lib.ListN.{length}
+use Rattle.whitening.specs.Laws.{Whitens}
+use Rattle.whitening.specs.Packet.{allowed, whitenOf, leaves, whitenAfter}
+use Rattle.whitening.specs.Whitening.{whitened}
+use Rattle.whitening.specs.declared.packet.Whitened.{Whitened}
+use Rattle.whitening.specs.declared.packet.Whitened.the-variants.{Done, Refused}
+use Rattle.whitening.proofs.Limits.{allowed-done}
+use Rattle.whitening.proofs.Twice.{adds, twice, whitened-length}
+
+called-twice : (channel : ℕ) (packet : List ℕ) → whitenAfter channel (whitenAfter channel packet) ≡ packet
+called-twice channel packet = go (whitenOf channel packet) refl
+  where
+    go : (answer : Whitened) → whitenOf channel packet ≡ answer → whitenAfter channel (leaves (whitenOf channel packet) channel packet) ≡ packet
+    go Done is =
+        let most = allowed-done channel (length packet) is .most in
+        let same : whitenOf channel (whitened channel packet) ≡ Done = ap (allowed channel) (whitened-length channel packet most) ∙ is in
+        ap (λ (a : Whitened). whitenAfter channel (leaves a channel packet)) is
+        ∙ ap (λ (a : Whitened). leaves a channel (whitened channel packet)) same
+        ∙ twice channel packet most
+    go (Refused e) is = ap (λ (a : Whitened). whitenAfter channel (leaves a channel packet)) is ∙ ap (λ (a : Whitened). leaves a channel packet) is
+
+pub whitens : Whitens
+whitens = record { adds = adds; as-long = whitened-length; twice = twice; called-twice = called-twice }
