@@ -1,5 +1,6 @@
-// Links libexports, libdecode and libbasics. They are the archives that `rt staticlib NAME` writes; EXPORTS_DIR names another folder that holds them. With
-// EXPORTS_LINK=dylib they are shared objects, which the program finds by LD_LIBRARY_PATH when it starts: compare/faults tries many of them.
+// Links libexports, libdecode, libbasics and libbit_stream. They are the archives that `rt staticlib NAME` writes; EXPORTS_DIR names another folder
+// that holds them. With EXPORTS_LINK=dylib they are shared objects, which the program finds by LD_LIBRARY_PATH when it starts: compare/faults tries
+// many of them.
 fn main() {
     let here = std::env::var("CARGO_MANIFEST_DIR").unwrap();
     let dir = std::env::var("EXPORTS_DIR").unwrap_or(format!("{here}/../target/staticlib"));
@@ -7,7 +8,7 @@ fn main() {
     println!("cargo:rerun-if-env-changed=EXPORTS_DIR");
     println!("cargo:rerun-if-env-changed=EXPORTS_LINK");
     println!("cargo:rustc-link-search=native={dir}");
-    for name in ["exports", "decode", "basics"] {
+    for name in ["exports", "decode", "basics", "bit_stream"] {
         if link == "static" {
             println!("cargo:rerun-if-changed={dir}/lib{name}.a");
         }

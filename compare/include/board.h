@@ -1,8 +1,8 @@
-/* The proved functions that can be linked, of libdecode.a, libexports.a and libbasics.a.
+/* The proved functions that can be linked, of libdecode.a, libexports.a, libbasics.a and libbit_stream.a.
  *
  * `rt staticlib NAME` writes target/staticlib/libNAME.a. The archives are for x86-64 Linux. Of other libraries they call memcpy only; they allocate
  * nothing and keep nothing between calls. Every input has an answer. From C: cc -Icompare/include PROGRAM.c target/staticlib/libdecode.a; from Rust:
- * rustc -L native=target/staticlib -l static=decode PROGRAM.rs, with the structs as #[repr(C)] (compare/src/ours.rs and its ours/basics.rs have them).
+ * rustc -L native=target/staticlib -l static=decode PROGRAM.rs, with the structs as #[repr(C)] (compare/src/ours.rs and its ours/ have them).
  *
  * A slice is a pointer and a length; the pointer is not null, also where the length is 0. No two buffers of a call overlap if one of them is
  * written. A bool is 0 or 1.
@@ -12,7 +12,7 @@
  *   2 a length that does not fit                                     7 a payload length to set outside 6 to 37
  *   3 an unknown PDU type, a name that is not UTF-8, a bad list      8 a data channel above 36, a place that a map does not have
  *   4 a header of under two octets                                   9 a record length above 255
- *   5 the wrong mode
+ *   5 the wrong mode                                                10 a channel index above 39
  * What has no meaning in an answer is 0, save two fields of BoardPacket. A call that is refused leaves its buffers as they were; board_call, as the
  * calls of its list left them.
  *
@@ -384,6 +384,34 @@ BoardGot board_should_scan(bool scan, const uint8_t *list, size_t list_len, cons
 /* The Flags of a start, and those of a beacon. */
 uint8_t board_discoverable_flags(void);
 uint8_t board_broadcast_flags(void);
+
+/* --- libbit_stream.a --- */
+
+/* A packet as it is heard: header, payload and CRC, whitened, 5 to 42 octets. A channel above 39 is refused with 10, which is tested first; more octets
+ * with 2, fewer with 1. Of a start value, which is a connect request's crc_init, the low 24 bits count. */
+
+/* Adds a channel's whitening to a packet, or takes it off; the number of a refusal, or 0. */
+uint8_t board_whiten(uint8_t channel, uint8_t *packet, size_t packet_len);
+
+/* The CRC of any octets, from a start value on: 0x555555 on the channels 37 to 39. Its 24 bits as a number, the one sent first the lowest. */
+uint32_t board_crc(uint32_t start, const uint8_t *octets, size_t octets_len);
+
+/* The three octets of a CRC, in the order in which they are sent: the number's lowest first. */
+typedef struct BoardCrcOctets {
+    uint8_t octets[3];
+} BoardCrcOctets;
+
+/* The same CRC, to append. */
+BoardCrcOctets board_crc_octets(uint32_t start, const uint8_t *octets, size_t octets_len);
+
+/* good: the last three octets are the CRC of those before them, whatever the header counts. */
+typedef struct BoardFlagSaid {
+    uint8_t number;
+    bool good;
+} BoardFlagSaid;
+
+/* The CRC flag of a packet that is still whitened, and stays so. The start value is not used on the channels 37 to 39. */
+BoardFlagSaid board_crc_flag(uint8_t channel, uint32_t start, const uint8_t *packet, size_t packet_len);
 
 #ifdef __cplusplus
 }

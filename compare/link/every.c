@@ -1,5 +1,5 @@
-/* Calls every function, so that each field of the header is held to a known answer: every.out, whose values are document 01's. What the header says of
- * `which`, kinds, refusals and lists that are cut is tried one by one. */
+/* Calls every function, so that each field of the header is held to a known answer: every.out, whose values are document 01's, and of the bit stream
+ * those on which other implementations agree. What the header says of `which`, kinds, refusals and lists that are cut is tried one by one. */
 #include "board.h"
 #include <stdio.h>
 #include <string.h>
@@ -300,10 +300,57 @@ static void refusals(void) {
     printf("1 %d %04x %d %d %d", b.number, b.header, b.first, b.second, b.third), octets(S(out)), printf("\n");
 }
 
+static void whitened(const char *name, uint8_t channel, uint8_t *packet, size_t n) {
+    printf("%s board_whiten %d", name, board_whiten(channel, packet, n)), octets(packet, n), printf("\n");
+}
+
+static void flag(const char *name, BoardFlagSaid f) { printf("%s board_crc_flag %d %d\n", name, f.number, f.good); }
+
+static void crc(const char *name, uint32_t start, const uint8_t *s, size_t n) {
+    BoardCrcOctets c = board_crc_octets(start, s, n);
+    printf("%s board_crc %06x", name, board_crc(start, s, n)), octets(c.octets, 3), printf("\n");
+}
+
+/* CRCs: the check value of CRC-24/BLE, and start values of more than 24 bits. Document 01's beacon as it is heard on 39 and, with a bit off, on 38; a
+ * data packet on 10, asked with three start values; the least packet on 36 and 37, which alone does not use the value. Both sides of each limit. */
+static void stream(void) {
+    static const uint8_t digits[] = {0x31, 0x32, 0x33, 0x34, 0x35, 0x36, 0x37, 0x38, 0x39}, data[] = {0x0D, 0, 0};
+    static const uint8_t on10[] = {0x98, 0xC2, 0xD7, 0x65, 0xBB, 0xBB, 0xD1, 0x18}, on36[] = {0x46, 0x20, 0xCC, 0x30, 0x06};
+    static const uint8_t on37[] = {0x8F, 0xD2, 0x23, 0x77, 0xDF}, used37[] = {0x8F, 0xD2, 0xC2, 0x4F, 0xDA};
+    static const uint8_t on38[] = {0x95, 0xCC, 0x45, 0x22, 0x5A, 0xDA, 0xE4, 0x49, 0x19, 0xA4, 0xA9, 0xDD, 0xAC, 0x8C};
+    static const uint8_t channels[] = {0, 39, 40, 255}, lengths[] = {0, 4, 5, 42, 43, 255};
+    static uint8_t sent[14] = {0x42, 0x09, 1, 2, 3, 4, 5, 0xC6, 2, 1, 6, 0x9F, 0xD7, 0xC2}, any[255];
+    crc("digits", 0x555555, S(digits));
+    crc("beacon", 0x555555, sent, 11);
+    crc("data", 0x123456, S(data));
+    crc("data", 0xFF123456, S(data));
+    crc("none", 1, data, 0);
+    crc("none", 0xFF800000, data, 0);
+    whitened("39", 39, S(sent));
+    flag("39", board_crc_flag(39, 0x123456, S(sent)));
+    whitened("39", 39, S(sent));
+    flag("38", board_crc_flag(38, 0, S(on38)));
+    flag("10", board_crc_flag(10, 0x123456, S(on10)));
+    flag("10", board_crc_flag(10, 0xFF123456, S(on10)));
+    flag("10", board_crc_flag(10, 0x555555, S(on10)));
+    flag("36", board_crc_flag(36, 0x123456, S(on36)));
+    flag("36", board_crc_flag(36, 0x555555, S(on36)));
+    flag("37", board_crc_flag(37, 0x123456, S(on37)));
+    flag("37", board_crc_flag(37, 0x555555, S(on37)));
+    flag("37", board_crc_flag(37, 0x123456, S(used37)));
+    for (size_t c = 0; c < sizeof channels; c++)
+        for (size_t n = 0; n < sizeof lengths; n++) {
+            memset(any, 0, sizeof any);
+            BoardFlagSaid f = board_crc_flag(channels[c], 0, any, lengths[n]);
+            printf("%d %d %d %d", channels[c], lengths[n], f.number, f.good);
+            printf(" board_whiten %d", board_whiten(channels[c], any, lengths[n])), octets(any, 44), printf("\n");
+        }
+}
+
 int main(void) {
     memset(out, 0xFF, sizeof out);
     leaves(), packets(), areas(), positions(), air();
     memset(out, 0xFF, sizeof out);
-    builders(), writes(), device(), scanner(), refusals();
+    builders(), writes(), device(), scanner(), refusals(), stream();
     return 0;
 }

@@ -1,4 +1,4 @@
-//! What was compared: comparisons and refusals by kind, lengths of payloads, near misses, replies, connections and events of lists.
+//! What was compared: comparisons and refusals by kind, lengths of payloads, near misses, replies, connections and events of lists, CRC flags.
 use crate::inputs::marks_any;
 use crate::ours::BEHIND;
 use crate::request::{Kind, Request, CALL, KINDS};
@@ -26,6 +26,11 @@ const EVENTS: [(&str, usize); 5] = [("none", 0), ("1-9", 1), ("10-99", 10), ("10
 
 const LIVED: [(&str, usize); 4] = [("none", 0), ("1-9", 1), ("10-99", 10), ("100-400", 100)];
 
+const FLAGS: [&str; 4] = ["good on 0 to 36", "bad", "good on 37 to 39", "bad"];
+
+/// Numbers that an answer has: 0, and those of refusals.
+const NUMBERS: usize = 11;
+
 /// The octets of an answer of two numbers, of a record, of a call before both buffers, and of a scanner.
 const GOT: usize = 17;
 const RECORD: usize = 29;
@@ -34,7 +39,7 @@ const SCANNER_ANSWER: usize = 38;
 
 pub struct Counts {
     /// For each kind how often it was answered with each number; 0 is no refusal.
-    answers: [[u64; 10]; KINDS.len()],
+    answers: [[u64; NUMBERS]; KINDS.len()],
     lengths: [[u64; 256]; GROUPS.len()],
     device_off: [u64; DEVICE_OFF.len()],
     scanner_off: [u64; SCANNER_OFF.len()],
@@ -45,12 +50,16 @@ pub struct Counts {
     events: [u64; EVENTS.len()],
     scanner_packets: [u64; LIVED.len()],
     scanner_updates: [u64; LIVED.len()],
+    flags: [u64; FLAGS.len()],
+    /// By channel and by octets, of packets that were whitened or had their flag asked.
+    heard_on: [u64; 256],
+    heard_octets: [u64; 256],
 }
 
 impl Default for Counts {
     fn default() -> Self {
         Counts {
-            answers: [[0; 10]; KINDS.len()],
+            answers: [[0; NUMBERS]; KINDS.len()],
             lengths: [[0; 256]; GROUPS.len()],
             device_off: [0; DEVICE_OFF.len()],
             scanner_off: [0; SCANNER_OFF.len()],
@@ -61,6 +70,9 @@ impl Default for Counts {
             events: [0; EVENTS.len()],
             scanner_packets: [0; LIVED.len()],
             scanner_updates: [0; LIVED.len()],
+            flags: [0; FLAGS.len()],
+            heard_on: [0; 256],
+            heard_octets: [0; 256],
         }
     }
 }
@@ -87,7 +99,7 @@ impl Counts {
             Kind::Calls => return self.count_list(r, answer),
             Kind::Events => {
                 let events = answer.len() / GOT;
-                row[answer[answer.len() - GOT] as usize % 10] += 1;
+                row[answer[answer.len() - GOT] as usize % NUMBERS] += 1;
                 row[0] += events as u64 - 1;
                 return events as u64;
             }
@@ -97,6 +109,7 @@ impl Counts {
                 let filter = (r.numbers[0] == 1).then_some(&list[..]);
                 self.count_heard(filter, header, payload, r.numbers[2] == 1);
             }
+            Kind::Whiten | Kind::CrcFlag => self.count_stream(r, answer),
             _ => {}
         }
         // Records and UUIDs are read one by one: the last answer is the end, or the refusal.
@@ -106,15 +119,24 @@ impl Counts {
             kind if kind.has_number() => answer[0],
             _ => 0,
         };
-        self.answers[r.kind as usize][number as usize % 10] += 1;
+        self.answers[r.kind as usize][number as usize % NUMBERS] += 1;
         1
+    }
+
+    fn count_stream(&mut self, r: &Request, answer: &[u8]) {
+        let channel = r.numbers[0] as usize;
+        self.heard_on[channel % 256] += 1;
+        self.heard_octets[r.parts[0].len().min(255)] += 1;
+        if r.kind == Kind::CrcFlag && answer[0] == 0 {
+            self.flags[2 * (channel > 36) as usize + (answer[1] == 0) as usize] += 1;
+        }
     }
 
     fn count_list(&mut self, r: &Request, answer: &[u8]) -> u64 {
         let size = CALL_ANSWER + (r.numbers[1] + r.numbers[2]) as usize + 2 * BEHIND;
         let (mut connections, mut events) = (0, 0);
         for (c, a) in r.parts[1].chunks_exact(CALL).zip(answer.chunks_exact(size)) {
-            self.answers[Kind::Calls as usize][a[0] as usize % 10] += 1;
+            self.answers[Kind::Calls as usize][a[0] as usize % NUMBERS] += 1;
             connections += (a[1] == 4) as usize;
             events += (a[1] == 5) as usize;
             match (c[0], a[0], a[1]) {
@@ -157,7 +179,7 @@ impl Counts {
         let filter = (r.numbers[0] == 1).then_some(&r.parts[0][..]);
         let (mut packets, mut updates) = (0, 0);
         for (c, a) in r.parts[1].chunks_exact(CALL).zip(answer.chunks_exact(SCANNER_ANSWER)) {
-            self.answers[Kind::ScannerCalls as usize][a[0] as usize % 10] += 1;
+            self.answers[Kind::ScannerCalls as usize][a[0] as usize % NUMBERS] += 1;
             match c[0] {
                 0 => {}
                 1 => updates += 1,
@@ -212,6 +234,9 @@ impl Counts {
         add(&mut self.events, &more.events);
         add(&mut self.scanner_packets, &more.scanner_packets);
         add(&mut self.scanner_updates, &more.scanner_updates);
+        add(&mut self.flags, &more.flags);
+        add(&mut self.heard_on, &more.heard_on);
+        add(&mut self.heard_octets, &more.heard_octets);
     }
 
     pub fn total(&self) -> u64 {
@@ -249,12 +274,17 @@ impl Counts {
         print_row("lists of calls by events", &EVENTS.map(|c| c.0), &self.events);
         print_row("scanners by packets", &LIVED.map(|c| c.0), &self.scanner_packets);
         print_row("scanners by timer updates", &LIVED.map(|c| c.0), &self.scanner_updates);
+        print_row("CRC flags", &FLAGS, &self.flags);
+        let met = |of: &[u64]| of.iter().filter(|n| **n > 0).count();
+        if met(&self.heard_on) > 0 {
+            println!("packets as heard: {} of 256 channel numbers and {} of 256 lengths met", met(&self.heard_on), met(&self.heard_octets));
+        }
     }
 
     fn print_kinds(&self) {
         println!("{:<20}{:>13}{:>13}  {}", "kind", "comparisons", "refused", "refusals by number");
         for (kind, row) in KINDS.iter().zip(&self.answers).filter(|k| k.1.iter().any(|n| *n > 0)) {
-            let numbers: Vec<String> = (1..10).filter(|n| row[*n] > 0).map(|n| format!("{n}: {}", row[n])).collect();
+            let numbers: Vec<String> = (1..NUMBERS).filter(|n| row[*n] > 0).map(|n| format!("{n}: {}", row[n])).collect();
             let refused: u64 = row[1..].iter().sum();
             println!("{:<20}{:>13}{refused:>13}  {}", format!("{kind:?}"), row.iter().sum::<u64>(), numbers.join(", "));
         }

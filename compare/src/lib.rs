@@ -1,4 +1,4 @@
-//! Both sides of the comparison. A request is a kind, numbers and octets; `ours` and `theirs` write its answer as octets.
+//! Both sides of the comparison. A request is a kind, numbers and octets; `ours` and `theirs` write its answer as octets, of the bit stream `stream`.
 pub mod counts;
 pub mod device;
 pub mod inputs;
@@ -8,5 +8,7 @@ pub mod request;
 pub mod rng;
 pub mod scanner;
 pub mod shrink;
+pub mod stream;
+pub mod tables;
 pub mod theirs;
 pub mod wide;

@@ -1,9 +1,9 @@
-//! Compares the translation with rubble; `usage.txt` says how it is called and how it ends.
+//! Compares the translation with rubble, and its bit stream with `stream`; `usage.txt` says how it is called and how it ends.
 use compare::counts::Counts;
 use compare::made::{self, Each, Share};
 use compare::request::{brief, hex, line, Request, CALL};
 use compare::shrink::smallest;
-use compare::{ours, theirs, wide};
+use compare::{ours, stream, theirs, wide};
 use std::io::IsTerminal;
 use std::panic::{catch_unwind, AssertUnwindSafe};
 use std::process::exit;
@@ -16,7 +16,7 @@ const USAGE: &str = include_str!("usage.txt");
 type Suite = (&'static str, fn(&Share, Each));
 
 /// The parts by their names, with the number of requests that each makes.
-const SUITES: [Suite; 13] = [
+const SUITES: [Suite; 14] = [
     ("headers", |s, e| made::all_headers(s, e)),
     ("packets", |s, e| made::packets(s, 8_000_000, e)),
     ("few-octets", |s, e| made::small_areas(s, e)),
@@ -49,6 +49,11 @@ const SUITES: [Suite; 13] = [
         wide::updates(s, 200, e);
     }),
     ("utf8", |s, e| made::strings(s, e)),
+    ("stream", |s, e| {
+        stream::made::whitenings(s, 500, e);
+        stream::made::crcs(s, 2_500_000, e);
+        stream::made::flags(s, 600_000, e);
+    }),
 ];
 
 static MADE: AtomicU64 = AtomicU64::new(0);
@@ -69,7 +74,8 @@ impl Both {
         self.theirs.clear();
         ours::answer(r, &mut self.ours);
         let theirs = &mut self.theirs;
-        let answered = catch_unwind(AssertUnwindSafe(|| theirs::answer(r, theirs)));
+        let other = if r.kind.is_stream() { stream::answer } else { theirs::answer };
+        let answered = catch_unwind(AssertUnwindSafe(|| other(r, theirs)));
         answered.is_ok() && self.ours == self.theirs
     }
 
@@ -100,7 +106,7 @@ impl Both {
         self.agree(&least);
         println!("\ndifference: {}", brief(&least));
         println!("  ours    {}", hex(&self.ours));
-        println!("  rubble  {}", hex(&self.theirs));
+        println!("  {}  {}", if r.kind.is_stream() { "stream" } else { "rubble" }, hex(&self.theirs));
         println!("  request {}", line(&least));
         if r.kind.is_list() {
             println!("found in a list of {} calls", r.parts[1].len() / CALL);

@@ -1,5 +1,6 @@
-//! The translation's answers, from libexports.a, libdecode.a and libbasics.a.
+//! The translation's answers, from libexports.a, libdecode.a, libbasics.a and libbit_stream.a.
 mod basics;
+pub mod stream;
 
 use crate::request::{last_asked, Kind, Request, CALL};
 
@@ -194,13 +195,22 @@ extern "C" {
     ) -> Said;
 }
 
+fn filled(i: usize) -> u8 {
+    0xA5 ^ (i as u8).wrapping_mul(7)
+}
+
 /// What a buffer holds before a call.
 pub fn pattern(len: usize) -> Vec<u8> {
-    (0..len).map(|i| 0xA5 ^ (i as u8).wrapping_mul(7)).collect()
+    (0..len).map(filled).collect()
 }
 
 /// Octets behind each buffer that is lent for writing. They are no part of it, and stand behind it in the answer: a write past the end shows.
 pub const BEHIND: usize = 8;
+
+/// What stands behind a buffer of so many octets.
+pub fn behind(len: usize) -> [u8; BEHIND] {
+    std::array::from_fn(|i| filled(len + i))
+}
 
 /// A buffer of so many octets, and those behind it.
 fn lent(len: u64) -> Vec<u8> {
@@ -376,6 +386,7 @@ pub fn answer(r: &Request, out: &mut Vec<u8>) {
                 out.extend(m.raw);
                 out.push(m.count);
             }
+            kind if kind.is_stream() => stream::answer(r, out),
             _ => basics::answer(r, out),
         }
     }

@@ -84,22 +84,36 @@ pub enum Kind {
     ScannerCalls,
     /// random, first and second buffer | address, calls of 272 octets: each call's answer and both buffers
     Calls,
+    /// channel | packet: the packet whitened, and once more
+    Whiten,
+    /// start value | octets: their CRC as a number
+    Crc,
+    /// start value | octets: their CRC as three octets
+    CrcOctets,
+    /// channel, start value | packet: whether its CRC is right, and the packet
+    CrcFlag,
 }
 
-pub const KINDS: [Kind; 40] = [
+pub const KINDS: [Kind; 44] = [
     Kind::Decode, Kind::Header, Kind::SetHeader, Kind::NewHeader, Kind::Build, Kind::BuildDirected, Kind::Whitelist,
     Kind::Area, Kind::Records, Kind::Known, Kind::Write, Kind::Rewrite, Kind::Flags, Kind::Utf8, Kind::Uuid16,
     Kind::Uuid32, Kind::UuidList, Kind::Later, Kind::Since, Kind::AdvertisingChannel, Kind::DataChannel, Kind::Map,
     Kind::Events, Kind::Beacon, Kind::Scan, Kind::Scanner, Kind::ReadPdu,
     Kind::ReadHeader, Kind::WriteHeader, Kind::ReadAt, Kind::WriteAt, Kind::ReadUuid, Kind::WriteUuid, Kind::MayScan,
     Kind::MayConnect, Kind::ShouldScan, Kind::NamedFlags, Kind::AllChannels, Kind::ScannerCalls, Kind::Calls,
+    Kind::Whiten, Kind::Crc, Kind::CrcOctets, Kind::CrcFlag,
 ];
 
 impl Kind {
     /// Whether an answer begins with the refusal's number, or 0.
     pub fn has_number(self) -> bool {
         use Kind::*;
-        !matches!(self, Uuid16 | Uuid32 | Later | Since | Map | Flags | Utf8 | NamedFlags | AllChannels)
+        !matches!(self, Uuid16 | Uuid32 | Later | Since | Map | Flags | Utf8 | NamedFlags | AllChannels | Crc | CrcOctets)
+    }
+
+    /// Whether it is of the bit stream, which rubble does not have: `stream.rs` answers it.
+    pub fn is_stream(self) -> bool {
+        matches!(self, Kind::Whiten | Kind::Crc | Kind::CrcOctets | Kind::CrcFlag)
     }
 
     /// Whether its second part is a list of calls.
