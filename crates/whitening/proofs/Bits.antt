@@ -5,7 +5,8 @@ use mathlib.Core.List.{List, [], _∷_, _++_}
 use Prim.Native.Nat.{ℕ, zero, suc, _+_, _*_, _/_, _%_, _^_, _<_}
 use native.Mathlib.Nat.{mod-lt, pow-suc, div-add-mod'}
 use native.Mathlib.Omega.{arith}
-use lib.Bits.{block-half, block-odd}
+use lib.Arith.{bin-ind}
+use lib.Bits.{bitXor, differ, xor-step, xor-shr, xor-mod, xor-zero-l, block-half, block-odd}
 use lib.Dec.{eqb}
 use lib.ListN.{length}
 use Rattle.channels.specs.Count.{bit}
@@ -42,6 +43,33 @@ number-bits-8 x =
       odd-bit (x / 2 / 2 / 2 / 2 / 2 / 2),
       odd-bit (x / 2 / 2 / 2 / 2 / 2 / 2 / 2),
     )
+
+pub xor-assoc : (a b c : ℕ) → bitXor (bitXor a b) c ≡ bitXor a (bitXor b c)
+xor-assoc =
+    bin-ind (λ (n : ℕ). (b c : ℕ) → bitXor (bitXor n b) c ≡ bitXor n (bitXor b c))
+    (λ b c. ap (λ (m : ℕ). bitXor m c) (xor-zero-l b) ∙ sym (xor-zero-l (bitXor b c)))
+    (λ n ih b c.
+    xor-step (bitXor n b) c
+    ∙ ap₂ (λ (h d : ℕ). bitXor h (c / 2) * 2 + differ d (c % 2)) (xor-shr n b 1) (xor-mod n b 1)
+    ∙ ap₂ (λ (h d : ℕ). h * 2 + d) (ih (b / 2) (c / 2)) (digit (n % 2) (b % 2) (c % 2) (mod-lt n (omega arith)) (mod-lt b (omega arith)) (mod-lt c (omega arith)))
+    ∙ sym (ap₂ (λ (h d : ℕ). bitXor (n / 2) h * 2 + differ (n % 2) d) (xor-shr b c 1) (xor-mod b c 1))
+    ∙ sym (xor-step n (bitXor b c)))
+  where
+    digit : (x y z : ℕ) → x < 2 → y < 2 → z < 2 → differ (bitXor x y) z ≡ differ x (bitXor y z)
+    digit x y z h l m =
+        below-two (λ x. differ (bitXor x y) z ≡ differ x (bitXor y z))
+        (below-two (λ y. differ (bitXor 0 y) z ≡ differ 0 (bitXor y z))
+        (below-two (λ z. differ (bitXor 0 0) z ≡ differ 0 (bitXor 0 z)) refl refl z m)
+        (below-two (λ z. differ (bitXor 0 1) z ≡ differ 0 (bitXor 1 z)) refl refl z m)
+        y
+        l)
+        (below-two (λ y. differ (bitXor 1 y) z ≡ differ 1 (bitXor y z))
+        (below-two (λ z. differ (bitXor 1 0) z ≡ differ 1 (bitXor 0 z)) refl refl z m)
+        (below-two (λ z. differ (bitXor 1 1) z ≡ differ 1 (bitXor 1 z)) refl refl z m)
+        y
+        l)
+        x
+        h
 
 -- the highest bits of a small number are 0
 pub bits-more : (n x : ℕ) → x < 2 ^ n → bits n x ++ false ∷ [] ≡ bits (suc n) x

@@ -1,4 +1,4 @@
--- The CRC is what a division by the polynomial leaves: the bits fed back are the quotient. Assumes nothing.
+-- The CRC is what a division by the polynomial leaves: the bits fedBack back are the quotient. Assumes nothing.
 use mathlib.Core.Path.{_≡_, refl, sym, ap, ap₂, _∙_}
 use mathlib.Core.Bool.{Bool, true, false, xor, _&&_}
 use mathlib.Core.List.{List, [], _∷_, _++_, reverse, append-assoc, append-nil}
@@ -9,27 +9,23 @@ use Rattle.whitening.specs.Bits.{bits, number, heard, added, shifted}
 use Rattle.whitening.specs.Crc.{crcTaps, crcStart, crcAfter, crcRegister, crcOf}
 use Rattle.whitening.specs.Laws.{isIn, terms, sum, each, product, Divides}
 use Rattle.whitening.proofs.Bits.{bits-number}
-use Rattle.whitening.proofs.Errors.{crcAfter-length, crcStart-length}
-use Rattle.whitening.proofs.Twice.{shifted-length}
+use Rattle.whitening.proofs.Errors.{zeros-length, crcAfter-length, crcStart-length}
+use Rattle.whitening.proofs.Twice.{sum-append, shifted-length}
 
 abbrev zeros : ℕ → List Bool
 zeros n = replicate n false
 
-zeros-length : (m : ℕ) → length (zeros m) ≡ m
-zeros-length zero = refl
-zeros-length (suc m) = ap suc (zeros-length m)
+-- the bits fedBack back
+unfoldable fedBack : List Bool → List Bool → List Bool
+fedBack register [] = []
+fedBack [] (b ∷ bs) = []
+fedBack (out ∷ rest) (b ∷ bs) = xor out b ∷ fedBack (shifted crcTaps (xor out b) rest) bs
 
--- the bits fed back
-unfoldable fed : List Bool → List Bool → List Bool
-fed register [] = []
-fed [] (b ∷ bs) = []
-fed (out ∷ rest) (b ∷ bs) = xor out b ∷ fed (shifted crcTaps (xor out b) rest) bs
-
-fed-length : (register bs : List Bool) → length register ≡ 24 → length (fed register bs) ≡ length bs
-unfolding fed
-fed-length register [] e = refl
-fed-length [] (b ∷ bs) e = absurd (omega arith)
-fed-length (out ∷ rest) (b ∷ bs) e = ap suc (fed-length (shifted crcTaps (xor out b) rest) bs (shifted-length crcTaps (xor out b) rest e))
+fedBack-length : (register bs : List Bool) → length register ≡ 24 → length (fedBack register bs) ≡ length bs
+unfolding fedBack
+fedBack-length register [] e = refl
+fedBack-length [] (b ∷ bs) e = absurd (omega arith)
+fedBack-length (out ∷ rest) (b ∷ bs) e = ap suc (fedBack-length (shifted crcTaps (xor out b) rest) bs (shifted-length crcTaps (xor out b) rest e))
 
 each-length : (k : Bool) (ts : List Bool) → length (each k ts) ≡ length ts
 unfolding each
@@ -47,13 +43,6 @@ sum-zeros : (n : ℕ) → zeros n ≡ sum (zeros n) (zeros n)
 unfolding sum xor
 sum-zeros zero = refl
 sum-zeros (suc n) = ap (λ (l : List Bool). false ∷ l) (sum-zeros n)
-
-sum-front : (xs ys us vs : List Bool) → length xs ≡ length ys → sum xs ys ++ sum us vs ≡ sum (xs ++ us) (ys ++ vs)
-unfolding sum
-sum-front [] [] us vs e = refl
-sum-front [] (y ∷ ys) us vs e = absurd (omega arith)
-sum-front (x ∷ xs) [] us vs e = absurd (omega arith)
-sum-front (x ∷ xs) (y ∷ ys) us vs e = ap (λ (l : List Bool). xor x y ∷ l) (sum-front xs ys us vs (omega arith))
 
 xor-assoc : (x y z : Bool) → xor (xor x y) z ≡ xor x (xor y z)
 unfolding xor
@@ -100,8 +89,8 @@ head-is false true = refl
 head-is false false = refl
 
 divided : (register bs : List Bool) → length register ≡ 24
-    → sum (bs ++ zeros 24) (register ++ zeros (length bs)) ≡ sum (product (fed register bs)) (zeros (length bs) ++ crcAfter register bs)
-unfolding fed product crcAfter sum each terms isIn
+    → sum (bs ++ zeros 24) (register ++ zeros (length bs)) ≡ sum (product (fedBack register bs)) (zeros (length bs) ++ crcAfter register bs)
+unfolding fedBack product crcAfter sum each terms isIn
 divided register [] e = ap (sum (zeros 24)) (append-nil register)
 divided [] (b ∷ bs) e = absurd (omega arith)
 divided (out ∷ rest) (b ∷ bs) e =
@@ -117,17 +106,17 @@ divided (out ∷ rest) (b ∷ bs) e =
     let ml : length m ≡ 24 + n = simp (length-append, each-length, zeros-length) (omega (arith, each-length k crcTaps)) in
     let al : length a ≡ 24 + n = simp (length-append, zeros-length) (omega arith) in
     let cl : length c ≡ 24 + n = simp (length-append, zeros-length) (omega (arith, long)) in
-    let q = fed next bs in
+    let q = fedBack next bs in
     let w : List Bool = zeros n ++ crcAfter next bs in
     let with-next : next ++ zeros n ≡ sum c m =
-    ap₂ _++_ (added-sum k crcTaps (rest ++ false ∷ []) long) (sum-zeros n) ∙ sum-front (rest ++ false ∷ []) taps (zeros n) (zeros n) (long ∙ sym (each-length k crcTaps)) in
+    ap₂ _++_ (added-sum k crcTaps (rest ++ false ∷ []) long) (sum-zeros n) ∙ sym (sum-append (rest ++ false ∷ []) (zeros n) taps (zeros n) (long ∙ sym (each-length k crcTaps))) in
     ap₂ _∷_ (head-is out b)
     (ap (sum a) (sym (append-assoc rest (false ∷ []) (zeros n)))
     ∙ sym (sum-around m a c (al ∙ sym ml) (cl ∙ sym ml))
     ∙ ap (λ (l : List Bool). sum m (sum a l)) (sym with-next)
     ∙ ap (sum m) (divided next bs after)
     ∙ sym (sum-assoc m (product q) w)
-    ∙ ap (λ (j : ℕ). sum (sum (taps ++ zeros j) (product q)) w) (sym (fed-length next bs after)))
+    ∙ ap (λ (j : ℕ). sum (sum (taps ++ zeros j) (product q)) w) (sym (fedBack-length next bs after)))
 
 pub divides : (start : ℕ) (octets : List ℕ) → Divides start octets
 unfolding crcOf
@@ -136,8 +125,8 @@ divides start octets =
     let e = crcAfter-length (crcStart start) (heard octets) (crcStart-length start) in
     let back : bits 24 (number register) ≡ register = ap (λ (n : ℕ). bits n (number register)) (sym e) ∙ bits-number register in
     record {
-      quotient = fed (crcStart start) (heard octets);
-      size = fed-length (crcStart start) (heard octets) (crcStart-length start);
+      quotient = fedBack (crcStart start) (heard octets);
+      size = fedBack-length (crcStart start) (heard octets) (crcStart-length start);
       left = divided (crcStart start) (heard octets) (crcStart-length start)
-          ∙ ap (λ (l : List Bool). sum (product (fed (crcStart start) (heard octets))) (zeros (length (heard octets)) ++ l)) (sym back);
+          ∙ ap (λ (l : List Bool). sum (product (fedBack (crcStart start) (heard octets))) (zeros (length (heard octets)) ++ l)) (sym back);
     }

@@ -52,7 +52,7 @@ zeros-more : (m : ℕ) → replicate m false ++ false ∷ [] ≡ replicate (suc 
 zeros-more zero = refl
 zeros-more (suc m) = ap (λ (l : List Bool). false ∷ l) (zeros-more m)
 
-zeros-length : (m : ℕ) → length (replicate m false) ≡ m
+pub zeros-length : (m : ℕ) → length (replicate m false) ≡ m
 zeros-length zero = refl
 zeros-length (suc m) = ap suc (zeros-length m)
 

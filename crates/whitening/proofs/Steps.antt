@@ -5,47 +5,19 @@ use mathlib.Core.Bool.{Bool, true, false}
 use Prim.Native.Nat.{ℕ, zero, suc, _+_, _-_, _*_, _/_, _%_, _^_, _<_, _≤_}
 use native.Mathlib.Nat.{mod-lt, pow-suc, add-zero, div-add-mod'}
 use native.Mathlib.Omega.{arith}
-use lib.Arith.{bin-ind}
 use lib.Dec.{eqb, ltb}
 use lib.Pow.{pow-pos}
-use lib.Bits.{bitXor, differ, xor-step, xor-shr, xor-mod, xor-zero-l, xor-zero-r, xor-comm, xor-self, xor-add-and, xor-lt, xor-block, xor-shifted, shifted-half, shifted-even}
+use lib.Bits.{bitXor, xor-shr, xor-mod, xor-zero-r, xor-comm, xor-self, xor-add-and, xor-lt, xor-block, xor-shifted, shifted-half, shifted-even}
 use borrow.Author.Tests.{eqb-true, ltb-true, ltb-false}
 use Rattle.channels.specs.Count.{count}
 use Rattle.channels.proofs.Counting.{count-all}
 use Rattle.whitening.specs.Bits.{bits}
 use Rattle.whitening.specs.Crc.{crcAfter}
 use Rattle.whitening.specs.Number.{Register}
-use Rattle.whitening.proofs.Bits.{below-two}
+use Rattle.whitening.proofs.Bits.{below-two, xor-assoc}
 use Rattle.whitening.proofs.Registers.{crcNumber, register-after-bit, register-turn}
 
 -- ---- sums modulo 2
-
-xor-assoc : (a b c : ℕ) → bitXor (bitXor a b) c ≡ bitXor a (bitXor b c)
-xor-assoc =
-    bin-ind (λ (n : ℕ). (b c : ℕ) → bitXor (bitXor n b) c ≡ bitXor n (bitXor b c))
-    (λ b c. ap (λ (m : ℕ). bitXor m c) (xor-zero-l b) ∙ sym (xor-zero-l (bitXor b c)))
-    (λ n ih b c.
-    xor-step (bitXor n b) c
-    ∙ ap₂ (λ (h d : ℕ). bitXor h (c / 2) * 2 + differ d (c % 2)) (xor-shr n b 1) (xor-mod n b 1)
-    ∙ ap₂ (λ (h d : ℕ). h * 2 + d) (ih (b / 2) (c / 2)) (digit (n % 2) (b % 2) (c % 2) (mod-lt n (omega arith)) (mod-lt b (omega arith)) (mod-lt c (omega arith)))
-    ∙ sym (ap₂ (λ (h d : ℕ). bitXor (n / 2) h * 2 + differ (n % 2) d) (xor-shr b c 1) (xor-mod b c 1))
-    ∙ sym (xor-step n (bitXor b c)))
-  where
-    digit : (x y z : ℕ) → x < 2 → y < 2 → z < 2 → differ (bitXor x y) z ≡ differ x (bitXor y z)
-    digit x y z h l m =
-        below-two (λ x. differ (bitXor x y) z ≡ differ x (bitXor y z))
-        (below-two (λ y. differ (bitXor 0 y) z ≡ differ 0 (bitXor y z))
-        (below-two (λ z. differ (bitXor 0 0) z ≡ differ 0 (bitXor 0 z)) refl refl z m)
-        (below-two (λ z. differ (bitXor 0 1) z ≡ differ 0 (bitXor 1 z)) refl refl z m)
-        y
-        l)
-        (below-two (λ y. differ (bitXor 1 y) z ≡ differ 1 (bitXor y z))
-        (below-two (λ z. differ (bitXor 1 0) z ≡ differ 1 (bitXor 0 z)) refl refl z m)
-        (below-two (λ z. differ (bitXor 1 1) z ≡ differ 1 (bitXor 1 z)) refl refl z m)
-        y
-        l)
-        x
-        h
 
 xor-swap : (a b c : ℕ) → bitXor (bitXor a b) c ≡ bitXor (bitXor a c) b
 xor-swap a b c = xor-assoc a b c ∙ ap (bitXor a) (xor-comm b c) ∙ sym (xor-assoc a c b)

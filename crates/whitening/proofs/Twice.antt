@@ -5,16 +5,15 @@ use mathlib.Core.List.{List, [], _∷_, _++_, append-assoc}
 use Prim.Native.Nat.{ℕ, zero, suc, _+_, _*_, _/_, _%_, _≤_, _<_}
 use native.Mathlib.Nat.{mod-lt, div-add-mod'}
 use native.Mathlib.Omega.{arith}
-use lib.Arith.{bin-ind}
 use lib.Dec.{eqb}
-use lib.Bits.{bitXor, differ, xor-step, xor-shr, xor-mod, xor-self, xor-lt}
+use lib.Bits.{bitXor, xor-shr, xor-mod, xor-self, xor-zero-r, xor-lt}
 use lib.Pow.{pow-mono}
 use lib.ListN.{length, getD, take, drop, length-append, length-take, length-drop, take-append-drop}
 use Rattle.octets.specs.Laws.{Octets}
 use Rattle.whitening.specs.Bits.{bits, number, heard, octetsOf, added, shifted}
 use Rattle.whitening.specs.Whitening.{whiteningTaps, registerOn, leaving, whitening, plus, whitened}
 use Rattle.whitening.specs.Laws.{sum}
-use Rattle.whitening.proofs.Bits.{below-two, odd-bit, bits-length, bits-number, number-small}
+use Rattle.whitening.proofs.Bits.{odd-bit, xor-assoc, bits-length, bits-number, number-small}
 use Rattle.whitening.proofs.Registers.{xor-lowest}
 use Rattle.whitening.proofs.Rows.{whitening-length}
 
@@ -71,21 +70,7 @@ heard-plus (x ∷ xs) (y ∷ ys) =
 -- ---- twice
 
 xor-twice : (x y : ℕ) → bitXor (bitXor x y) y ≡ x
-xor-twice =
-    bin-ind (λ (n : ℕ). (y : ℕ) → bitXor (bitXor n y) y ≡ n) xor-self
-    (λ n ih y.
-    xor-step (bitXor n y) y
-    ∙ ap₂ (λ (a b : ℕ). bitXor a (y / 2) * 2 + differ b (y % 2)) (xor-shr n y 1) (xor-mod n y 1)
-    ∙ ap₂ (λ (a b : ℕ). a * 2 + b) (ih (y / 2)) (digit (n % 2) (y % 2) (mod-lt n (omega arith)) (mod-lt y (omega arith)))
-    ∙ div-add-mod' n 2)
-  where
-    digit : (a b : ℕ) → a < 2 → b < 2 → differ (bitXor a b) b ≡ a
-    digit a b h l =
-        below-two (λ a. differ (bitXor a b) b ≡ a)
-        (below-two (λ b. differ (bitXor 0 b) b ≡ 0) refl refl b l)
-        (below-two (λ b. differ (bitXor 1 b) b ≡ 1) refl refl b l)
-        a
-        h
+xor-twice x y = xor-assoc x y y ∙ ap (bitXor x) (xor-self y) ∙ xor-zero-r x
 
 pub plus-twice : (xs ys : List ℕ) → length xs ≤ length ys → plus (plus xs ys) ys ≡ xs
 unfolding plus
