@@ -100,4 +100,4 @@ air = record { passes = passes; beacons = beacons }
 
 pub examples : Examples
 unfolding bits number heard octetsOf added crcAfter crcOctets leaving whitening plus whitened xor bufOf withRecords afterReading readArea areaOf reads withFirst cut first recordRead dataRead flagsRead upTo named clean rewritten flatten
-examples = record { row = refl }
+examples = record { row = λ start. refl }

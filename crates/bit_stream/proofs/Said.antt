@@ -3,4 +3,4 @@ use mathlib.Core.Path.{refl}
 use Rattle.bit_stream.specs.Said.{Examples}
 
 pub examples : Examples
-examples = record { flags = refl }
+examples = record { told = refl; refused = refl }

@@ -5,7 +5,7 @@ use mathlib.Core.Bool.{true, false}
 use mathlib.Core.List.{[], _∷_, map}
 use mathlib.Core.Path.{_≡_}
 use Rattle.octets.specs.Error.{numberOf}
-use Rattle.octets.specs.declared.error.Error.the-variants.{NoSuchIndex}
+use Rattle.octets.specs.declared.error.Error.the-variants.{Eof, InvalidLength, NoSuchIndex}
 use Rattle.whitening.specs.declared.packet.Flag.{Flag}
 use Rattle.whitening.specs.declared.packet.Flag.the-variants as flag
 use Rattle.bit_stream.specs.declared.packet.FlagSaid.{FlagSaid}
@@ -15,5 +15,6 @@ flagSaid (flag.Is good) = record { number = 0; good = good }
 flagSaid (flag.Refused e) = record { number = numberOf e; good = false }
 
 pub record Examples : Type 0 where
-  pub flags : map flagSaid (flag.Is true ∷ flag.Is false ∷ flag.Refused NoSuchIndex ∷ [])
-      ≡ (record { number = 0; good = true }) ∷ (record { number = 0; good = false }) ∷ (record { number = 10; good = false }) ∷ []
+  pub told : map flagSaid (flag.Is true ∷ flag.Is false ∷ []) ≡ (record { number = 0; good = true }) ∷ (record { number = 0; good = false }) ∷ []
+  pub refused : map flagSaid (flag.Refused NoSuchIndex ∷ flag.Refused InvalidLength ∷ flag.Refused Eof ∷ [])
+      ≡ (record { number = 10; good = false }) ∷ (record { number = 2; good = false }) ∷ (record { number = 1; good = false }) ∷ []

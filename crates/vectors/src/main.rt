@@ -100,18 +100,27 @@ fn limits() {
     whitening(255, &mut [0xA5u8; 5]);
 }
 
-fn checks() {
+// The check value of CRC-24/BLE, document 01's row, zeros.
+fn check_values() {
     check(0x555555, b"\x31\x32\x33\x34\x35\x36\x37\x38\x39");
     check(0x555555, b"\x42\x09\x01\x02\x03\x04\x05\xC6\x02\x01\x06");
     check(0x555555, b"\x00\x06\x00\x00\x00\x00\x00\x00");
     check(0x000000, b"\x00\x06\x00\x00\x00\x00\x00\x00");
     check(0x000000, b"\x00\x00");
+}
+
+// Start values: all ones, single bits, and some on which the order of octets shows.
+fn starts() {
     check(0xFFFFFF, b"\x00\x00");
     check(0x000001, b"\x01\x00");
     check(0x800000, b"\x01\x00");
     check(0x123456, b"\x0D\x00\x00");
     check(0xFF123456, b"\x0D\x00\x00");
     check(0xABCDEF, b"\x02\x03\x01\xA0\xFF");
+}
+
+// 39 octets; another start value; no octets.
+fn longest() {
     check(
         0x555555,
         b"\x42\x25\x00\x01\x02\x03\x04\x05\x06\x07\x08\x09\x0A\x0B\x0C\x0D\x0E\x0F\x10\x11\x12\x13\x14\x15\x16\x17\x18\x19\x1A\x1B\x1C\x1D\x1E\x1F\x20\x21\x22\x23\x24",
@@ -124,7 +133,8 @@ fn checks() {
     check(0x123456, &[0u8; 0]);
 }
 
-fn flags() {
+// Document 01's row; the fourth has a bit off.
+fn on_advertising_channels() {
     flag(
         37,
         0x000000,
@@ -145,10 +155,18 @@ fn flags() {
         0x000000,
         b"\x95\xCC\x45\x22\x5A\xDA\xE4\x49\x19\xA4\xA9\xDD\xAC\x8C",
     );
+}
+
+// With the start value, with one above 24 bits, with another, with the CRC's octets swapped.
+fn on_data_channels() {
     flag(10, 0x123456, b"\x97\xC1\xD6\xD2\xDB\x07");
     flag(10, 0xFF123456, b"\x97\xC1\xD6\xD2\xDB\x07");
     flag(10, 0x555555, b"\x97\xC1\xD6\xD2\xDB\x07");
     flag(10, 0x123456, b"\x97\xC1\xD6\xE2\xDB\x37");
+}
+
+// The start value on 36 and on 37; a header that counts 63 octets; zeros.
+fn beside_37() {
     flag(36, 0xABCDEF, b"\x45\x20\x21\x1D\x14");
     flag(37, 0xABCDEF, b"\x8C\xD2\xFE\x45\xB2");
     flag(37, 0xABCDEF, b"\x8C\xD2\x2F\x62\xC8");
@@ -158,6 +176,10 @@ fn flags() {
         b"\xCF\xED\x57\xA1\x3D\xA7\x66\xB0\x75\x31\x11\x48\x96\x77\xF8\xE3\x46\xE9\xAB\xD0\x9E\x53\x33\xD8\xBA\x98\x08\x24\xCB\x3B\xFC\x71\xA3\xF4\x55\x68\xCF\xA9\x19\xFA\x0B\x62",
     );
     flag(0, 0x000000, b"\x40\xB2\xBC\xC3\x1F");
+}
+
+// Both sides of each limit.
+fn refused_flags() {
     flag(40, 0x000000, &[0u8; 43]);
     flag(40, 0x000000, &[0u8; 0]);
     flag(39, 0x000000, &[0u8; 43]);
@@ -171,6 +193,11 @@ fn main() {
         zeros(channel);
     }
     limits();
-    checks();
-    flags();
+    check_values();
+    starts();
+    longest();
+    on_advertising_channels();
+    on_data_channels();
+    beside_37();
+    refused_flags();
 }

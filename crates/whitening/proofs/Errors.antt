@@ -102,7 +102,7 @@ good-zeros start packet e =
 
 -- ---- different bits leave different registers
 
-xor-back : (x m : Bool) → xor (xor x m) m ≡ x
+pub xor-back : (x m : Bool) → xor (xor x m) m ≡ x
 unfolding xor
 xor-back true true = refl
 xor-back true false = refl

@@ -9,6 +9,7 @@ use Rattle.whitening.specs.Examples.{Examples}
 pub examples : Examples
 unfolding bits number heard octetsOf added leaving whitening plus whitened crcAfter crcOf crcOctets same crcGood xor
 examples = record {
+  as-heard = refl;
   check-value = refl;
   check-octets = refl;
   beacon = refl;
@@ -18,6 +19,7 @@ examples = record {
   octet-order = refl;
   low-24-bits = refl;
   longest = refl;
+  longer = refl;
   whitening-0 = refl;
   whitening-0-end = refl;
   whitening-23 = refl;
@@ -30,6 +32,8 @@ examples = record {
   heard-10 = refl;
   heard-10-other-start = refl;
   heard-header-of-63 = refl;
+  heard-longest = refl;
+  heard-longest-changed = refl;
   heard-36 = refl;
   heard-37 = refl;
   heard-37-started = refl;

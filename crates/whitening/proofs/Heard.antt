@@ -31,8 +31,12 @@ sum-at [] b after (y ∷ ys) h = refl
 sum-at (x ∷ before) b after (y ∷ ys) h = ap (λ (l : List Bool). xor x y ∷ l) (sum-at before b after ys (omega arith))
 
 pub hears : (channel start : ℕ) → Hears channel start
-hears channel start = record { own = own; no-other = no-other; one-bit = one-bit }
+hears channel start = record { told = told; own = own; no-other = no-other; one-bit = one-bit }
   where
+    told : (packet : List ℕ) → channel ≤ 39 → 5 ≤ length packet → length packet ≤ 42
+        → flagOf channel start packet ≡ flag.Is (crcGood (startOn channel start) (whitened channel packet))
+    told packet h l m = ap (λ (a : Whitened). flagged a (crcGood (startOn channel start) (whitened channel packet))) (allowed-is channel (length packet) h l m)
+
     own : (octets : List ℕ) → channel ≤ 39 → 2 ≤ length octets → length octets ≤ 39
         → flagOf channel start (whitened channel (octets ++ crcOctets (startOn channel start) octets)) ≡ flag.Is true
     own octets h l m =

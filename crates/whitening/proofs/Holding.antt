@@ -6,6 +6,7 @@ use Rattle.whitening.proofs.Heard.{hears}
 use Rattle.whitening.proofs.Limits.{refusing, starting}
 use Rattle.whitening.proofs.Numbers.{numbers}
 use Rattle.whitening.proofs.Polynomials.{polynomials}
+use Rattle.whitening.proofs.Recurring.{recurs}
 use Rattle.whitening.proofs.Starts.{starts}
 use Rattle.whitening.proofs.Whitens.{whitens}
 
@@ -13,6 +14,7 @@ pub holds : Holds
 holds = record {
   polynomials = polynomials;
   starts = starts;
+  recurs = recurs;
   whitens = whitens;
   divides = divides;
   numbers = numbers;

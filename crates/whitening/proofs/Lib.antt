@@ -11,6 +11,7 @@ pub mod Whitens
 pub mod Heard
 pub mod Numbers
 pub mod Dividing
+pub mod Recurring
 pub mod Starts
 pub mod Polynomials
 pub mod Examples

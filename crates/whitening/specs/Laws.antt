@@ -1,20 +1,21 @@
 -- What holds of whitening and of the CRC: `Holds`, which is proved as Holding.holds, with a field for each law.
 --   Polynomials             the two registers' terms, as the Core writes them, and as a number
 --   Starts                  where whitening starts: `whitening_iv` of each channel is the register's start
+--   Recurs channel          the bits that leave the whitening register, by its polynomial
 --   Whitens                 whitening adds the register's bits to the packet's, and twice is not at all
 --   Divides start octets    the CRC is what a division by the polynomial leaves
 --   Numbers start octets    the CRC as a number and as octets; only the low 24 bits of a start value count
 --   Checks start            a packet's own CRC is right, no other is, and of two packets that differ in one bit not both are right
 --   Refusing channel packet which calls are refused, in which order, and what they leave
 --   Starting channel start  where the CRC starts on each channel
---   Hears channel start     a packet's own CRC, any other and one bit, of packets as they are heard on a channel, by the flag
+--   Hears channel start     what the flag tells of packets as they are heard on a channel: a packet's own CRC, any other, and one bit
 -- Worked values stand in specs/Examples.
 use mathlib.Core.Path.{_≡_}
 use mathlib.Core.Bool.{Bool, true, false, xor, _&&_, _||_}
 use mathlib.Core.List.{List, [], _∷_, _++_, reverse}
 use Prim.Native.Nat.{ℕ, zero, suc, _+_, _≤_, _<_, _^_, _%_}
 use lib.Dec.{eqb}
-use lib.ListN.{length, replicate}
+use lib.ListN.{length, drop, replicate}
 use Rattle.octets.specs.Bytes.{leBytes}
 use Rattle.octets.specs.declared.error.Error.{Error}
 use Rattle.octets.specs.declared.error.Error.the-variants.{Eof, InvalidLength, NoSuchIndex}
@@ -56,6 +57,11 @@ unfoldable pub sum : List Bool → List Bool → List Bool
 sum [] ys = []
 sum (x ∷ xs) [] = []
 sum (x ∷ xs) (y ∷ ys) = xor x y ∷ sum xs ys
+
+-- The bits that leave the whitening register: the first seven give the register, and each later one is the sum of the bits seven and three before it, as x^7 = x^4 + 1.
+pub record Recurs (channel : ℕ) : Type 0 where
+  pub first : sum (leaving 7 (registerOn channel)) (replicate 3 false ++ leaving 4 (registerOn channel)) ≡ registerOn channel
+  pub later : (n : ℕ) → drop 7 (leaving (n + 7) (registerOn channel)) ≡ sum (leaving n (registerOn channel)) (drop 4 (leaving (n + 4) (registerOn channel)))
 
 pub record Whitens : Type 0 where
   pub adds : (channel : ℕ) (packet : List ℕ) → heard (whitened channel packet) ≡ sum (heard packet) (leaving 336 (registerOn channel))
@@ -100,7 +106,7 @@ pub record Refusing (channel : ℕ) (packet : List ℕ) : Type 0 where
   pub others : channel ≤ 39 → 5 ≤ length packet → length packet ≤ 42 → whitenOf channel packet ≡ w.Done
   pub kept : (e : Error) → whitenOf channel packet ≡ w.Refused e → whitenAfter channel packet ≡ packet
   pub done : whitenOf channel packet ≡ w.Done → whitenAfter channel packet ≡ whitened channel packet
-  -- the flag is refused as whitening is
+  -- where whitening is refused, so is the flag
   pub flag : (start : ℕ) (e : Error) → whitenOf channel packet ≡ w.Refused e → flagOf channel start packet ≡ flag.Refused e
 
 -- "started from `0x555555` on advertising channels and from the connect request's value afterwards", which is "unused on 37 to 39".
@@ -110,6 +116,9 @@ pub record Starting (channel start : ℕ) : Type 0 where
   pub unused : 37 ≤ channel → (other : ℕ) (packet : List ℕ) → flagOf channel start packet ≡ flagOf channel other packet
 
 pub record Hears (channel start : ℕ) : Type 0 where
+  -- the flag of any other packet says whether its last three octets, the whitening taken off, are its CRC
+  pub told : (packet : List ℕ) → channel ≤ 39 → 5 ≤ length packet → length packet ≤ 42
+      → flagOf channel start packet ≡ flag.Is (crcGood (startOn channel start) (whitened channel packet))
   pub own : (octets : List ℕ) → channel ≤ 39 → 2 ≤ length octets → length octets ≤ 39
       → flagOf channel start (whitened channel (octets ++ crcOctets (startOn channel start) octets)) ≡ flag.Is true
   pub no-other : (octets last : List ℕ) → length octets ≤ 39 → length last ≡ 3 → flagOf channel start (whitened channel (octets ++ last)) ≡ flag.Is true
@@ -120,6 +129,7 @@ pub record Hears (channel start : ℕ) : Type 0 where
 pub record Holds : Type 0 where
   pub polynomials : Polynomials
   pub starts : Starts
+  pub recurs : (channel : ℕ) → Recurs channel
   pub whitens : Whitens
   pub divides : (start : ℕ) (octets : List ℕ) → Divides start octets
   pub numbers : (start : ℕ) (octets : List ℕ) → Numbers start octets

@@ -43,7 +43,7 @@ fn allows(channel: u8, octets: usize) -> Whitened
     Whitened::Done
 }
 
-// Adds octets to as many of a packet, modulo 2.
+// Adds octets to as many others, modulo 2.
 fn add(packet: &mut [u8], octets: &[u8])
     requires { ⌜ length (now packet) ≡ length (now octets) ⌝ }
     ensures { λ _. ⌜ now (packet .exit) ≡ plus (now (packet .entry)) (now (octets .entry)) ⌝ }
