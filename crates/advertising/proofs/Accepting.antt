@@ -22,8 +22,8 @@ use Rattle.octets.specs.declared.error.Error.the-variants.{Eof, InvalidLength}
 use Rattle.records.specs.Area.{readArea}
 use Rattle.records.specs.declared.area.Area.{Area}
 use Rattle.records.specs.declared.area.Area.the-variants as area
-use Rattle.advertising.specs.Laws.{Figure, Shaped, with-records, two-addresses, with-lldata, Accepting, RecordArea}
-use Rattle.advertising.specs.Pdu.{undirectedFigure, directedFigure, connectFigure, accuracyOf, requestOf, noRequest, noAddress, noData, senderOf, receiverOf, dataIn, dataPlace, isAccepted, decodedAs, refusedPdu, withArea, undirected, directed, connectRequest, byType, decodeOf}
+use Rattle.advertising.specs.Laws.{Figure, ShapedBy, with-records, two-addresses, with-lldata, AcceptingBy, Accepting, RecordAreaBy, RecordArea}
+use Rattle.advertising.specs.Pdu.{undirectedFigure, directedFigure, connectFigure, accuracyOf, requestOf, noRequest, noAddress, noData, senderOf, receiverOf, dataIn, dataPlace, isAccepted, decodedAs, refusedPdu, withArea, undirected, directed, connectRequest, byType, decodeBy, Reading}
 use Rattle.advertising.specs.declared.pdu.AdvData.{AdvData}
 use Rattle.advertising.specs.declared.pdu.Decoded.{Decoded}
 use Rattle.advertising.specs.declared.pdu.Outcome.{Outcome}
@@ -49,37 +49,37 @@ abbrev isDirected : PduType → Type 0
 isDirected ty = (ty ≡ AdvDirectInd) ⊎ (ty ≡ ScanReq)
 
 -- a type with records is read as an address and records
-pub arm-undirected : (ty : PduType) (h : Header) (p : List ℕ) → allowsAdvData ty ≡ true → byType ty h p ≡ undirected ty h p
+pub arm-undirected : (reading : Reading) (ty : PduType) (h : Header) (p : List ℕ) → allowsAdvData ty ≡ true → byType reading ty h p ≡ undirected reading ty h p
 unfolding byType
-arm-undirected AdvInd h p e = refl
-arm-undirected AdvNonconnInd h p e = refl
-arm-undirected AdvScanInd h p e = refl
-arm-undirected ScanRsp h p e = refl
-arm-undirected AdvDirectInd h p e = (cc)
-arm-undirected ScanReq h p e = (cc)
-arm-undirected ConnectReq h p e = (cc)
-arm-undirected (Unknown n) h p e = (cc)
+arm-undirected reading AdvInd h p e = refl
+arm-undirected reading AdvNonconnInd h p e = refl
+arm-undirected reading AdvScanInd h p e = refl
+arm-undirected reading ScanRsp h p e = refl
+arm-undirected reading AdvDirectInd h p e = (cc)
+arm-undirected reading ScanReq h p e = (cc)
+arm-undirected reading ConnectReq h p e = (cc)
+arm-undirected reading (Unknown n) h p e = (cc)
 
-module _ (h : Header) (p : List ℕ) where
-  undirected-sound : (ty : PduType) → typeOf h ≡ ty → allowsAdvData ty ≡ true → undirected ty h p .outcome ≡ Accepted → Shaped h p (undirected ty h p)
+module _ (reading : Reading) (h : Header) (p : List ℕ) where
+  undirected-sound : (ty : PduType) → typeOf h ≡ ty → allowsAdvData ty ≡ true → undirected reading ty h p .outcome ≡ Accepted → ShapedBy reading h p (undirected reading ty h p)
   unfolding undirected withArea
   undirected-sound ty is allows ok =
-      let enough = not-refused (ltb (length p) 6) Eof (withArea ty h p (readArea (drop 6 p))) ok in
-      rw enough (go (readArea (drop 6 p)) refl (ltb-false (length p) 6 enough) (rw enough at ok))
+      let enough = not-refused (ltb (length p) 6) Eof (withArea ty h p (reading (drop 6 p))) ok in
+      rw enough (go (reading (drop 6 p)) refl (ltb-false (length p) 6 enough) (rw enough at ok))
     where
-      go : (a : Area) → readArea (drop 6 p) ≡ a → 6 ≤ length p → withArea ty h p a .outcome ≡ Accepted → Shaped h p (withArea ty h p a)
+      go : (a : Area) → reading (drop 6 p) ≡ a → 6 ≤ length p → withArea ty h p a .outcome ≡ Accepted → ShapedBy reading h p (withArea ty h p a)
       go (area.Accepted n) e size ok =
           let rest : length p - 6 ≡ length (drop 6 p) = sym (length-drop 6 p) in
           with-records ty (part 6 p 0) (drop 6 p) n is allows (cut-figure undirectedFigure p size) e (rw rest)
       go (area.Refused r) e size ok = let z : _≡_ {A = ℕ} 0 1 = cc in absurd (omega arith)
 
-  directed-sound : (ty : PduType) → typeOf h ≡ ty → isDirected ty → directed ty h p .outcome ≡ Accepted → Shaped h p (directed ty h p)
+  directed-sound : (ty : PduType) → typeOf h ≡ ty → isDirected ty → directed ty h p .outcome ≡ Accepted → ShapedBy reading h p (directed ty h p)
   unfolding directed
   directed-sound ty is which ok =
       let enough = not-refused (ltb (length p) 12) Eof (decodedAs Accepted ty (senderOf h p) (receiverOf h p) noData noRequest) ok in
       rw enough (two-addresses ty (part 6 p 0) (part 6 p 6) (drop 12 p) is which (cut-figure directedFigure p (ltb-false (length p) 12 enough)) refl)
 
-  connect-sound : typeOf h ≡ ConnectReq → connectRequest h p .outcome ≡ Accepted → Shaped h p (connectRequest h p)
+  connect-sound : typeOf h ≡ ConnectReq → connectRequest h p .outcome ≡ Accepted → ShapedBy reading h p (connectRequest h p)
   unfolding connectRequest requestOf
   connect-sound is ok =
       let enough = not-refused (ltb (length p) 34) Eof (decodedAs Accepted ConnectReq (senderOf h p) (receiverOf h p) noData (requestOf p)) ok in
@@ -88,7 +88,7 @@ module _ (h : Header) (p : List ℕ) where
       (cut-figure connectFigure p (ltb-false (length p) 34 enough))
       refl)
 
-  by-type : (ty : PduType) → typeOf h ≡ ty → byType ty h p .outcome ≡ Accepted → Shaped h p (byType ty h p)
+  by-type : (ty : PduType) → typeOf h ≡ ty → byType reading ty h p .outcome ≡ Accepted → ShapedBy reading h p (byType reading ty h p)
   unfolding byType
   by-type AdvInd is ok = undirected-sound AdvInd is refl ok
   by-type AdvDirectInd is ok = directed-sound AdvDirectInd is (inl refl) ok
@@ -100,14 +100,14 @@ module _ (h : Header) (p : List ℕ) where
   by-type (Unknown n) is ok = let z : _≡_ {A = ℕ} 0 1 = cc in absurd (omega arith)
 
   -- the arms of the types
-  arm-directed : (ty : PduType) → isDirected ty → byType ty h p ≡ directed ty h p
+  arm-directed : (ty : PduType) → isDirected ty → byType reading ty h p ≡ directed ty h p
   unfolding byType
   arm-directed ty (inl is) = rw is
   arm-directed ty (inr is) = rw is
 
   -- what the shapes decode to
-  undirected-is : (ty : PduType) {advA records : List ℕ} {n : ℕ} → Figure undirectedFigure (advA ∷ []) records p → readArea records ≡ area.Accepted n
-      → undirected ty h p ≡ decodedAs Accepted ty (addressOf advA (kindOf (txAdd h))) noAddress (record { start = 6; len = length records; count = n }) noRequest
+  undirected-is : (ty : PduType) {advA records : List ℕ} {n : ℕ} → Figure undirectedFigure (advA ∷ []) records p → reading records ≡ area.Accepted n
+      → undirected reading ty h p ≡ decodedAs Accepted ty (addressOf advA (kindOf (txAdd h))) noAddress (record { start = 6; len = length records; count = n }) noRequest
   unfolding undirected withArea
   undirected-is ty {advA} {records} fig good =
       let size : length p - 6 ≡ length records = omega (arith, long fig) in
@@ -120,7 +120,7 @@ module _ (h : Header) (p : List ℕ) where
 
   connect-is : {initA advA aa crcInit winSize winOffset interval latency timeout chM hopSca further : List ℕ}
       → Figure connectFigure (initA ∷ advA ∷ aa ∷ crcInit ∷ winSize ∷ winOffset ∷ interval ∷ latency ∷ timeout ∷ chM ∷ hopSca ∷ []) further p
-      → byType ConnectReq h p
+      → byType reading ConnectReq h p
       ≡ decodedAs Accepted ConnectReq (addressOf initA (kindOf (txAdd h))) (addressOf advA (kindOf (rxAdd h))) noData (record {
         «access_address» = le aa;
         «crc_init» = le crcInit;
@@ -138,32 +138,35 @@ module _ (h : Header) (p : List ℕ) where
       let at = field-is fig in
       rw (le-ltb (length p) 34 (omega (arith, long fig)), at 0, at 1, at 2, at 3, at 4, at 5, at 6, at 7, at 8, at 9, at 10)
 
-  complete : (d : Decoded) → lengthOf h ≡ length p → Shaped h p d → decodeOf h p ≡ d
-  unfolding decodeOf
+  complete : (d : Decoded) → lengthOf h ≡ length p → ShapedBy reading h p d → decodeBy reading h p ≡ d
+  unfolding decodeBy
   complete d counts (with-records ty advA records n is allows fig good e) =
-      rw (eq-eqb (lengthOf h) (length p) counts, is) (arm-undirected ty h p allows ∙ undirected-is ty fig good ∙ sym e)
+      rw (eq-eqb (lengthOf h) (length p) counts, is) (arm-undirected reading ty h p allows ∙ undirected-is ty fig good ∙ sym e)
   complete d counts (two-addresses ty first second further is which fig e) =
       rw (eq-eqb (lengthOf h) (length p) counts, is) (arm-directed ty which ∙ directed-is ty fig ∙ sym e)
   complete d counts (with-lldata initA advA aa crcInit winSize winOffset interval latency timeout chM hopSca further is fig e) =
       rw (eq-eqb (lengthOf h) (length p) counts, is) (connect-is fig ∙ sym e)
 
-pub accepting : (h : Header) (p : List ℕ) → Accepting h p
-unfolding decodeOf
-accepting h p =
+pub accepting-by : (reading : Reading) (h : Header) (p : List ℕ) → AcceptingBy reading h p
+unfolding decodeBy
+accepting-by reading h p =
     record {
       sound = λ ok.
-          let same = passed (eqb (lengthOf h) (length p)) InvalidLength (byType (typeOf h) h p) ok in
-          (eqb-true (lengthOf h) (length p) same, rw same (by-type h p (typeOf h) refl (rw same at ok)));
-      complete = complete h p;
+          let same = passed (eqb (lengthOf h) (length p)) InvalidLength (byType reading (typeOf h) h p) ok in
+          (eqb-true (lengthOf h) (length p) same, rw same (by-type reading h p (typeOf h) refl (rw same at ok)));
+      complete = complete reading h p;
     }
 
-module _ (h : Header) (p : RefT (List ℕ)) where
+pub accepting : (h : Header) (p : List ℕ) → Accepting h p
+accepting h p = accepting-by readArea h p
+
+module _ (reading : Reading) (h : Header) (p : RefT (List ℕ)) where
   -- the records of a payload, and their place
   record Lies (d : AdvData) : Type 0 where
     octets : dataIn d (now p) ≡ drop 6 (now p)
     place : dataPlace d p ≡ (p .ptr .0, p .ptr .1 + 6)
 
-  lies : (d : Decoded) → allowsAdvData (typeOf h) ≡ true → Shaped h (now p) d → Lies (d .pdu .«adv_data»)
+  lies : (d : Decoded) → allowsAdvData (typeOf h) ≡ true → ShapedBy reading h (now p) d → Lies (d .pdu .«adv_data»)
   unfolding flatten
   lies d allows (with-records ty advA records n is allowed fig good e) =
       let size : length advA ≡ 6 = ap (λ (l : List ℕ). getD l 0 0) (fig .sizes) in
@@ -187,9 +190,12 @@ module _ (h : Header) (p : RefT (List ℕ)) where
       let z : _≡_ {A = ℕ} 0 1 = cc in
       absurd (omega arith)
 
-  pub record-area : RecordArea h p
-  record-area =
+  pub record-area-by : RecordAreaBy reading h p
+  record-area-by =
       record {
-        octets = λ allows ok. lies (decodeOf h (now p)) allows (accepting h (now p) .sound ok .1) .octets;
-        place = λ allows ok. lies (decodeOf h (now p)) allows (accepting h (now p) .sound ok .1) .place;
+        octets = λ allows ok. lies (decodeBy reading h (now p)) allows (accepting-by reading h (now p) .sound ok .1) .octets;
+        place = λ allows ok. lies (decodeBy reading h (now p)) allows (accepting-by reading h (now p) .sound ok .1) .place;
       }
+
+pub record-area : (h : Header) (p : RefT (List ℕ)) → RecordArea h p
+record-area h p = record-area-by readArea h p

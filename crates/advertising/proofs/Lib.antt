@@ -4,4 +4,5 @@ pub mod Builders
 pub mod Building
 pub mod Examples
 pub mod Figures
+pub mod Padded
 pub mod Refusals

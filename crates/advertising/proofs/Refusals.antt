@@ -20,7 +20,7 @@ use Rattle.records.specs.Area.{cut, reads, withFirst, areaOf, readArea}
 use Rattle.records.specs.Record.{named, first, flagsRead, dataRead, upTo, recordRead}
 use Rattle.records.specs.declared.area.Area.{Area}
 use Rattle.records.specs.declared.area.Area.the-variants as area
-use Rattle.advertising.specs.Pdu.{outcomeNumber, requestOf, withArea, undirected, directed, connectRequest, byType, decodeOf}
+use Rattle.advertising.specs.Pdu.{outcomeNumber, requestOf, withArea, undirected, directed, connectRequest, byType, decodeBy, decodeOf}
 use Rattle.advertising.specs.Refusals.{numberFor, needed, Among, Order, FromBytes, Rows}
 use Rattle.advertising.specs.declared.pdu.Decoded.{Decoded}
 use Rattle.advertising.proofs.Accepting.{arm-undirected}
@@ -36,18 +36,18 @@ module _ (n : ℕ) (p : List ℕ) where
   h = headerOf n
 
   wrong-length : (n / 256 % 64 ≡ length p → ⊥) → numberFor n p ≡ 2
-  unfolding decodeOf
+  unfolding decodeBy
   wrong-length differ = rw (ne-eqb (lengthOf h) (length p) (λ e. differ (omega arith)))
 
   -- where the header counts the payload, the type decides
-  typed : (c : ℕ) (ty : PduType) → n / 256 % 64 ≡ length p → n % 16 ≡ c → pduType c ≡ ty → decodeOf h p ≡ byType ty h p
-  unfolding decodeOf
+  typed : (c : ℕ) (ty : PduType) → n / 256 % 64 ≡ length p → n % 16 ≡ c → pduType c ≡ ty → decodeOf h p ≡ byType readArea ty h p
+  unfolding decodeBy
   typed c ty counts is named =
       let code : n / 1 % 16 ≡ c = omega arith in
-      rw (eq-eqb (lengthOf h) (length p) (omega arith)) (ap (λ (k : PduType). byType k h p) (ap pduType code ∙ named))
+      rw (eq-eqb (lengthOf h) (length p) (omega arith)) (ap (λ (k : PduType). byType readArea k h p) (ap pduType code ∙ named))
 
   -- the answers of the types, as numbers
-  undirected-short : (ty : PduType) → length p < 6 → outcomeNumber (undirected ty h p .outcome) ≡ 1
+  undirected-short : (ty : PduType) → length p < 6 → outcomeNumber (undirected readArea ty h p .outcome) ≡ 1
   unfolding undirected
   undirected-short ty few = rw (lt-ltb (length p) 6 few)
 
@@ -60,7 +60,7 @@ module _ (n : ℕ) (p : List ℕ) where
   connect-short few = rw (lt-ltb (length p) 34 few)
 
   -- a number of the answer by type is the number of the answer
-  by : (c : ℕ) (ty : PduType) (k : ℕ) → n / 256 % 64 ≡ length p → n % 16 ≡ c → pduType c ≡ ty → outcomeNumber (byType ty h p .outcome) ≡ k → numberFor n p ≡ k
+  by : (c : ℕ) (ty : PduType) (k : ℕ) → n / 256 % 64 ≡ length p → n % 16 ≡ c → pduType c ≡ ty → outcomeNumber (byType readArea ty h p .outcome) ≡ k → numberFor n p ≡ k
   by c ty k counts is named number = ap (λ (d : Decoded). outcomeNumber (d .outcome)) (typed c ty counts is named) ∙ number
 
   wrong-type : n / 256 % 64 ≡ length p → 6 < n % 16 → numberFor n p ≡ 3
@@ -103,9 +103,9 @@ module _ (n : ℕ) (p : List ℕ) where
   of-area k a counts which enough reads number =
       let of = has-records which in
       by (of .code) (of .type) k counts (of .is) (of .named)
-      (ap (λ (d : Decoded). outcomeNumber (d .outcome)) (arm-undirected (of .type) h p (of .allows) ∙ area-is (of .type)) ∙ number (of .type))
+      (ap (λ (d : Decoded). outcomeNumber (d .outcome)) (arm-undirected readArea (of .type) h p (of .allows) ∙ area-is (of .type)) ∙ number (of .type))
     where
-      area-is : (ty : PduType) → undirected ty h p ≡ withArea ty h p a
+      area-is : (ty : PduType) → undirected readArea ty h p ≡ withArea ty h p a
       area-is ty = rw (le-ltb (length p) 6 enough, reads)
 
   further : n / 256 % 64 ≡ length p → Among (n % 16) (1 ∷ 3 ∷ 5 ∷ []) → getD needed (n % 16) 0 ≤ length p → numberFor n p ≡ 0
@@ -139,7 +139,7 @@ from-bytes s =
     }
 
 pub rows : Rows
-unfolding decodeOf byType undirected directed connectRequest withArea requestOf pduType readArea areaOf reads withFirst cut first recordRead dataRead flagsRead upTo named
+unfolding decodeBy byType undirected directed connectRequest withArea requestOf pduType readArea areaOf reads withFirst cut first recordRead dataRead flagsRead upTo named
 rows =
     record {
       type-0 = refl;

@@ -25,7 +25,7 @@ use Rattle.octets.specs.declared.error.Error.{Error}
 use Rattle.octets.specs.declared.error.Error.the-variants.{Eof}
 use Rattle.records.specs.Area.{readArea, rewritten}
 use Rattle.records.specs.declared.area.Area.the-variants as area
-use Rattle.advertising.specs.Pdu.{undirectedFigure, directedFigure, connectFigure, accuracyOf, windowEnd, noRequest, noAddress, noData, dataIn, dataPlace, decodedAs, decodeOf}
+use Rattle.advertising.specs.Pdu.{undirectedFigure, directedFigure, connectFigure, accuracyOf, windowEnd, noRequest, noAddress, noData, dataIn, dataPlace, decodedAs, Reading, decodeBy, decodeOf}
 use Rattle.advertising.specs.PduBuf.{headerFor, refusedBuf, builtOf, builtDirected, flagsRecord, payloadOf}
 use Rattle.advertising.specs.declared.pdu.AdvData.{AdvData}
 use Rattle.advertising.specs.declared.pdu.ConnectRequestData.{ConnectRequestData}
@@ -40,18 +40,19 @@ pub record Figure (widths : List ℕ) (fields : List (List ℕ)) (further p : Li
   pub sizes : map length fields ≡ widths
   pub tiles : p ≡ flatten fields ++ further
 
--- A payload begins with the fields of a figure of the Core, drawn in specs/Pdu.antt, for the header's type; and both say what d says.
-pub data Shaped (h : Header) (p : List ℕ) (d : Decoded) : Type 0 where
+-- A payload begins with the fields of a figure of the Core, drawn in specs/Pdu.antt, for the header's type; and both say what d says. Records are read by
+-- either reading: strictly, or as the hub does.
+pub data ShapedBy (reading : Reading) (h : Header) (p : List ℕ) (d : Decoded) : Type 0 where
   -- an address and records
   with-records : (ty : PduType) (advA records : List ℕ) (n : ℕ) → typeOf h ≡ ty → allowsAdvData ty ≡ true
-      → Figure undirectedFigure (advA ∷ []) records p → readArea records ≡ area.Accepted n
+      → Figure undirectedFigure (advA ∷ []) records p → reading records ≡ area.Accepted n
       → d ≡ decodedAs Accepted ty (addressOf advA (kindOf (txAdd h))) noAddress (record { start = 6; len = length records; count = n }) noRequest
-      → Shaped h p d
+      → ShapedBy reading h p d
   -- two addresses
   two-addresses : (ty : PduType) (first second further : List ℕ) → typeOf h ≡ ty → (ty ≡ AdvDirectInd) ⊎ (ty ≡ ScanReq)
       → Figure directedFigure (first ∷ second ∷ []) further p
       → d ≡ decodedAs Accepted ty (addressOf first (kindOf (txAdd h))) (addressOf second (kindOf (rxAdd h))) noData noRequest
-      → Shaped h p d
+      → ShapedBy reading h p d
   -- two addresses and LLData
   with-lldata : (initA advA aa crcInit winSize winOffset interval latency timeout chM hopSca further : List ℕ) → typeOf h ≡ ConnectReq
       → Figure connectFigure (initA ∷ advA ∷ aa ∷ crcInit ∷ winSize ∷ winOffset ∷ interval ∷ latency ∷ timeout ∷ chM ∷ hopSca ∷ []) further p
@@ -67,12 +68,16 @@ pub data Shaped (h : Header) (p : List ℕ) (d : Decoded) : Type 0 where
         hop = le hopSca % 32;
         sca = accuracyOf (le hopSca / 32);
       })
-      → Shaped h p d
+      → ShapedBy reading h p d
 
 -- A header and a payload are accepted exactly if the header counts the payload and they are so shaped; what is then read is what the shape says.
-pub record Accepting (h : Header) (p : List ℕ) : Type 0 where
-  pub sound : decodeOf h p .outcome ≡ Accepted → (lengthOf h ≡ length p) × Shaped h p (decodeOf h p)
-  pub complete : (d : Decoded) → lengthOf h ≡ length p → Shaped h p d → decodeOf h p ≡ d
+pub record AcceptingBy (reading : Reading) (h : Header) (p : List ℕ) : Type 0 where
+  pub sound : decodeBy reading h p .outcome ≡ Accepted → (lengthOf h ≡ length p) × ShapedBy reading h p (decodeBy reading h p)
+  pub complete : (d : Decoded) → lengthOf h ≡ length p → ShapedBy reading h p d → decodeBy reading h p ≡ d
+
+-- the general decoder's, by the strict reading; the hub's is `AcceptingBy asHub`
+abbrev pub Accepting : Header → List ℕ → Type 0
+Accepting h p = AcceptingBy readArea h p
 
 -- a PDU of type ty from the address a was built with these records, n of them, and reads so
 pub record ReadsBack (ty : PduType) (a : DeviceAddress) (flags s : List ℕ) (n : ℕ) : Type 0 where
@@ -175,6 +180,9 @@ abbrev pub WindowEnd : Type 0
 WindowEnd = (d : ConnectRequestData) → windowEnd d ≡ (d .«win_offset» + d .«win_size» + 1250) % 2 ^ 32
 
 -- The record area of a PDU that was read is the part of its payload behind the six octets of the address, in its own place.
-pub record RecordArea (h : Header) (p : RefT (List ℕ)) : Type 0 where
-  pub octets : allowsAdvData (typeOf h) ≡ true → decodeOf h (now p) .outcome ≡ Accepted → dataIn (decodeOf h (now p) .pdu .«adv_data») (now p) ≡ drop 6 (now p)
-  pub place : allowsAdvData (typeOf h) ≡ true → decodeOf h (now p) .outcome ≡ Accepted → dataPlace (decodeOf h (now p) .pdu .«adv_data») p ≡ (p .ptr .0, p .ptr .1 + 6)
+pub record RecordAreaBy (reading : Reading) (h : Header) (p : RefT (List ℕ)) : Type 0 where
+  pub octets : allowsAdvData (typeOf h) ≡ true → decodeBy reading h (now p) .outcome ≡ Accepted → dataIn (decodeBy reading h (now p) .pdu .«adv_data») (now p) ≡ drop 6 (now p)
+  pub place : allowsAdvData (typeOf h) ≡ true → decodeBy reading h (now p) .outcome ≡ Accepted → dataPlace (decodeBy reading h (now p) .pdu .«adv_data») p ≡ (p .ptr .0, p .ptr .1 + 6)
+
+abbrev pub RecordArea : Header → RefT (List ℕ) → Type 0
+RecordArea h p = RecordAreaBy readArea h p

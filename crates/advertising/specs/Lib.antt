@@ -1,5 +1,6 @@
 pub mod Builders
 pub mod Laws
+pub mod Padded
 pub mod Pdu
 pub mod PduBuf
 pub mod Refusals

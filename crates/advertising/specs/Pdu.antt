@@ -19,12 +19,17 @@
 --   decodedAs o ty s r d l    == an answer, with all that it says
 --   refusedPdu e              == the refusal e, with an empty PDU
 --   undirected, directed, connectRequest   == the answer by type, once the length agrees
---   decodeOf h p              == the answer for a header and a payload; wellFormed h p: it is no refusal
+--   decodeBy reading h p      == the answer for a header and a payload, where records are read so
+--   decodeOf h p              == the same where they are read strictly; wellFormed h p: it is no refusal
 --   decodedAt found s         == the same for a header that was found in s, or not, and what follows it
-use mathlib.Core.Bool.{Bool, true, false, cond}
+--   heardOf h p               == the answer where records are read as the hub does: zeros may follow them (document 02, Note 3)
+--   hasArea h p               == they have records to read: the type has them, the length agrees and there is an address
+--   takenIn d p               == how many octets the records take of the part d of a payload
+--   paddedOf h p              == both
+use mathlib.Core.Bool.{Bool, true, false, cond, _&&_}
 use mathlib.Core.List.{List, [], _∷_}
 use Prim.Native.Nat.{ℕ, _+_, _-_, _*_, _/_, _%_}
-use lib.Dec.{eqb, ltb}
+use lib.Dec.{eqb, leb, ltb}
 use lib.ListN.{length, getD, take, drop}
 use denote.Ref.{RefT}
 use Rattle.channels.specs.Map.{fromRaw}
@@ -34,10 +39,11 @@ use Rattle.octets.specs.Time.{later}
 use Rattle.octets.specs.declared.error.Error.{Error}
 use Rattle.octets.specs.declared.error.Error.the-variants.{Eof, InvalidLength, InvalidValue}
 use Rattle.records.specs.Area.{readArea}
+use Rattle.records.specs.Padding.{unpadded, readPadded, areaIn}
 use Rattle.records.specs.declared.area.Area.{Area}
 use Rattle.records.specs.declared.area.Area.the-variants as area
 use Rattle.addresses.specs.Address.{kindOf, addressOf}
-use Rattle.addresses.specs.Header.{typeOf, txAdd, rxAdd, lengthOf}
+use Rattle.addresses.specs.Header.{typeOf, txAdd, rxAdd, lengthOf, allowsAdvData}
 use Rattle.addresses.specs.declared.device_address.AddressKind.the-variants.{Public}
 use Rattle.addresses.specs.declared.device_address.DeviceAddress.{DeviceAddress}
 use Rattle.addresses.specs.declared.header.Header.{Header}
@@ -50,6 +56,7 @@ use Rattle.advertising.specs.declared.pdu.ConnectRequestData.{ConnectReq
 use Rattle.advertising.specs.declared.pdu.Decoded.{Decoded}
 use Rattle.advertising.specs.declared.pdu.Outcome.{Outcome}
 use Rattle.advertising.specs.declared.pdu.Outcome.the-variants.{Accepted, Refused}
+use Rattle.advertising.specs.declared.pdu.Padded.{Padded}
 use Rattle.advertising.specs.declared.pdu.SleepClockAccuracy.{SleepClockAccuracy}
 use Rattle.advertising.specs.declared.pdu.SleepClockAccuracy.the-variants.{Ppm251To500, Ppm151To250, Ppm101To150, Ppm76To100, Ppm51To75, Ppm31To50, Ppm21To30, Ppm0To20}
 
@@ -168,8 +175,12 @@ withArea ty h p (area.Accepted n) =
     decodedAs Accepted ty (senderOf h p) noAddress (record { start = 6; len = length p - 6; count = n }) noRequest
 withArea ty h p (area.Refused e) = refusedPdu e
 
-unfoldable pub undirected : PduType → Header → List ℕ → Decoded
-undirected ty h p = cond (ltb (length p) (total undirectedFigure)) (refusedPdu Eof) (withArea ty h p (readArea (drop (total undirectedFigure) p)))
+-- how an area of records is read
+abbrev pub Reading : Type 0
+Reading = List ℕ → Area
+
+unfoldable pub undirected : Reading → PduType → Header → List ℕ → Decoded
+undirected reading ty h p = cond (ltb (length p) (total undirectedFigure)) (refusedPdu Eof) (withArea ty h p (reading (drop (total undirectedFigure) p)))
 
 unfoldable pub directed : PduType → Header → List ℕ → Decoded
 directed ty h p =
@@ -181,18 +192,21 @@ connectRequest h p =
     cond (ltb (length p) (total connectFigure)) (refusedPdu Eof)
     (decodedAs Accepted ConnectReq (senderOf h p) (receiverOf h p) noData (requestOf p))
 
-unfoldable pub byType : PduType → Header → List ℕ → Decoded
-byType AdvInd h p = undirected AdvInd h p
-byType AdvDirectInd h p = directed AdvDirectInd h p
-byType AdvNonconnInd h p = undirected AdvNonconnInd h p
-byType AdvScanInd h p = undirected AdvScanInd h p
-byType ScanReq h p = directed ScanReq h p
-byType ScanRsp h p = undirected ScanRsp h p
-byType ConnectReq h p = connectRequest h p
-byType (Unknown n) h p = refusedPdu InvalidValue
+unfoldable pub byType : Reading → PduType → Header → List ℕ → Decoded
+byType reading AdvInd h p = undirected reading AdvInd h p
+byType reading AdvDirectInd h p = directed AdvDirectInd h p
+byType reading AdvNonconnInd h p = undirected reading AdvNonconnInd h p
+byType reading AdvScanInd h p = undirected reading AdvScanInd h p
+byType reading ScanReq h p = directed ScanReq h p
+byType reading ScanRsp h p = undirected reading ScanRsp h p
+byType reading ConnectReq h p = connectRequest h p
+byType reading (Unknown n) h p = refusedPdu InvalidValue
 
-unfoldable pub decodeOf : Header → List ℕ → Decoded
-decodeOf h p = cond (eqb (lengthOf h) (length p)) (byType (typeOf h) h p) (refusedPdu InvalidLength)
+unfoldable pub decodeBy : Reading → Header → List ℕ → Decoded
+decodeBy reading h p = cond (eqb (lengthOf h) (length p)) (byType reading (typeOf h) h p) (refusedPdu InvalidLength)
+
+abbrev pub decodeOf : Header → List ℕ → Decoded
+decodeOf h p = decodeBy readArea h p
 
 -- "well-formed if its header and payload decode without refusal"
 abbrev pub wellFormed : Header → List ℕ → Bool
@@ -201,3 +215,19 @@ wellFormed h p = isAccepted (decodeOf h p .outcome)
 abbrev pub decodedAt : HeaderRead → List ℕ → Decoded
 decodedAt (read.Header h next) s = decodeOf h (drop (next .at) s)
 decodedAt (read.Refused e) s = refusedPdu e
+
+-- header and payload have records to read
+abbrev pub hasArea : Header → List ℕ → Bool
+hasArea h p = allowsAdvData (typeOf h) && (eqb (lengthOf h) (length p) && leb (total undirectedFigure) (length p))
+
+abbrev pub asHub : Reading
+asHub s = areaIn (readPadded s)
+
+abbrev pub heardOf : Header → List ℕ → Decoded
+heardOf h p = decodeBy asHub h p
+
+abbrev pub takenIn : AdvData → List ℕ → ℕ
+takenIn d p = length (unpadded (dataIn d p))
+
+abbrev pub paddedOf : Header → List ℕ → Padded
+paddedOf h p = record { decoded = heardOf h p; taken = takenIn (heardOf h p .pdu .«adv_data») p }

@@ -3,9 +3,11 @@ ghost use mathlib.Core.Path.{_≡_};
 ghost use Prim.Native.Nat.{_+_, _*_, _≤_};
 ghost use lib.ListN.{length};
 ghost use Rattle.octets.specs.Bytes.{part, le, u16Read};
+ghost use mathlib.Core.Bool.{true};
 ghost use Rattle.addresses.specs.Header.{headerRead};
+ghost use Rattle.records.specs.Area.{readArea};
 ghost use Rattle.addresses.specs.Address.{kindOf, addressOf};
-ghost use Rattle.advertising.specs.Pdu.{accuracyOf, requestOf, noRequest, noAddress, noData, windowEnd, hasReceiver, dataIn, dataPlace, outcomeNumber, decodedAs, refusedPdu, undirected, directed, connectRequest, decodeOf, decodedAt};
+ghost use Rattle.advertising.specs.Pdu.{accuracyOf, requestOf, noRequest, noAddress, noData, windowEnd, hasReceiver, dataIn, dataPlace, outcomeNumber, decodedAs, refusedPdu, withArea, undirected, directed, connectRequest, decodeOf, decodedAt, hasArea, paddedOf};
 use addresses::device_address::AddressKind;
 use addresses::device_address::DeviceAddress;
 use addresses::header::Header;
@@ -18,7 +20,9 @@ use octets::bytes::u16_from_le_bytes;
 use octets::bytes::u32_from_le_bytes;
 use octets::error::Error;
 use records::area::Area;
+use records::area::PaddedArea;
 use records::area::read_area;
+use records::area::read_padded_area;
 
 // A PDU that was read. rubble's is an enum, whose variants hold addresses; here the type says which fields have a meaning.
 pub struct Pdu {
@@ -73,6 +77,12 @@ pub struct Decoded {
     pub pdu: Pdu,
 }
 
+// What the hub's decoding finds, and how many octets the records took: none where there are no records, or a refusal.
+pub struct Padded {
+    pub decoded: Decoded,
+    pub taken: usize,
+}
+
 impl Decoded {
     // A refusal, with an empty PDU.
     pub fn refused(e: Error) -> Decoded
@@ -107,6 +117,18 @@ impl Pdu {
             PduType::Unknown(_) => Decoded::refused(Error::InvalidValue),
             _ => read_directed(ty, header, payload),
         }
+    }
+
+    // Reads a PDU as the hub does: zeros may follow its records.
+    pub fn from_padded(header: Header, payload: &[u8]) -> Padded
+        ensures { λ r. ⌜ r ≡ paddedOf header (now (payload .entry)) ⌝ }
+    {
+        if has_area(header, payload) {
+            return read_padded(header, payload);
+        }
+        // Without records both decoders answer alike.
+        let decoded = Pdu::from_header_and_payload(header, payload);
+        Padded { decoded, taken: 0 }
     }
 
     // The device that sends this PDU.
@@ -170,12 +192,20 @@ impl Pdu {
 
 // Types 0, 2, 4 and 6: an address, then records.
 fn read_undirected(ty: PduType, header: Header, payload: &[u8]) -> Decoded
-    ensures { λ r. ⌜ r ≡ undirected ty header (now (payload .entry)) ⌝ }
+    ensures { λ r. ⌜ r ≡ undirected readArea ty header (now (payload .entry)) ⌝ }
 {
     if payload.len() < 6 {
         return Decoded::refused(Error::Eof);
     }
-    match read_area(&payload[6..]) {
+    with_area(ty, header, payload, read_area(&payload[6..]))
+}
+
+// An address, then records that were read so.
+fn with_area(ty: PduType, header: Header, payload: &[u8], area: Area) -> Decoded
+    requires { ⌜ 6 ≤ length (now payload) ⌝ }
+    ensures { λ r. ⌜ r ≡ withArea ty header (now (payload .entry)) area ⌝ }
+{
+    match area {
         Area::Accepted(count) => {
             let adv_data = AdvData {
                 start: 6,
@@ -193,6 +223,37 @@ fn read_undirected(ty: PduType, header: Header, payload: &[u8]) -> Decoded
             )
         }
         Area::Refused(e) => Decoded::refused(e),
+    }
+}
+
+// Whether header and payload have records to read: the type has them, the length agrees, and there is an address.
+fn has_area(header: Header, payload: &[u8]) -> bool
+    ensures { λ r. ⌜ r ≡ hasArea header (now (payload .entry)) ⌝ }
+{
+    if header.type_().allows_adv_data() {
+        if header.payload_length() as usize == payload.len() {
+            return 6 <= payload.len();
+        }
+        return false;
+    }
+    false
+}
+
+// The same, read as the hub does.
+fn read_padded(header: Header, payload: &[u8]) -> Padded
+    requires { ⌜ hasArea header (now payload) ≡ true ⌝ }
+    ensures { λ r. ⌜ r ≡ paddedOf header (now (payload .entry)) ⌝ }
+{
+    let ty = header.type_();
+    match read_padded_area(&payload[6..]) {
+        PaddedArea::Accepted(count, taken) => {
+            let decoded = with_area(ty, header, payload, Area::Accepted(count));
+            Padded { decoded, taken }
+        }
+        PaddedArea::Refused(e) => {
+            let decoded = Decoded::refused(e);
+            Padded { decoded, taken: 0 }
+        }
     }
 }
 

@@ -65,7 +65,7 @@ pub record Beacons (a : DeviceAddress) (s : List ℕ) (n channel start : ℕ) : 
   pub records : dataIn place (payloadIn (clear a s channel start)) ≡ rewritten s
   pub reported : (scanner : BeaconScanner) (list : List ℕ) → Lets (scanner .filter .scan) list a
       → scanned scanner (headerIn (clear a s channel start)) (payloadIn (clear a s channel start)) true list
-      ≡ record { report = report.Beacon; sender = a; «adv_data» = place; channel = scanner .channel }
+      ≡ record { report = report.Beacon; sender = a; «adv_data» = place; taken = length s; channel = scanner .channel }
 
 pub record Air : Type 0 where
   pub passes : (channel start : ℕ) (h : Header) (p : List ℕ) → channel ≤ 39 → h .0 < 2 ^ 16 → length p ≤ 37 → Passes channel start h p

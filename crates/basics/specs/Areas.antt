@@ -1,7 +1,7 @@
 -- Records as numbers: the kinds count from 1 in the order of `AdStructure`, and 0 is the end of an area.
 --   structureIn kind complete value start len == the record of these numbers
 --   structureSaid a next, readSaid, parsedSaid, knownSaid == the numbers of a record, of what was read, and of that read on
---   areaGot, uuidGot, flagsSaid == the numbers of an area, of a UUID in a list, and of an octet of Flags
+--   areaGot, paddedGot, uuidGot, flagsSaid == the numbers of an area, of one that the hub reads, of a UUID in a list, and of an octet of Flags
 use mathlib.Core.Bool.{Bool, false, cond}
 use mathlib.Core.List.{List}
 use Prim.Native.Nat.{ℕ, _%_}
@@ -19,6 +19,8 @@ use Rattle.records.specs.declared.ad_structure.Read.{Read}
 use Rattle.records.specs.declared.ad_structure.Read.the-variants as read
 use Rattle.records.specs.declared.area.Area.{Area}
 use Rattle.records.specs.declared.area.Area.the-variants as area
+use Rattle.records.specs.declared.area.PaddedArea.{PaddedArea}
+use Rattle.records.specs.declared.area.PaddedArea.the-variants as padded
 use Rattle.answers.specs.Got.{found, refusedAs}
 use Rattle.basics.specs.declared.areas.FlagsSaid.{FlagsSaid}
 use Rattle.basics.specs.declared.areas.Structure.{Structure}
@@ -27,6 +29,10 @@ use Rattle.answers.specs.declared.got.Got.{Got}
 abbrev pub areaGot : Area → Got
 areaGot (area.Accepted n) = found n 0
 areaGot (area.Refused e) = refusedAs e
+
+abbrev pub paddedGot : PaddedArea → Got
+paddedGot (padded.Accepted n taken) = found n taken
+paddedGot (padded.Refused e) = refusedAs e
 
 abbrev pub uuidGot : ℕ → NextUuid16 → Got
 uuidGot at (uuid.Uuid u next) = found (u .0) next

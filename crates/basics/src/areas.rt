@@ -2,11 +2,12 @@
 ghost use mathlib.Core.Path.{_≡_};
 ghost use Prim.Native.Nat.{_%_};
 ghost use Rattle.records.specs.Area.{readArea, rewrittenTo, rewrittenAfter};
+ghost use Rattle.records.specs.Padding.{readPadded};
 ghost use Rattle.records.specs.Record.{recordAt};
 ghost use Rattle.records.specs.Uuids.{uuid16At};
 ghost use Rattle.records.specs.Write.{writtenTo, writtenAfter};
 ghost use Rattle.answers.specs.Got.{writtenGot};
-ghost use Rattle.basics.specs.Areas.{said, structureIn, areaGot, uuidGot, structureSaid, refusedSaid, parsedSaid, readSaid, knownSaid, flagsSaid};
+ghost use Rattle.basics.specs.Areas.{said, structureIn, areaGot, paddedGot, uuidGot, structureSaid, refusedSaid, parsedSaid, readSaid, knownSaid, flagsSaid};
 use answers::got::Got;
 use answers::got::found;
 use answers::got::refused;
@@ -24,7 +25,9 @@ use records::ad_structure::read_known;
 use records::ad_structure::read_record;
 use records::ad_structure::write_record;
 use records::area::Area;
+use records::area::PaddedArea;
 use records::area::read_area;
+use records::area::read_padded_area;
 use records::area::rewrite_area;
 
 // A record. `kind` is 0 at the end of an area, then 1 to 9 in the order of `AdStructure`; `value` the bits of Flags, a UUID, a company or a type.
@@ -58,6 +61,17 @@ pub extern "C" fn board_area(s: &[u8]) -> Got
     match read_area(s) {
         Area::Accepted(count) => found(count, 0),
         Area::Refused(e) => refused(e),
+    }
+}
+
+// The number of records as the hub reads an area, and how many octets they took.
+#[no_mangle]
+pub extern "C" fn board_padded_area(s: &[u8]) -> Got
+    ensures { λ r. ⌜ r ≡ paddedGot (readPadded (now (s .entry))) ⌝ }
+{
+    match read_padded_area(s) {
+        PaddedArea::Accepted(count, taken) => found(count, taken),
+        PaddedArea::Refused(e) => refused(e),
     }
 }
 

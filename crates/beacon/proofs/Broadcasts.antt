@@ -1,30 +1,35 @@
 -- What is sent of a beacon, and heard of it: `sends`, `no-beacon`, `broadcasting`, `sendable`. Assumes nothing.
 use mathlib.Core.Bool.{Bool, true, false}
 use mathlib.Core.List.{List, [], _++_, append-nil}
-use mathlib.Core.Path.{_≡_, refl, sym, ap, subst, _∙_}
+use mathlib.Core.Path.{_≡_, refl, sym, ap, ap₂, subst, _∙_}
 use Prim.Native.Nat.{ℕ, _+_, _≤_}
 use native.Mathlib.Nat.{zero-add}
 use native.Mathlib.Omega.{arith}
 use lib.Dec.{ltb}
 use lib.ListN.{length, take, length-append}
+use lib.Seq.{take-length}
 use borrow.Author.Tests.{ltb-true, ltb-false}
 use Rattle.octets.proofs.Places.{enough, too-few, cond-same}
 use Rattle.octets.specs.declared.error.Error.{Error}
 use Rattle.octets.specs.declared.error.Error.the-variants.{Eof}
+use Rattle.records.proofs.Padded.{differs, took}
 use Rattle.records.proofs.RoundTrip.{round-trip}
 use Rattle.records.specs.Area.{cut, reads, areaOf, readArea, rewritten}
+use Rattle.records.specs.Padding.{unpadded, readPadded}
 use Rattle.records.specs.declared.area.Area.{Area}
 use Rattle.records.specs.declared.area.Area.the-variants as area
+use Rattle.records.specs.declared.area.PaddedArea.the-variants as padded
 use Rattle.addresses.proofs.Boxes.{codes}
 use Rattle.addresses.specs.Address.{kindOf, isRandom, addressOf}
 use Rattle.addresses.specs.Header.{typeCode, typeOf, txAdd, bits}
 use Rattle.addresses.specs.declared.device_address.DeviceAddress.{DeviceAddress}
 use Rattle.addresses.specs.declared.header.Header.{Header}
 use Rattle.addresses.specs.declared.header.PduType.the-variants.{AdvNonconnInd}
-use Rattle.advertising.proofs.Accepting.{accepting}
+use Rattle.advertising.proofs.Accepting.{accepting-by}
 use Rattle.advertising.proofs.Building.{building}
+use Rattle.advertising.proofs.Padded.{alike}
 use Rattle.advertising.specs.Laws.{ReadsBack}
-use Rattle.advertising.specs.Pdu.{noRequest, noAddress, isAccepted, decodedAs, decodeOf}
+use Rattle.advertising.specs.Pdu.{noRequest, noAddress, dataIn, isAccepted, decodedAs, decodeOf, asHub, heardOf, paddedOf}
 use Rattle.advertising.specs.PduBuf.{headerFor, beaconPdu, payloadOf}
 use Rattle.advertising.specs.declared.pdu.AdvData.{AdvData}
 use Rattle.advertising.specs.declared.pdu.Decoded.{Decoded}
@@ -64,16 +69,23 @@ code-of h is = sym (codes .back (bits 0 4 h)) ∙ ap typeCode is
 type-of : (h : Header) (p : List ℕ) (a : DeviceAddress) (place : AdvData)
     → decodeOf h p ≡ decodedAs outcome.Accepted AdvNonconnInd a noAddress place noRequest → typeOf h ≡ AdvNonconnInd
 type-of h p a place reads =
-    same-type h p (decodeOf h p) (accepting h p .sound (ap (λ (d : Decoded). d .outcome) reads) .1) ∙ ap (λ (d : Decoded). d .pdu .ty) reads
+    let same : heardOf h p ≡ decodeOf h p = alike h p .accepts (ap (λ (d : Decoded). d .outcome) reads) in
+    same-type h p (heardOf h p) (accepting-by asHub h p .sound (ap (λ (d : Decoded). d .outcome) (same ∙ reads)) .1) ∙ ap (λ (d : Decoded). d .pdu .ty) (same ∙ reads)
 
 pub broadcasting : (a : DeviceAddress) (s : List ℕ) (n : ℕ) → length (a .bytes) ≡ 6 → readArea s ≡ area.Accepted n → length s ≤ 31 → Broadcasting a s n
 broadcasting a s n six good fits =
     let back : ReadsBack AdvNonconnInd a [] s n = building .adv AdvNonconnInd a s n refl six good fits in
     let h : Header = back .pdu .header in
     let p : List ℕ = payloadOf (back .pdu) in
-    let ok : decodeOf h p .outcome ≡ outcome.Accepted = ap (λ (d : Decoded). d .outcome) (back .reads) in
-    let sender : decodeOf h p .pdu .sender ≡ a = ap (λ (d : Decoded). d .pdu .sender) (back .reads) in
+    let heard : heardOf h p ≡ decodedAs outcome.Accepted AdvNonconnInd a noAddress (back .place) noRequest = alike h p .accepts (ap (λ (d : Decoded). d .outcome) (back .reads)) ∙ back .reads in
+    let ok : heardOf h p .outcome ≡ outcome.Accepted = ap (λ (d : Decoded). d .outcome) heard in
+    let sender : heardOf h p .pdu .sender ≡ a = ap (λ (d : Decoded). d .pdu .sender) heard in
     let as-long : length (rewritten s) ≡ length s = round-trip s .as-long in
+    -- its records take the whole area
+    let whole : dataIn (heardOf h p .pdu .«adv_data») p ≡ rewritten s = ap (λ (d : Decoded). dataIn (d .pdu .«adv_data») p) heard ∙ back .records in
+    let read : readPadded (rewritten s) ≡ padded.Accepted n (length (rewritten s)) = differs (rewritten s) .accepts n (round-trip s .area-again ∙ good) in
+    let taken : paddedOf h p .taken ≡ length s =
+    ap (λ (l : List ℕ). length (unpadded l)) whole ∙ ap length (took (rewritten s) [] .before n (length (rewritten s)) read ∙ take-length (rewritten s)) ∙ as-long in
     let size : length ((a .bytes ++ []) ++ rewritten s) ≡ 6 + length s = simp length-append (omega arith) in
     record {
       beacon = record { pdu = back .pdu };
@@ -87,7 +99,7 @@ broadcasting a s n six good fits =
       heard = λ scanner list passes.
           complete scanner h p true list
           (record { crc = refl; type-2 = code-of h (type-of h p a (back .place) (back .reads)); decoding = ok; filter = rw sender passes })
-          ∙ ap (λ (d : Decoded). reportOf (scanner .channel) (d .pdu)) (back .reads);
+          ∙ ap₂ (λ (d : Decoded) (k : ℕ). reportOf (scanner .channel) (record { decoded = d; taken = k })) heard taken;
     }
 
 -- what can be sent of a beacon: type 2, from the address
@@ -100,8 +112,9 @@ sent a s n b =
     let h : Header = b .beacon .pdu .header in
     let p : List ℕ = payloadOf (b .beacon .pdu) in
     let type : typeOf h ≡ AdvNonconnInd = type-of h p a (b .place) (b .decoded) in
-    let its : Holds h p (decodeOf h p .pdu) = holds-decoded h p type (ap (λ (d : Decoded). d .outcome) (b .decoded)) in
-    let is : Sent a (b .beacon) = record { type-2 = code-of h type; sender = sym (its .sender) ∙ ap (λ (d : Decoded). d .pdu .sender) (b .decoded) } in
+    let heard = alike h p .accepts (ap (λ (d : Decoded). d .outcome) (b .decoded)) ∙ b .decoded in
+    let its : Holds h p (heardOf h p .pdu) = holds-decoded h p type (ap (λ (d : Decoded). d .outcome) heard) in
+    let is : Sent a (b .beacon) = record { type-2 = code-of h type; sender = sym (its .sender) ∙ ap (λ (d : Decoded). d .pdu .sender) heard } in
     subst (Sent a) (ap (λ (m : Made). m .beacon) (sym (b .made))) is
 
 no-records : readArea [] ≡ area.Accepted 0

@@ -18,7 +18,7 @@ use Rattle.addresses.specs.declared.filter.Matches.the-variants as matches
 use Rattle.addresses.specs.declared.header.Header.{Header}
 use Rattle.addresses.specs.declared.header.PduType.{PduType}
 use Rattle.addresses.specs.declared.header.PduType.the-variants.{AdvInd, AdvDirectInd, AdvScanInd, ScanReq, ScanRsp, ConnectReq, Unknown}
-use Rattle.advertising.specs.Pdu.{decodeOf}
+use Rattle.advertising.specs.Pdu.{heardOf, paddedOf}
 use Rattle.beacon.specs.Scanner.{isListFor, isPass, passes, isBeaconPacket, reportOf, unreported, unfiltered, scanned}
 use Rattle.beacon.specs.declared.beacon.BeaconScanner.{BeaconScanner}
 use Rattle.beacon.specs.declared.beacon.Report.the-variants as report
@@ -90,9 +90,9 @@ module _ (s : BeaconScanner) (h : Header) (p : List ℕ) (crcOk : Bool) (list : 
       nothing : Scanned
       nothing = unreported report.Nothing (s .channel)
 
-      go : (t : Bool) → w ≡ cond t (reportOf (s .channel) (decodeOf h p .pdu)) nothing → passes f list (w .sender) ≡ b
-          → cond b w nothing ≡ cond (t && passes f list (decodeOf h p .pdu .sender)) (reportOf (s .channel) (decodeOf h p .pdu)) nothing
-      go true is b-is = let who : passes f list (w .sender) ≡ passes f list (decodeOf h p .pdu .sender) = ap (λ (x : Scanned). passes f list (x .sender)) is in
+      go : (t : Bool) → w ≡ cond t (reportOf (s .channel) (paddedOf h p)) nothing → passes f list (w .sender) ≡ b
+          → cond b w nothing ≡ cond (t && passes f list (heardOf h p .pdu .sender)) (reportOf (s .channel) (paddedOf h p)) nothing
+      go true is b-is = let who : passes f list (w .sender) ≡ passes f list (heardOf h p .pdu .sender) = ap (λ (x : Scanned). passes f list (x .sender)) is in
           rw (← who, b-is, is)
       go false is b-is = rw is (same b)
         where

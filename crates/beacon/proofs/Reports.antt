@@ -11,12 +11,13 @@ use lib.Seq.{take-length}
 use borrow.Author.Tests.{eq-eqb, eqb-true, le-ltb}
 use Rattle.octets.proofs.Places.{both-true, enough}
 use Rattle.octets.specs.declared.error.Error.the-variants.{InvalidValue}
-use Rattle.records.specs.Area.{readArea}
-use Rattle.records.specs.declared.area.Area.the-variants as area
+use Rattle.records.specs.Padding.{readPadded}
+use Rattle.records.specs.declared.area.PaddedArea.{PaddedArea}
+use Rattle.records.specs.declared.area.PaddedArea.the-variants as padded
 use Rattle.addresses.proofs.Entries.{listed}
 use Rattle.addresses.specs.Address.{kindOf, addressOf}
 use Rattle.addresses.specs.Filter.{any, badKind, isList, matchesOf}
-use Rattle.addresses.specs.Header.{bits, pduType, typeOf, txAdd, allowsAdvData}
+use Rattle.addresses.specs.Header.{bits, pduType, typeOf, txAdd, lengthOf, allowsAdvData}
 use Rattle.addresses.specs.declared.device_address.DeviceAddress.{DeviceAddress}
 use Rattle.addresses.specs.declared.filter.AddressFilter.{AddressFilter}
 use Rattle.addresses.specs.declared.filter.AddressFilter.the-variants.{AllowAll, Whitelist}
@@ -24,12 +25,14 @@ use Rattle.addresses.specs.declared.filter.Matches.{Matches}
 use Rattle.addresses.specs.declared.filter.Matches.the-variants as matches
 use Rattle.addresses.specs.declared.header.Header.{Header}
 use Rattle.addresses.specs.declared.header.PduType.the-variants.{AdvNonconnInd}
-use Rattle.advertising.proofs.Accepting.{accepting, is-accepted, record-area}
+use Rattle.advertising.proofs.Accepting.{accepting-by, is-accepted, record-area-by}
 use Rattle.advertising.proofs.Figures.{field-is, behind, long}
-use Rattle.advertising.specs.Laws.{Shaped, with-records, two-addresses, with-lldata}
-use Rattle.advertising.specs.Pdu.{noAddress, dataIn, dataPlace, decodeOf, wellFormed}
+use Rattle.advertising.proofs.Padded.{heard}
+use Rattle.advertising.specs.Laws.{ShapedBy, with-records, two-addresses, with-lldata}
+use Rattle.advertising.specs.Pdu.{noAddress, dataIn, dataPlace, isAccepted, asHub, heardOf, paddedOf}
 use Rattle.advertising.specs.declared.pdu.Decoded.{Decoded}
 use Rattle.advertising.specs.declared.pdu.Outcome.the-variants as outcome
+use Rattle.advertising.specs.declared.pdu.Padded.{Padded}
 use Rattle.advertising.specs.declared.pdu.Pdu.{Pdu}
 use Rattle.beacon.specs.Laws as laws
 use Rattle.beacon.specs.Laws.{Lets, Checks, Reports, Located, BadList, Unfiltered}
@@ -71,24 +74,22 @@ is-list list size kinds = rw (eq-eqb (length list % 7) 0 size, none-bad list (le
 pub record Holds (h : Header) (p : List ℕ) (d : Pdu) : Type 0 where
   pub sender : d .sender ≡ addressOf (take 6 p) (kindOf (txAdd h))
   pub records : dataIn (d .«adv_data») p ≡ drop 6 p
-  pub number : readArea (drop 6 p) ≡ area.Accepted (d .«adv_data» .count)
   pub size : length p ≡ 6 + length (drop 6 p)
 
 module _ (h : Header) (p : List ℕ) where
   -- the type of a PDU is its header's
-  pub same-type : (d : Decoded) → Shaped h p d → typeOf h ≡ d .pdu .ty
+  pub same-type : (d : Decoded) → ShapedBy asHub h p d → typeOf h ≡ d .pdu .ty
   same-type d (with-records ty advA records n is allows fig good e) = is ∙ ap (λ (x : Decoded). x .pdu .ty) (sym e)
   same-type d (two-addresses ty first second further is which fig e) = is ∙ ap (λ (x : Decoded). x .pdu .ty) (sym e)
   same-type d (with-lldata initA advA aa crcInit winSize winOffset interval latency timeout chM hopSca further is fig e) = is ∙ ap (λ (x : Decoded). x .pdu .ty) (sym e)
 
-  holds : (d : Decoded) → typeOf h ≡ AdvNonconnInd → Shaped h p d → Holds h p (d .pdu)
+  holds : (d : Decoded) → typeOf h ≡ AdvNonconnInd → ShapedBy asHub h p d → Holds h p (d .pdu)
   holds d type-2 (with-records ty advA records n is allows fig good e) =
       let first : take 6 p ≡ advA = field-is fig 0 in
       let rest : drop 6 p ≡ records = behind fig in
       record {
         sender = ap (λ (x : Decoded). x .pdu .sender) e ∙ ap (λ (l : List ℕ). addressOf l (kindOf (txAdd h))) (sym first);
         records = ap (λ (x : Decoded). dataIn (x .pdu .«adv_data») p) e ∙ rw (enough (length records) p 6 (omega (arith, long fig)), rest) (take-length records);
-        number = rw rest (good ∙ ap (λ (x : Decoded). area.Accepted (x .pdu .«adv_data» .count)) (sym e));
         size = rw rest (long fig);
       }
   holds d type-2 (two-addresses ty first second further is (inl which) fig e) = let z : _≡_ {A = ℕ} 0 1 = cc in absurd (omega arith)
@@ -96,8 +97,25 @@ module _ (h : Header) (p : List ℕ) where
   holds d type-2 (with-lldata initA advA aa crcInit winSize winOffset interval latency timeout chM hopSca further is fig e) =
       let z : _≡_ {A = ℕ} 0 1 = cc in absurd (omega arith)
 
-  pub holds-decoded : typeOf h ≡ AdvNonconnInd → decodeOf h p .outcome ≡ outcome.Accepted → Holds h p (decodeOf h p .pdu)
-  holds-decoded type-2 ok = holds (decodeOf h p) type-2 (accepting h p .sound ok .1)
+  pub holds-decoded : typeOf h ≡ AdvNonconnInd → heardOf h p .outcome ≡ outcome.Accepted → Holds h p (heardOf h p .pdu)
+  holds-decoded type-2 ok = holds (heardOf h p) type-2 (accepting-by asHub h p .sound ok .1)
+
+  -- what is heard of a beacon is what the hub reads behind the address
+  read-heard : typeOf h ≡ AdvNonconnInd → heardOf h p .outcome ≡ outcome.Accepted
+      → readPadded (drop 6 p) ≡ padded.Accepted (paddedOf h p .decoded .pdu .«adv_data» .count) (paddedOf h p .taken)
+  read-heard type-2 ok = go (readPadded (drop 6 p)) refl
+    where
+      counts : lengthOf h ≡ length p
+      counts = accepting-by asHub h p .sound ok .0
+
+      long : 6 ≤ length p
+      long = omega (arith, holds-decoded type-2 ok .size)
+
+      go : (a : PaddedArea) → readPadded (drop 6 p) ≡ a → a ≡ padded.Accepted (paddedOf h p .decoded .pdu .«adv_data» .count) (paddedOf h p .taken)
+      go (padded.Accepted n taken) is = ap (λ (x : Padded). padded.Accepted (x .decoded .pdu .«adv_data» .count) (x .taken)) (sym (heard h p .accepted n taken (ap allowsAdvData type-2) counts long is))
+      go (padded.Refused e) is =
+          let no : outcome.Refused e ≡ outcome.Accepted = ap (λ (x : Padded). x .decoded .outcome) (sym (heard h p .refused e (ap allowsAdvData type-2) counts long is)) ∙ ok in
+          let z : _≡_ {A = ℕ} 0 1 = cc in absurd (omega arith)
 
 pub type-is : (n : ℕ) → n ≡ 2 → pduType n ≡ AdvNonconnInd
 unfolding pduType
@@ -109,10 +127,10 @@ module _ (s : BeaconScanner) (h : Header) (p : List ℕ) (crcOk : Bool) (list : 
 
   -- what is scanned, by whether there is a list and whether the checks pass
   abbrev scannedBy : Bool → Bool → Scanned
-  scannedBy l t = cond l (cond t (reportOf (s .channel) (decodeOf h p .pdu)) (unreported report.Nothing (s .channel))) (unreported (report.Refused InvalidValue) (s .channel))
+  scannedBy l t = cond l (cond t (reportOf (s .channel) (paddedOf h p)) (unreported report.Nothing (s .channel))) (unreported (report.Refused InvalidValue) (s .channel))
 
   abbrev checked : Bool
-  checked = isBeaconPacket h p crcOk && passes f list (decodeOf h p .pdu .sender)
+  checked = isBeaconPacket h p crcOk && passes f list (heardOf h p .pdu .sender)
 
   by-cases : scanned s h p crcOk list ≡ scannedBy (isListFor f list) checked
   unfolding scanned
@@ -125,14 +143,14 @@ module _ (s : BeaconScanner) (h : Header) (p : List ℕ) (crcOk : Bool) (list : 
 
   checks : checked ≡ true → Checks f h p crcOk list
   checks e =
-      let filter = both-true (isBeaconPacket h p crcOk) (passes f list (decodeOf h p .pdu .sender)) e in
-      let crc = both-true crcOk (isType2 h && wellFormed h p) (filter .0) in
-      let type = both-true (isType2 h) (wellFormed h p) (crc .1) in
+      let filter = both-true (isBeaconPacket h p crcOk) (passes f list (heardOf h p .pdu .sender)) e in
+      let crc = both-true crcOk (isType2 h && isAccepted (heardOf h p .outcome)) (filter .0) in
+      let type = both-true (isType2 h) (isAccepted (heardOf h p .outcome)) (crc .1) in
       record {
         crc = crc .0;
         type-2 = eqb-true (bits 0 4 h) 2 (type .0);
-        decoding = is-accepted (decodeOf h p .outcome) (type .1);
-        filter = lets f list (decodeOf h p .pdu .sender) (filter .1);
+        decoding = is-accepted (heardOf h p .outcome) (type .1);
+        filter = lets f list (heardOf h p .pdu .sender) (filter .1);
       }
 
   passed : Checks f h p crcOk list → checked ≡ true
@@ -141,7 +159,7 @@ module _ (s : BeaconScanner) (h : Header) (p : List ℕ) (crcOk : Bool) (list : 
   sound : scanned s h p crcOk list .report ≡ report.Beacon → Checks f h p crcOk list
   sound e = checks (reported (isListFor f list) checked (ap (λ (x : Scanned). x .report) (sym by-cases) ∙ e))
 
-  pub complete : Checks f h p crcOk list → scanned s h p crcOk list ≡ reportOf (s .channel) (decodeOf h p .pdu)
+  pub complete : Checks f h p crcOk list → scanned s h p crcOk list ≡ reportOf (s .channel) (paddedOf h p)
   complete c = by-cases ∙ rw (lets-list (c .filter), passed c)
 
   unchecked : (t : Bool) → checked ≡ t → (Checks f h p crcOk list → ⊥) → t ≡ false
@@ -155,10 +173,10 @@ module _ (s : BeaconScanner) (h : Header) (p : List ℕ) (crcOk : Bool) (list : 
 
   -- what is said of a reported packet
   module _ (e : scanned s h p crcOk list .report ≡ report.Beacon) where
-    its : Holds h p (decodeOf h p .pdu)
+    its : Holds h p (heardOf h p .pdu)
     its = holds-decoded h p (type-is (bits 0 4 h) (sound e .type-2)) (sound e .decoding)
 
-    is : scanned s h p crcOk list ≡ reportOf (s .channel) (decodeOf h p .pdu)
+    is : scanned s h p crcOk list ≡ reportOf (s .channel) (paddedOf h p)
     is = complete (sound e)
 
   -- the tests of a list
@@ -196,7 +214,14 @@ module _ (s : BeaconScanner) (h : Header) (p : List ℕ) (crcOk : Bool) (list : 
         number = ap (λ (x : Scanned). reportNumber (x .report)) by-cases ∙ numbered (isListFor f list) checked;
         sender = λ e. ap (λ (x : Scanned). x .sender) (is e) ∙ its e .sender;
         records = λ e. ap (λ (x : Scanned). dataIn (x .«adv_data») p) (is e) ∙ its e .records;
-        number-of-records = λ e. its e .number ∙ ap (λ (x : Scanned). area.Accepted (x .«adv_data» .count)) (sym (is e));
+        number-of-records = λ e.
+            read-heard h p (type-is (bits 0 4 h) (sound e .type-2)) (sound e .decoding)
+            ∙ ap (λ (x : Scanned). padded.Accepted (x .«adv_data» .count) (x .taken)) (sym (is e));
+        heard = λ n taken crc type counts long is passes.
+            let e = heard h p .accepted n taken (ap allowsAdvData (type-is (bits 0 4 h) type)) counts long is in
+            let sender = ap (λ (x : Padded). x .decoded .pdu .sender) e in
+            complete (record { crc = crc; type-2 = type; decoding = ap (λ (x : Padded). x .decoded .outcome) e; filter = rw sender passes })
+            ∙ ap (reportOf (s .channel)) e;
       }
 
 module _ (h : Header) (p : List ℕ) (crcOk : Bool) (list : List ℕ) where
@@ -206,8 +231,8 @@ module _ (h : Header) (p : List ℕ) (crcOk : Bool) (list : List ℕ) where
   open-same s is = rw is (go (isBeaconPacket h p crcOk))
     where
       go : (t : Bool)
-          → cond t (reportOf (s .channel) (decodeOf h p .pdu)) (unreported report.Nothing (s .channel))
-          ≡ cond (t && true) (reportOf (s .channel) (decodeOf h p .pdu)) (unreported report.Nothing (s .channel))
+          → cond t (reportOf (s .channel) (paddedOf h p)) (unreported report.Nothing (s .channel))
+          ≡ cond (t && true) (reportOf (s .channel) (paddedOf h p)) (unreported report.Nothing (s .channel))
       go true = refl
       go false = refl
 
@@ -226,5 +251,5 @@ located s h p crcOk list =
       place = λ e.
           let c = reports s h (now p) crcOk list .sound e in
           let allows : allowsAdvData (typeOf h) ≡ true = ap allowsAdvData (type-is (bits 0 4 h) (c .type-2)) in
-          ap (λ (x : Scanned). dataPlace (x .«adv_data») p) (complete s h (now p) crcOk list c) ∙ record-area h p .place allows (c .decoding);
+          ap (λ (x : Scanned). dataPlace (x .«adv_data») p) (complete s h (now p) crcOk list c) ∙ record-area-by asHub h p .place allows (c .decoding);
     }

@@ -1,21 +1,22 @@
 -- Document 01's row, heard by a scanner that accepts all: `row`; worked values: `examples`. Computed. Assumes nothing.
+use mathlib.Core.List.{flatten}
 use mathlib.Core.Path.{refl}
 use Rattle.addresses.specs.Address.{sameOctets, sameAddress}
 use Rattle.addresses.specs.Filter.{any, whitelisted}
 use Rattle.addresses.specs.Header.{pduType}
-use Rattle.advertising.proofs.Examples.{nine-decoded}
-use Rattle.advertising.specs.Pdu.{decodeOf, byType, undirected, withArea}
+use Rattle.advertising.specs.Pdu.{decodeBy, byType, undirected, withArea}
 use Rattle.records.specs.Area.{cut, reads, withFirst, areaOf, readArea}
+use Rattle.records.specs.Padding.{beforeZero, unpadded, isZeros, endedBy, readPadded, areaIn}
 use Rattle.records.specs.Record.{named, first, flagsRead, dataRead, upTo, recordRead}
 use Rattle.beacon.specs.Laws.{run, Row, Examples}
 use Rattle.beacon.specs.Scanner.{scanned}
 
 pub row : Row
-unfolding scanned
-row = record { row-42-09 = λ list. rw nine-decoded; records = refl }
+unfolding scanned decodeBy byType undirected withArea pduType readPadded endedBy isZeros unpadded beforeZero areaIn flatten readArea areaOf reads withFirst cut first recordRead dataRead flagsRead upTo named
+row = record { row-42-09 = λ list. refl; records = refl }
 
 pub examples : Examples
-unfolding run scanned whitelisted any sameAddress sameOctets decodeOf byType undirected withArea pduType readArea areaOf reads withFirst cut first recordRead dataRead flagsRead upTo named
+unfolding run scanned whitelisted any sameAddress sameOctets decodeBy byType undirected withArea pduType readPadded endedBy isZeros unpadded beforeZero areaIn flatten readArea areaOf reads withFirst cut first recordRead dataRead flagsRead upTo named
 examples =
     record {
       lists = refl;
@@ -24,6 +25,8 @@ examples =
       type-0 = refl;
       decoding = refl;
       all-pass = refl;
+      zeros = λ list. refl;
+      another = refl;
       numbers = refl;
       reported = refl;
       channels = refl;

@@ -13,7 +13,7 @@ use Rattle.channels.specs.declared.phy.AdvertisingChannel.{AdvertisingChannel}
 use Rattle.channels.proofs.Counting.{count-ext}
 use Rattle.channels.proofs.Cycles.{once-each, cycles-add}
 use Rattle.addresses.specs.declared.header.Header.{Header}
-use Rattle.advertising.specs.Pdu.{decodeOf}
+use Rattle.advertising.specs.Pdu.{heardOf, paddedOf}
 use Rattle.beacon.specs.Laws.{run, Scanning}
 use Rattle.beacon.specs.Scanner.{timerUpdated, isListFor, passes, isBeaconPacket, reportOf, unreported, scanned}
 use Rattle.beacon.specs.declared.beacon.BeaconScanner.{BeaconScanner}
@@ -22,10 +22,10 @@ use Rattle.beacon.specs.declared.beacon.Report.the-variants as report
 -- a packet leaves the channel
 channel-kept : (s : BeaconScanner) (h : Header) (p : List ℕ) (crcOk : Bool) (list : List ℕ) → scanned s h p crcOk list .channel ≡ s .channel
 unfolding scanned
-channel-kept s h p crcOk list = go (isListFor (s .filter .scan) list) (isBeaconPacket h p crcOk && passes (s .filter .scan) list (decodeOf h p .pdu .sender))
+channel-kept s h p crcOk list = go (isListFor (s .filter .scan) list) (isBeaconPacket h p crcOk && passes (s .filter .scan) list (heardOf h p .pdu .sender))
   where
     go : (l t : Bool)
-        → cond l (cond t (reportOf (s .channel) (decodeOf h p .pdu)) (unreported report.Nothing (s .channel))) (unreported (report.Refused InvalidValue) (s .channel)) .channel
+        → cond l (cond t (reportOf (s .channel) (paddedOf h p)) (unreported report.Nothing (s .channel))) (unreported (report.Refused InvalidValue) (s .channel)) .channel
         ≡ s .channel
     go true true = refl
     go true false = refl

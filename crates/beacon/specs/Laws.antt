@@ -13,9 +13,9 @@
 use mathlib.Core.Bool.{Bool, true, false, cond}
 use mathlib.Core.List.{List, [], _∷_, _++_, map}
 use mathlib.Core.Path.{_≡_}
-use Prim.Native.Nat.{ℕ, zero, suc, _+_, _*_, _/_, _%_, _≤_, _<_}
+use Prim.Native.Nat.{ℕ, zero, suc, _+_, _-_, _*_, _/_, _%_, _≤_, _<_}
 use lib.Dec.{eqb}
-use lib.ListN.{length, getD, take, drop}
+use lib.ListN.{length, getD, take, drop, replicate}
 use denote.Ref.{RefT, now}
 use Rattle.octets.specs.Bytes.{le}
 use Rattle.octets.specs.Time.{later}
@@ -28,10 +28,12 @@ use Rattle.channels.specs.Phy.{indexOf, firstChannel}
 use Rattle.channels.specs.declared.phy.AdvertisingChannel.{AdvertisingChannel}
 use Rattle.channels.specs.declared.phy.AdvertisingChannel.the-variants.{Channel37, Channel38, Channel39}
 use Rattle.records.specs.Area.{readArea, rewritten}
+use Rattle.records.specs.Padding.{readPadded}
 use Rattle.records.specs.declared.area.Area.the-variants as area
+use Rattle.records.specs.declared.area.PaddedArea.the-variants as padded
 use Rattle.addresses.specs.Address.{kindOf, isRandom, addressOf}
 use Rattle.addresses.specs.Filter.{isList}
-use Rattle.addresses.specs.Header.{headerOf, bits, txAdd}
+use Rattle.addresses.specs.Header.{headerOf, bits, txAdd, lengthOf}
 use Rattle.addresses.specs.Laws.{Entry}
 use Rattle.addresses.specs.declared.device_address.AddressKind.the-variants.{Random}
 use Rattle.addresses.specs.declared.device_address.DeviceAddress.{DeviceAddress}
@@ -40,11 +42,11 @@ use Rattle.addresses.specs.declared.filter.AddressFilter.the-variants.{AllowAll
 use Rattle.addresses.specs.declared.header.Header.{Header}
 use Rattle.addresses.specs.declared.header.PduType.the-variants.{AdvNonconnInd}
 use Rattle.advertising.specs.Laws.{nine}
-use Rattle.advertising.specs.Pdu.{noRequest, noAddress, noData, dataIn, dataPlace, decodedAs, decodeOf}
+use Rattle.advertising.specs.Pdu.{noRequest, noAddress, noData, dataIn, dataPlace, decodedAs, decodeOf, heardOf, paddedOf}
 use Rattle.advertising.specs.PduBuf.{headerFor, payloadOf, payloadAfter}
 use Rattle.advertising.specs.declared.pdu.AdvData.{AdvData}
 use Rattle.advertising.specs.declared.pdu.Outcome.the-variants as outcome
-use Rattle.beacon.specs.Scanner.{scannerOf, openScanner, configured, timerUpdated, isListFor, ofDecoded, unfiltered, scanned, reportNumber, isReport}
+use Rattle.beacon.specs.Scanner.{scannerOf, openScanner, configured, timerUpdated, isListFor, ofPadded, unfiltered, scanned, reportNumber, isReport}
 use Rattle.beacon.specs.Sending.{beaconOf, broadcastOf, broadcastNumber}
 use Rattle.beacon.specs.declared.beacon.Beacon.{Beacon}
 use Rattle.beacon.specs.declared.beacon.BeaconScanner.{BeaconScanner}
@@ -58,30 +60,41 @@ pub data Lets : AddressFilter → List ℕ → DeviceAddress → Type 0 where
   all : {list : List ℕ} {a : DeviceAddress} → Lets AllowAll list a
   listed : {list : List ℕ} {a : DeviceAddress} → isList list ≡ true → Entry list a → Lets Whitelist list a
 
--- Document 01's checks of the scanner: CRC, type 2, decoding, filter.
+-- Document 01's checks of the scanner: CRC, type 2, decoding, filter. Decoding is the hub's: zeros may follow the records (document 02, Note 3).
 pub record Checks (f : AddressFilter) (h : Header) (p : List ℕ) (crcOk : Bool) (list : List ℕ) : Type 0 where
   pub crc : crcOk ≡ true
   pub type-2 : bits 0 4 h ≡ 2
-  pub decoding : decodeOf h p .outcome ≡ outcome.Accepted
-  pub filter : Lets f list (decodeOf h p .pdu .sender)
+  pub decoding : heardOf h p .outcome ≡ outcome.Accepted
+  pub filter : Lets f list (heardOf h p .pdu .sender)
 
 -- All passing, the sender and record area are reported; else nothing is. A filter list comes first.
 pub record Reports (s : BeaconScanner) (h : Header) (p : List ℕ) (crcOk : Bool) (list : List ℕ) : Type 0 where
   pub sound : scanned s h p crcOk list .report ≡ report.Beacon → Checks (s .filter .scan) h p crcOk list
   pub complete : Checks (s .filter .scan) h p crcOk list
       → scanned s h p crcOk list
-      ≡ record { report = report.Beacon; sender = decodeOf h p .pdu .sender; «adv_data» = decodeOf h p .pdu .«adv_data»; channel = s .channel }
+      ≡ record { report = report.Beacon; sender = heardOf h p .pdu .sender; «adv_data» = heardOf h p .pdu .«adv_data»; taken = paddedOf h p .taken; channel = s .channel }
   pub nothing : isListFor (s .filter .scan) list ≡ true → (Checks (s .filter .scan) h p crcOk list → ⊥)
-      → scanned s h p crcOk list ≡ record { report = report.Nothing; sender = noAddress; «adv_data» = noData; channel = s .channel }
+      → scanned s h p crcOk list ≡ record { report = report.Nothing; sender = noAddress; «adv_data» = noData; taken = 0; channel = s .channel }
   pub refused : isListFor (s .filter .scan) list ≡ false
-      → scanned s h p crcOk list ≡ record { report = report.Refused InvalidValue; sender = noAddress; «adv_data» = noData; channel = s .channel }
+      → scanned s h p crcOk list ≡ record { report = report.Refused InvalidValue; sender = noAddress; «adv_data» = noData; taken = 0; channel = s .channel }
   -- so a bad list is 3, whatever the packet, and nothing else is refused
   pub number : reportNumber (scanned s h p crcOk list .report) ≡ cond (isListFor (s .filter .scan) list) 0 3
-  -- the sender is the first six octets, its kind TxAdd; the records are all that follows, with their number
+  -- the sender is the first six octets, its kind TxAdd; the record area is all that follows, with the number of its records and the octets that they took
   pub sender : scanned s h p crcOk list .report ≡ report.Beacon → scanned s h p crcOk list .sender ≡ addressOf (take 6 p) (kindOf (txAdd h))
   pub records : scanned s h p crcOk list .report ≡ report.Beacon → dataIn (scanned s h p crcOk list .«adv_data») p ≡ drop 6 p
   pub number-of-records : scanned s h p crcOk list .report ≡ report.Beacon
-      → readArea (drop 6 p) ≡ area.Accepted (scanned s h p crcOk list .«adv_data» .count)
+      → readPadded (drop 6 p) ≡ padded.Accepted (scanned s h p crcOk list .«adv_data» .count) (scanned s h p crcOk list .taken)
+  -- by the octets alone: CRC-good, of type 2, counted by its header, and behind an address an area that the hub reads
+  pub heard : (n taken : ℕ) → crcOk ≡ true → bits 0 4 h ≡ 2 → lengthOf h ≡ length p → 6 ≤ length p → readPadded (drop 6 p) ≡ padded.Accepted n taken
+      → Lets (s .filter .scan) list (addressOf (take 6 p) (kindOf (txAdd h)))
+      → scanned s h p crcOk list
+      ≡ record {
+        report = report.Beacon;
+        sender = addressOf (take 6 p) (kindOf (txAdd h));
+        «adv_data» = record { start = 6; len = length p - 6; count = n };
+        taken = taken;
+        channel = s .channel;
+      }
 
 -- The record area of a reported beacon is the part of its payload behind the address, in its own place.
 pub record Located (s : BeaconScanner) (h : Header) (p : RefT (List ℕ)) (crcOk : Bool) (list : List ℕ) : Type 0 where
@@ -96,11 +109,11 @@ pub record BadList (s : BeaconScanner) (h : Header) (p : List ℕ) (crcOk : Bool
 
 -- A scanner without a filter: "All senders pass", whatever list is lent.
 pub record Unfiltered (h : Header) (p : List ℕ) (crcOk : Bool) (list : List ℕ) : Type 0 where
-  pub all-pass : bits 0 4 h ≡ 2 → decodeOf h p .outcome ≡ outcome.Accepted → scanned openScanner h p true list .report ≡ report.Beacon
+  pub all-pass : bits 0 4 h ≡ 2 → heardOf h p .outcome ≡ outcome.Accepted → scanned openScanner h p true list .report ≡ report.Beacon
   -- what all checks save the filter find is what any scanner finds that accepts all
   pub checked : (s : BeaconScanner) → s .filter .scan ≡ AllowAll → unfiltered (s .channel) h p crcOk ≡ scanned s h p crcOk list
   -- and of a CRC-good packet of type 2 it is what its decoding says
-  pub decoded : (c : AdvertisingChannel) → bits 0 4 h ≡ 2 → unfiltered c h p true ≡ ofDecoded c (decodeOf h p)
+  pub decoded : (c : AdvertisingChannel) → bits 0 4 h ≡ 2 → unfiltered c h p true ≡ ofPadded c (paddedOf h p)
 
 -- what call k of a run answers: call 0 configures the scanner, the others are timer updates, each at its time
 unfoldable pub run : BeaconScanner → ℕ → (ℕ → Instant) → ℕ → Updated
@@ -144,7 +157,7 @@ pub record Broadcasting (a : DeviceAddress) (s : List ℕ) (n : ℕ) : Type 0 wh
   pub size : length (payloadOf (beacon .pdu)) ≡ 6 + length s
   pub heard : (scanner : BeaconScanner) (list : List ℕ) → Lets (scanner .filter .scan) list a
       → scanned scanner (beacon .pdu .header) (payloadOf (beacon .pdu)) true list
-      ≡ record { report = report.Beacon; sender = a; «adv_data» = place; channel = scanner .channel }
+      ≡ record { report = report.Beacon; sender = a; «adv_data» = place; taken = length s; channel = scanner .channel }
 
 -- "Sending a beacon writes one type 2 PDU's payload": whatever the records, what can be sent has type 2 and the address as its sender.
 pub record Sendable (a : DeviceAddress) (s : List ℕ) : Type 0 where
@@ -162,6 +175,7 @@ pub record Row : Type 0 where
         report = report.Beacon;
         sender = addressOf (0x01 ∷ 0x02 ∷ 0x03 ∷ 0x04 ∷ 0x05 ∷ 0xC6 ∷ []) Random;
         «adv_data» = record { start = 6; len = 3; count = 1 };
+        taken = 3;
         channel = Channel37;
       }
   pub records : dataIn (record { start = 6; len = 3; count = 1 }) nine ≡ 0x02 ∷ 0x01 ∷ 0x06 ∷ []
@@ -190,6 +204,16 @@ pub record Examples : Type 0 where
   pub type-0 : scanned openScanner (headerOf 0x0940) nine true [] .report ≡ report.Nothing
   pub decoding : scanned openScanner (headerOf 0x0842) nine true [] .report ≡ report.Nothing
   pub all-pass : scanned openScanner (headerOf 0x0942) nine true [] .report ≡ report.Beacon
+  -- zeros behind the record: reported with the whole area, one record and the octets that it took; an octet among them that is not zero: nothing
+  pub zeros : (list : List ℕ) → scanned openScanner (headerOf 0x2542) (nine ++ replicate 28 0) true list
+      ≡ record {
+        report = report.Beacon;
+        sender = addressOf (0x01 ∷ 0x02 ∷ 0x03 ∷ 0x04 ∷ 0x05 ∷ 0xC6 ∷ []) Random;
+        «adv_data» = record { start = 6; len = 31; count = 1 };
+        taken = 3;
+        channel = Channel37;
+      }
+  pub another : scanned openScanner (headerOf 0x2542) (nine ++ (replicate 27 0 ++ (0x01 ∷ []))) true [] .report ≡ report.Nothing
   pub numbers : map reportNumber (report.Beacon ∷ report.Nothing ∷ report.Refused InvalidValue ∷ []) ≡ 0 ∷ 0 ∷ 3 ∷ []
   pub reported : map isReport (report.Beacon ∷ report.Nothing ∷ report.Refused InvalidValue ∷ []) ≡ true ∷ false ∷ false ∷ []
   -- the first calls of a run, and an update before it; instants are counted modulo 2^32, here from 2^32 - 500 on

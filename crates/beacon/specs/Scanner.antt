@@ -1,4 +1,4 @@
--- What a scanner answers (document 01, beacon.rs, "AddressFilter" and "Refused calls").
+-- What a scanner answers (document 01, beacon.rs, "AddressFilter" and "Refused calls"). It decodes as the hub reads (document 02, Note 3).
 --   scannerOf f                 == a scanner with the filter f, before it is configured; openScanner: one without a filter
 --   listening s t               == the scanner s, which listens on its channel from time t on for its interval
 --   configured s t interval     == what `configure` answers
@@ -7,9 +7,9 @@
 --   passes f list a             == the filter f passes the address a; isPass m: an answer of a filter that says so
 --   isType2 h                   == a header of type 2
 --   isBeaconPacket h p crcOk    == all checks save the filter
---   reportOf c pdu              == the report of a PDU, with the channel c
+--   reportOf c x                == the report of a PDU and the octets that its records took, with the channel c
 --   unreported r c              == an answer that reports no PDU
---   ofDecoded c d               == what is reported of a decoded packet, by its outcome alone
+--   ofPadded c x                == what is reported of a decoded packet, by its outcome alone
 --   unfiltered c h p crcOk      == what is reported by all checks save the filter
 --   scanned s h p crcOk list    == what `process_adv_packet` answers
 --   reportNumber r              == document 01's number of a report, 0 where it is no refusal; isReport r: a beacon is reported
@@ -31,9 +31,8 @@ use Rattle.addresses.specs.declared.filter.AddressFilter.the-variants.{AllowAll
 use Rattle.addresses.specs.declared.filter.Matches.{Matches}
 use Rattle.addresses.specs.declared.filter.Matches.the-variants as matches
 use Rattle.addresses.specs.declared.header.Header.{Header}
-use Rattle.advertising.specs.Pdu.{noAddress, noData, isAccepted, decodeOf, wellFormed}
-use Rattle.advertising.specs.declared.pdu.Decoded.{Decoded}
-use Rattle.advertising.specs.declared.pdu.Pdu.{Pdu}
+use Rattle.advertising.specs.Pdu.{noAddress, noData, isAccepted, heardOf, paddedOf}
+use Rattle.advertising.specs.declared.pdu.Padded.{Padded}
 use Rattle.beacon.specs.declared.beacon.BeaconScanner.{BeaconScanner}
 use Rattle.beacon.specs.declared.beacon.Report.{Report}
 use Rattle.beacon.specs.declared.beacon.Report.the-variants as report
@@ -76,27 +75,27 @@ isType2 h = eqb (bits 0 4 h) 2
 
 -- "Checks of the scanner: CRC, type 2, decoding, filter."
 abbrev pub isBeaconPacket : Header → List ℕ → Bool → Bool
-isBeaconPacket h p crcOk = crcOk && (isType2 h && wellFormed h p)
+isBeaconPacket h p crcOk = crcOk && (isType2 h && isAccepted (heardOf h p .outcome))
 
--- the sender and record area; blank where nothing is reported
-abbrev pub reportOf : AdvertisingChannel → Pdu → Scanned
-reportOf c pdu = record { report = report.Beacon; sender = pdu .sender; «adv_data» = pdu .«adv_data»; channel = c }
+-- the sender, the whole record area and the octets taken; blank where nothing is reported
+abbrev pub reportOf : AdvertisingChannel → Padded → Scanned
+reportOf c x = record { report = report.Beacon; sender = x .decoded .pdu .sender; «adv_data» = x .decoded .pdu .«adv_data»; taken = x .taken; channel = c }
 
 abbrev pub unreported : Report → AdvertisingChannel → Scanned
-unreported r c = record { report = r; sender = noAddress; «adv_data» = noData; channel = c }
+unreported r c = record { report = r; sender = noAddress; «adv_data» = noData; taken = 0; channel = c }
 
-abbrev pub ofDecoded : AdvertisingChannel → Decoded → Scanned
-ofDecoded c d = cond (isAccepted (d .outcome)) (reportOf c (d .pdu)) (unreported report.Nothing c)
+abbrev pub ofPadded : AdvertisingChannel → Padded → Scanned
+ofPadded c x = cond (isAccepted (x .decoded .outcome)) (reportOf c x) (unreported report.Nothing c)
 
 unfoldable pub unfiltered : AdvertisingChannel → Header → List ℕ → Bool → Scanned
-unfiltered c h p crcOk = cond (isBeaconPacket h p crcOk) (reportOf c (decodeOf h p .pdu)) (unreported report.Nothing c)
+unfiltered c h p crcOk = cond (isBeaconPacket h p crcOk) (reportOf c (paddedOf h p)) (unreported report.Nothing c)
 
 -- "All passing, the sender and record area are reported; else nothing is."; the filter list comes first, and is refused 3 whatever the packet
 unfoldable pub scanned : BeaconScanner → Header → List ℕ → Bool → List ℕ → Scanned
 scanned s h p crcOk list =
     cond (isListFor (s .filter .scan) list)
-    (cond (isBeaconPacket h p crcOk && passes (s .filter .scan) list (decodeOf h p .pdu .sender))
-    (reportOf (s .channel) (decodeOf h p .pdu))
+    (cond (isBeaconPacket h p crcOk && passes (s .filter .scan) list (heardOf h p .pdu .sender))
+    (reportOf (s .channel) (paddedOf h p))
     (unreported report.Nothing (s .channel)))
     (unreported (report.Refused InvalidValue) (s .channel))
 

@@ -3,15 +3,15 @@ ghost use mathlib.Core.Path.{_≡_};
 ghost use Rattle.advertising.specs.Pdu.{dataIn, dataPlace};
 ghost use Rattle.advertising.specs.PduBuf.{payloadAfter};
 ghost use Rattle.beacon.specs.Sending.{beaconOf, broadcastOf};
-ghost use Rattle.beacon.specs.Scanner.{scannerOf, openScanner, listening, configured, timerUpdated, unreported, ofDecoded, unfiltered, scanned, reportNumber, isReport};
+ghost use Rattle.beacon.specs.Scanner.{scannerOf, openScanner, listening, configured, timerUpdated, unreported, ofPadded, unfiltered, scanned, reportNumber, isReport};
 use addresses::device_address::DeviceAddress;
 use addresses::filter::AddressFilter;
 use addresses::filter::Matches;
 use addresses::filter::ScanFilter;
 use addresses::header::Header;
 use advertising::pdu::AdvData;
-use advertising::pdu::Decoded;
 use advertising::pdu::Outcome;
+use advertising::pdu::Padded;
 use advertising::pdu::Pdu;
 use advertising::pdu::no_address;
 use advertising::pdu::no_data;
@@ -124,12 +124,13 @@ impl Report {
     }
 }
 
-// What a packet gives: a report, with the beacon's sender and where its records lie in the payload, both blank where none is reported; and the
-// channel to keep listening on.
+// What a packet gives: a report, with the beacon's sender, where its record area lies in the payload, and how many octets of it the records took, all
+// blank where none is reported; and the channel to keep listening on.
 pub struct Scanned {
     pub report: Report,
     pub sender: DeviceAddress,
     pub adv_data: AdvData,
+    pub taken: usize,
     pub channel: AdvertisingChannel,
 }
 
@@ -233,22 +234,23 @@ impl Scanned {
     }
 }
 
-// What a packet holds for a scanner without a filter. It is decoded only where its CRC is good and its type a beacon's.
+// What a packet holds for a scanner without a filter. It is decoded, as the hub reads, only where its CRC is good and its type a beacon's.
 fn unfiltered(channel: AdvertisingChannel, header: Header, payload: &[u8], crc_ok: bool) -> Scanned
     ensures { λ r. ⌜ r ≡ unfiltered channel header (now (payload .entry)) «crc_ok» ⌝ }
 {
     if crc_ok {
         if header.type_().is_beacon() {
-            return of_decoded(channel, Pdu::from_header_and_payload(header, payload));
+            return of_padded(channel, Pdu::from_padded(header, payload));
         }
         return unreported(Report::Nothing, channel);
     }
     unreported(Report::Nothing, channel)
 }
 
-fn of_decoded(channel: AdvertisingChannel, decoded: Decoded) -> Scanned
-    ensures { λ r. ⌜ r ≡ ofDecoded channel decoded ⌝ }
+fn of_padded(channel: AdvertisingChannel, padded: Padded) -> Scanned
+    ensures { λ r. ⌜ r ≡ ofPadded channel padded ⌝ }
 {
+    let decoded = padded.decoded;
     let outcome = decoded.outcome;
     match outcome {
         Outcome::Accepted => {
@@ -259,6 +261,7 @@ fn of_decoded(channel: AdvertisingChannel, decoded: Decoded) -> Scanned
                 report: Report::Beacon,
                 sender,
                 adv_data,
+                taken: padded.taken,
                 channel,
             }
         }
@@ -276,6 +279,7 @@ fn unreported(report: Report, channel: AdvertisingChannel) -> Scanned
         report,
         sender,
         adv_data,
+        taken: 0,
         channel,
     }
 }

@@ -86,12 +86,13 @@ heardSaid s =
       start = s .«adv_data» .start;
       len = s .«adv_data» .len;
       count = s .«adv_data» .count;
+      taken = s .taken;
       channel = indexOf (s .channel);
     }
 
 abbrev pub unheard : Error → Heard
 unheard e =
-    record { number = numberOf e; reported = false; random = false; sender = 0 ∷ 0 ∷ 0 ∷ 0 ∷ 0 ∷ 0 ∷ []; start = 0; len = 0; count = 0; channel = 0 }
+    record { number = numberOf e; reported = false; random = false; sender = 0 ∷ 0 ∷ 0 ∷ 0 ∷ 0 ∷ 0 ∷ []; start = 0; len = 0; count = 0; taken = 0; channel = 0 }
 
 -- "a filter list or name first (3)": without a header the scanner judges its list alone
 abbrev pub judgedBy : Report → Scanned → Error → Heard

@@ -29,6 +29,7 @@ listenSaid u =
       start = 0;
       len = 0;
       count = 0;
+      taken = 0;
       channel = indexOf (u .cmd .channel);
       next = u .cmd .«next_update» .0;
     }
@@ -43,6 +44,7 @@ hearSaid s =
       start = s .«adv_data» .start;
       len = s .«adv_data» .len;
       count = s .«adv_data» .count;
+      taken = s .taken;
       channel = indexOf (s .channel);
       next = 0;
     }

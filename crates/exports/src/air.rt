@@ -122,6 +122,7 @@ pub struct Heard {
     pub start: usize,
     pub len: usize,
     pub count: usize,
+    pub taken: usize,
     pub channel: u8,
 }
 
@@ -141,6 +142,7 @@ fn told(scanned: Scanned) -> Heard
         start: place.start,
         len: place.len,
         count: place.count,
+        taken: scanned.taken,
         channel: on.channel(),
     }
 }
@@ -156,6 +158,7 @@ fn no_header(e: Error) -> Heard
         start: 0,
         len: 0,
         count: 0,
+        taken: 0,
         channel: 0,
     }
 }

@@ -28,6 +28,7 @@ pub struct Listened {
     pub start: usize,
     pub len: usize,
     pub count: usize,
+    pub taken: usize,
     pub channel: u8,
     pub next: u32,
 }
@@ -46,6 +47,7 @@ fn listens(updated: Updated) -> Listened
         start: 0,
         len: 0,
         count: 0,
+        taken: 0,
         channel: on.channel(),
         next: next.raw_micros(),
     }
@@ -67,6 +69,7 @@ fn hears(scanned: Scanned) -> Listened
         start: place.start,
         len: place.len,
         count: place.count,
+        taken: scanned.taken,
         channel: on.channel(),
         next: 0,
     }

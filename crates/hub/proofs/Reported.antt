@@ -12,8 +12,8 @@ use borrow.Author.Tests.{eqb-true, ne-eqb, le-leb, lt-ltb, le-ltb, lt-leb}
 use Rattle.octets.specs.Bytes.{le}
 use Rattle.channels.proofs.Cycles.{cycles-add}
 use Rattle.channels.specs.Laws.{cycles}
-use Rattle.records.specs.Area.{readArea}
-use Rattle.records.specs.declared.area.Area.the-variants as area
+use Rattle.records.specs.Padding.{readPadded}
+use Rattle.records.specs.declared.area.PaddedArea.the-variants as padded
 use Rattle.addresses.specs.Address.{kindOf, addressOf}
 use Rattle.addresses.specs.Header.{bits, headerOf, txAdd}
 use Rattle.addresses.specs.declared.filter.AddressFilter.the-variants.{AllowAll}
@@ -53,17 +53,17 @@ line-is k (suc zero) a b c d e f n low = rowed fresh n .random k a b c d e f
 line-is k (suc (suc bit)) a b c d e f n low = absurd (omega arith)
 
 -- a packet that is reported prints its line
-beacon-prints : (k first h0 h1 : ℕ) (p : List ℕ) (n : ℕ) → 6 ≤ length p → first ≡ 1 → IsReported h0 h1 p → readArea (drop 6 p) ≡ area.Accepted n
+beacon-prints : (k first h0 h1 : ℕ) (p : List ℕ) (n taken : ℕ) → 6 ≤ length p → first ≡ 1 → IsReported h0 h1 p → readPadded (drop 6 p) ≡ padded.Accepted n taken
     → Prints k (first ∷ h0 ∷ h1 ∷ p) (reportLine k (addressOf (take 6 p) (kindOf (txAdd (headerOf (h0 + 256 * h1))))) n) 1
-beacon-prints k first h0 h1 [] n long crc is good = absurd (omega arith)
-beacon-prints k first h0 h1 (a ∷ []) n long crc is good = absurd (omega arith)
-beacon-prints k first h0 h1 (a ∷ b ∷ []) n long crc is good = absurd (omega arith)
-beacon-prints k first h0 h1 (a ∷ b ∷ c ∷ []) n long crc is good = absurd (omega arith)
-beacon-prints k first h0 h1 (a ∷ b ∷ c ∷ d ∷ []) n long crc is good = absurd (omega arith)
-beacon-prints k first h0 h1 (a ∷ b ∷ c ∷ d ∷ e ∷ []) n long crc is good = absurd (omega arith)
-beacon-prints k first h0 h1 (a ∷ b ∷ c ∷ d ∷ e ∷ f ∷ records) n long crc is good =
+beacon-prints k first h0 h1 [] n taken long crc is good = absurd (omega arith)
+beacon-prints k first h0 h1 (a ∷ []) n taken long crc is good = absurd (omega arith)
+beacon-prints k first h0 h1 (a ∷ b ∷ []) n taken long crc is good = absurd (omega arith)
+beacon-prints k first h0 h1 (a ∷ b ∷ c ∷ []) n taken long crc is good = absurd (omega arith)
+beacon-prints k first h0 h1 (a ∷ b ∷ c ∷ d ∷ []) n taken long crc is good = absurd (omega arith)
+beacon-prints k first h0 h1 (a ∷ b ∷ c ∷ d ∷ e ∷ []) n taken long crc is good = absurd (omega arith)
+beacon-prints k first h0 h1 (a ∷ b ∷ c ∷ d ∷ e ∷ f ∷ records) n taken long crc is good =
     let bit : bits 6 1 (headerOf (h0 + 256 * h1)) ≡ h0 / 64 % 2 = omega arith in
-    rw (crc, bit, line-is k (h0 / 64 % 2) a b c d e f n (omega arith)) (spec.report h0 h1 a b c d e f records n is good)
+    rw (crc, bit, line-is k (h0 / 64 % 2) a b c d e f n (omega arith)) (spec.report h0 h1 a b c d e f records n taken is good)
 
 -- a scanner that lets all senders pass, and a packet
 module _ (s : BeaconScanner) (all-pass : s .filter .scan ≡ AllowAll) (k first h0 h1 : ℕ) (p : List ℕ) where
@@ -105,7 +105,7 @@ module _ (s : BeaconScanner) (all-pass : s .filter .scan ≡ AllowAll) (k first 
           let said = reports s header p (isCrcGood first) [] in
           let is = is-reported e in
           let long : 6 ≤ length p = omega (arith, holds-decoded header p (type-is (bits 0 4 header) (said .sound e .type-2)) (said .sound e .decoding) .size) in
-          rw (is-one, said .sender e) (beacon-prints k first h0 h1 p (heard .«adv_data» .count) long (is .0) (is .1) (said .number-of-records e))
+          rw (is-one, said .sender e) (beacon-prints k first h0 h1 p (heard .«adv_data» .count) (heard .taken) long (is .0) (is .1) (said .number-of-records e))
       go false e = rw e (spec.other (first ∷ h0 ∷ h1 ∷ p) (not-reported e))
 
 -- any item

@@ -6,13 +6,14 @@ use Prim.Native.Nat.{ℕ, suc, _+_, _-_}
 use native.Mathlib.Omega.{arith}
 use lib.ListN.{length}
 use Rattle.addresses.specs.Header.{pduType}
-use Rattle.advertising.specs.Pdu.{decodeOf, byType, undirected, withArea}
+use Rattle.advertising.specs.Pdu.{decodeBy, byType, undirected, withArea}
 use Rattle.beacon.specs.Scanner.{scanned}
 use Rattle.columns.specs.Column.{leading, column}
 use Rattle.items.proofs.Falling.{falls}
 use Rattle.items.proofs.Items.{one-whole, none-whole}
 use Rattle.items.specs.Item.{sizeOf, wholeSize, items, behind, tick, packet, AllItems}
 use Rattle.records.specs.Area.{cut, reads, withFirst, areaOf, readArea}
+use Rattle.records.specs.Padding.{beforeZero, unpadded, isZeros, endedBy, readPadded, areaIn}
 use Rattle.records.specs.Record.{named, first, flagsRead, dataRead, upTo, recordRead}
 use Rattle.hub.specs.Line.{reportLine, line, reportsIn}
 use Rattle.hub.specs.Log.{mostItems, heardIn, scannerAfter, after, printed, afterAll, printedAll, lastLine, logOf}
@@ -71,7 +72,7 @@ six =
     ∙ ap (λ (l : List (List ℕ)). sixItems ++ l) (none-whole (mostItems - 6) (0x03 ∷ []) refl)
 
 pub sample : Sample
-unfolding leading column behind flatten scanned heardIn scannerAfter reportLine line reportsIn after printed afterAll printedAll lastLine logOf decodeOf byType undirected withArea pduType readArea areaOf reads withFirst cut first recordRead dataRead flagsRead upTo named
+unfolding leading column behind flatten scanned heardIn scannerAfter reportLine line reportsIn after printed afterAll printedAll lastLine logOf decodeBy byType undirected withArea pduType readPadded endedBy isZeros unpadded beforeZero areaIn readArea areaOf reads withFirst cut first recordRead dataRead flagsRead upTo named
 sample =
     record {
       sample = rw both;

@@ -16,13 +16,13 @@ use mathlib.Core.List.{List, [], _∷_, _++_, flatten}
 use Prim.Native.Nat.{ℕ, suc, _+_, _*_, _/_, _%_, _<_, _≤_}
 use lib.ListN.{length}
 use Rattle.channels.specs.Laws.{cycles}
-use Rattle.records.specs.Area.{readArea}
-use Rattle.records.specs.declared.area.Area.the-variants as area
+use Rattle.records.specs.Padding.{readPadded}
+use Rattle.records.specs.declared.area.PaddedArea.the-variants as padded
 use Rattle.addresses.specs.Address.{addressOf}
 use Rattle.addresses.specs.Header.{headerOf}
 use Rattle.addresses.specs.declared.device_address.AddressKind.the-variants.{Public, Random}
 use Rattle.addresses.specs.declared.filter.AddressFilter.the-variants.{AllowAll}
-use Rattle.advertising.specs.Pdu.{decodeOf}
+use Rattle.advertising.specs.Pdu.{heardOf}
 use Rattle.advertising.specs.declared.pdu.Outcome.the-variants as outcome
 use Rattle.columns.specs.Column.{column}
 use Rattle.items.specs.Item.{items}
@@ -40,16 +40,16 @@ reportRow k kind a b c d e f n =
 abbrev pub lastRow : ℕ → ℕ → ℕ → List ℕ
 lastRow count reports flag = column 6 count ++ (column 6 reports ++ (column 2 flag ++ (10 ∷ [])))
 
--- "CRC, type 2, decoding": the type is the header's bits 0 to 3, and all senders pass
+-- "CRC, type 2, decoding": the type is the header's bits 0 to 3, decoding the hub's, and all senders pass
 pub record IsReported (h0 h1 : ℕ) (payload : List ℕ) : Type 0 where
   pub type-2 : h0 % 16 ≡ 2
-  pub decoding : decodeOf (headerOf (h0 + 256 * h1)) payload .outcome ≡ outcome.Accepted
+  pub decoding : heardOf (headerOf (h0 + 256 * h1)) payload .outcome ≡ outcome.Accepted
 
 pub data Prints (k : ℕ) : List ℕ → List ℕ → ℕ → Type 0 where
-  -- the kind is TxAdd, bit 6 of the header
-  report : (h0 h1 a b c d e f : ℕ) (records : List ℕ) (n : ℕ)
+  -- the kind is TxAdd, bit 6 of the header; the records are those before the padding, which is not printed
+  report : (h0 h1 a b c d e f : ℕ) (records : List ℕ) (n taken : ℕ)
       → IsReported h0 h1 (a ∷ b ∷ c ∷ d ∷ e ∷ f ∷ records)
-      → readArea records ≡ area.Accepted n
+      → readPadded records ≡ padded.Accepted n taken
       → Prints k (0x01 ∷ h0 ∷ h1 ∷ a ∷ b ∷ c ∷ d ∷ e ∷ f ∷ records) (reportRow k (h0 / 64 % 2) a b c d e f n) 1
   -- every other item prints nothing
   other : (item : List ℕ) → ((h0 h1 : ℕ) (payload : List ℕ) → item ≡ 0x01 ∷ h0 ∷ h1 ∷ payload → IsReported h0 h1 payload → ⊥) → Prints k item [] 0

@@ -14,7 +14,7 @@ use Rattle.addresses.specs.Header.{typeOf, lengthOf}
 use Rattle.addresses.specs.declared.header.Header.{Header}
 use Rattle.addresses.specs.declared.header.PduType.{PduType}
 use Rattle.addresses.specs.declared.header.PduType.the-variants.{AdvInd, AdvDirectInd, AdvNonconnInd, AdvScanInd, ScanReq, ScanRsp, ConnectReq, Unknown}
-use Rattle.advertising.specs.Pdu.{requestOf, senderOf, receiverOf, hasReceiver, noData, noRequest, isAccepted, decodedAs, refusedPdu, withArea, undirected, directed, connectRequest, byType, decodeOf, wellFormed}
+use Rattle.advertising.specs.Pdu.{requestOf, senderOf, receiverOf, hasReceiver, noData, noRequest, isAccepted, decodedAs, refusedPdu, withArea, undirected, directed, connectRequest, byType, decodeBy, decodeOf, wellFormed}
 use Rattle.advertising.specs.declared.pdu.Decoded.{Decoded}
 use Rattle.advertising.specs.declared.pdu.Outcome.the-variants.{Accepted}
 use Rattle.addresses.specs.declared.device_address.DeviceAddress.{DeviceAddress}
@@ -30,7 +30,7 @@ pub record Known (h : Header) (p : List ℕ) (d : Decoded) : Type 0 where
   pub request : isConnectRequest (d .pdu .ty) ≡ true → d .pdu .lldata ≡ requestOf p
 
 pub known : (h : Header) (p : List ℕ) → Known h p (decodeOf h p)
-unfolding decodeOf byType undirected directed connectRequest withArea
+unfolding decodeBy byType undirected directed connectRequest withArea
 known h p = at (eqb (lengthOf h) (length p)) (typeOf h) refl
   where
     refused : (e : Error) → Known h p (refusedPdu e)
@@ -54,7 +54,7 @@ known h p = at (eqb (lengthOf h) (length p)) (typeOf h) refl
     asked is true = refused Eof
     asked is false = record { good = λ e. refl; type = λ a. sym is; second = λ a r. refl; request = λ e. refl }
 
-    at : (counts : Bool) (ty : PduType) → typeOf h ≡ ty → Known h p (cond counts (byType ty h p) (refusedPdu InvalidLength))
+    at : (counts : Bool) (ty : PduType) → typeOf h ≡ ty → Known h p (cond counts (byType readArea ty h p) (refusedPdu InvalidLength))
     at false ty is = refused InvalidLength
     at true AdvInd is = records AdvInd is refl refl (ltb (length p) 6) (readArea (drop 6 p))
     at true AdvNonconnInd is = records AdvNonconnInd is refl refl (ltb (length p) 6) (readArea (drop 6 p))

@@ -7,11 +7,11 @@ use Rattle.channels.specs.Map.{marked, marks, channelAt}
 use Rattle.records.specs.Area.{cut, reads, withFirst, areaOf, readArea, clean, rewritten, mayRewrite, rewrittenAfter}
 use Rattle.records.specs.Record.{named, flagsRead, uuidsRead, dataRead, upTo, recordRead, first, recordAt}
 use Rattle.addresses.specs.Header.{pduType}
-use Rattle.advertising.specs.Pdu.{withArea, undirected, byType, decodeOf}
+use Rattle.advertising.specs.Pdu.{withArea, undirected, byType, decodeBy, decodeOf}
 use Rattle.radio.specs.Table.{Table}
 
 pub table : Table
-unfolding flatten count placed unmapped mapped eventChannel uses marked marks channelAt cut reads withFirst areaOf readArea clean rewritten mayRewrite rewrittenAfter named flagsRead uuidsRead dataRead upTo recordRead first recordAt pduType withArea undirected byType decodeOf
+unfolding flatten count placed unmapped mapped eventChannel uses marked marks channelAt cut reads withFirst areaOf readArea clean rewritten mayRewrite rewrittenAfter named flagsRead uuidsRead dataRead upTo recordRead first recordAt pduType withArea undirected byType decodeBy
 table =
     record {
       row-1 = refl;

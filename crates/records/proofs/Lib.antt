@@ -6,6 +6,8 @@ pub mod Rewritten
 pub mod Accepted
 pub mod RoundTrip
 pub mod Restored
+pub mod Fronts
+pub mod Padded
 pub mod ReadOn
 pub mod Space
 pub mod ReadBack

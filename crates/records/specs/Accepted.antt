@@ -6,15 +6,18 @@
 --   Bad l e           == the record that l begins with is bad, and refused with e
 --   FirstBad s e      == good records, and then a bad one, are what s begins with
 --   Decided s         == s is accepted exactly if it is tiled, and refused exactly as its first bad record is
+--   FrontOf s f       == f tells the good records that s begins with, and the first bad one behind them, if there is one
 use mathlib.Core.Path.{_≡_}
 use mathlib.Core.Logic.{_⊎_}
 use mathlib.Core.List.{List, [], _∷_, _++_, flatten}
 use Prim.Native.Nat.{ℕ, _≤_, _<_, _%_}
-use lib.ListN.{length, getD}
+use lib.ListN.{length, getD, take, drop}
 use Rattle.octets.specs.declared.error.Error.{Error}
 use Rattle.octets.specs.declared.error.Error.the-variants.{Eof, InvalidLength}
 use Rattle.records.specs.declared.area.Area.{Area}
 use Rattle.records.specs.declared.area.Area.the-variants.{Accepted}
+use Rattle.records.specs.declared.area.Front.{Front}
+use Rattle.records.specs.declared.area.Front.the-variants as front
 use Rattle.records.specs.Area.{readArea}
 use Rattle.records.specs.Types.{flagsType, incomplete16Type, complete16Type}
 
@@ -60,3 +63,7 @@ pub record Decided (s : List ℕ) : Type 0 where
   pub verdict : Verdict s (readArea s)
   pub accepted : {m : ℕ} → Tiling s m → readArea s ≡ Accepted m
   pub refused : {e : Error} → FirstBad s e → readArea s ≡ Area.Refused e
+
+abbrev pub FrontOf : List ℕ → Front → Type 0
+FrontOf s (front.Whole m) = Tiling s m
+FrontOf s (front.Bad m at e) = Tiling (take at s) m × Bad (drop at s) e

@@ -4,6 +4,8 @@ ghost use mathlib.Core.List.{_++_};
 ghost use Prim.Native.Nat.{_≤_};
 ghost use lib.ListN.{length, drop};
 ghost use Rattle.records.specs.Area.{AcceptedFrom, readArea, rewritten, rewrittenTo, rewrittenAfter};
+ghost use Rattle.records.specs.Padding.{isZeros, readPadded};
+ghost use Rattle.records.specs.Accepted.{FrontOf};
 use crate::ad_structure::Read;
 use crate::ad_structure::read_record;
 use crate::ad_structure::write_record;
@@ -19,9 +21,25 @@ pub enum Area {
     Refused(Error),
 }
 
-// Reads a whole area.
-pub fn read_area(s: &[u8]) -> Area
-    ensures { λ r. ⌜ r ≡ readArea (now (s .entry)) ⌝ }
+// What the hub's reading of an area finds: a zero length may end the records, with zeros alone behind it (the Core, Vol 3 Part C, 11).
+pub enum PaddedArea {
+    // The number of records, and how many octets they took.
+    Accepted(usize, usize),
+    // The refusal of the first fault.
+    Refused(Error),
+}
+
+// The good records that an area begins with.
+enum Front {
+    // They are the whole area: their number.
+    Whole(usize),
+    // Their number, where the first bad record stands, and its refusal.
+    Bad(usize, usize, Error),
+}
+
+// Reads an area up to its first bad record: what both readings share.
+fn read_front(s: &[u8]) -> Front
+    ensures { λ r. ⌜ FrontOf (now (s .entry)) r ⌝ }
 {
     let mut at = 0;
     let mut count = 0;
@@ -32,13 +50,53 @@ pub fn read_area(s: &[u8]) -> Area
                 count += 1;
             }
             Read::End => {
-                return Area::Accepted(count);
+                return Front::Whole(count);
             }
             Read::Refused(e) => {
-                return Area::Refused(e);
+                return Front::Bad(count, at, e);
             }
         }
     }
+}
+
+// Reads a whole area.
+pub fn read_area(s: &[u8]) -> Area
+    ensures { λ r. ⌜ r ≡ readArea (now (s .entry)) ⌝ }
+{
+    match read_front(s) {
+        Front::Whole(count) => Area::Accepted(count),
+        Front::Bad(_, _, e) => Area::Refused(e),
+    }
+}
+
+// Reads a whole area as the hub does.
+pub fn read_padded_area(s: &[u8]) -> PaddedArea
+    ensures { λ r. ⌜ r ≡ readPadded (now (s .entry)) ⌝ }
+{
+    match read_front(s) {
+        Front::Whole(count) => PaddedArea::Accepted(count, s.len()),
+        Front::Bad(count, at, e) => {
+            if is_zeros(s, at) {
+                return PaddedArea::Accepted(count, at);
+            }
+            // A zero length before another octet is refused as the record that it is: 2.
+            PaddedArea::Refused(e)
+        }
+    }
+}
+
+// Whether all octets from position `from` on are zero.
+fn is_zeros(s: &[u8], from: usize) -> bool
+    ensures { λ r. ⌜ r ≡ isZeros (drop from (now (s .entry))) ⌝ }
+{
+    let mut at = from;
+    while at < s.len() {
+        if s[at] != 0 {
+            return false;
+        }
+        at += 1;
+    }
+    true
 }
 
 // Reads the records of an accepted area, and writes each at the place where it stands, to `out`.

@@ -3,6 +3,7 @@
 //
 //     a area                             an area: how many records, or why not
 //     r room, area                       an area rewritten into `room` octets of FF
+//     z room, area                       an area read as the hub does: records and octets that they took, and these octets rewritten into `room` octets of FF
 //     w kind, value 2, room, data        a record written at 0 of `room` octets of FF; kinds 1 to 9 in the order of `AdStructure`, 16 more for a complete list
 //     d header 2, payload                a PDU read; its header may be short
 //     b type, address 7, records         a PDU built: of type 0, 2, 4 or 6, any other is a discoverable one. An address is its kind and six octets
@@ -18,7 +19,7 @@
 //     x                                  a stop
 //     y records                          scan data to set
 //     k address 7, room, records         a beacon, made and sent
-//     c CRC, header 2, payload           a scanner that reports all senders
+//     c CRC, header 2, payload           a scanner that reports all senders: the sender, records and octets that they took, the whole area
 //     #                                  a remark: anything may stand behind it. Its answer is the letter alone, as of `n`
 //
 // Each line of the input is answered by one line, also the last where its line end is missing. The answer of a request begins with its letter; that of an
@@ -95,7 +96,9 @@ use records::ad_structure::AdStructure;
 use records::ad_structure::Flags;
 use records::ad_structure::write_record;
 use records::area::Area;
+use records::area::PaddedArea;
 use records::area::read_area;
+use records::area::read_padded_area;
 use records::area::rewrite_area;
 use std::num::wrapping_add_u64;
 ghost use Prim.Native.Nat.{_≤_};
@@ -215,6 +218,23 @@ fn area(out: &mut Page, at: usize, s: &[u8]) -> usize {
 }
 
 // A record of a kind, whose data are octets 4 on of the request.
+// How many records, and how many octets they took.
+fn counts(out: &mut Page, at: usize, count: usize, taken: usize) -> usize {
+    let next = labelled(out, at, Word::Records, count as u64);
+    labelled(out, next, Word::Taken, taken as u64)
+}
+
+// The same of an area read as the hub does, and what rewriting those octets answers.
+fn padded(out: &mut Page, at: usize, s: &[u8], lent: &mut [u8]) -> usize {
+    match read_padded_area(s) {
+        PaddedArea::Accepted(count, taken) => {
+            let next = counts(out, at, count, taken);
+            written(out, next, rewrite_area(start(s, taken), lent))
+        }
+        PaddedArea::Refused(e) => refused(out, at, e),
+    }
+}
+
 fn structure(kind: u8, value: u16, len: usize) -> AdStructure {
     let start = 4;
     let complete = 16 <= kind;
@@ -426,9 +446,11 @@ fn beacon(out: &mut Page, at: usize, s: &[u8], lent: &mut [u8]) -> usize {
 fn report(out: &mut Page, at: usize, scanned: Scanned, s: &[u8]) -> usize {
     let found = scanned.report;
     let sender = scanned.sender;
+    let place = scanned.adv_data;
     match found {
         Report::Beacon => {
-            let next = address(out, at, sender);
+            let mut next = address(out, at, sender);
+            next = counts(out, next, place.count, scanned.taken);
             octets(out, next, scanned.advertising_data(s))
         }
         Report::Nothing => say(out, at, Word::Nothing),
@@ -567,6 +589,7 @@ fn ask(out: &mut Page, at: usize, letter: u8, s: &[u8], lent: &mut [u8]) -> usiz
         b'k' => beacon(out, at, s, lent),
         b'r' => written(out, at, rewrite_area(rest(s, 1), lent)),
         b'w' => written(out, at, write(s, lent)),
+        b'z' => padded(out, at, rest(s, 1), lent),
         _ => look(out, at, letter, s),
     }
 }
@@ -580,7 +603,7 @@ fn is_call(letter: u8) -> bool {
 
 fn is_lent(letter: u8) -> bool {
     match letter {
-        b'k' | b'p' | b'r' | b's' | b't' | b'w' => true,
+        b'k' | b'p' | b'r' | b's' | b't' | b'w' | b'z' => true,
         _ => false,
     }
 }

@@ -27,6 +27,7 @@ pub(crate) enum Word {
     Request,
     Set,
     Stopped,
+    Taken,
     To,
     Type,
 }
@@ -46,6 +47,7 @@ fn spelled(word: Word) -> [u8; 9] {
         Word::Request => *b"request\0\0",
         Word::Set => *b" set\0\0\0\0\0",
         Word::Stopped => *b" stopped\0",
+        Word::Taken => *b" taken\0\0\0",
         Word::To => *b" to\0\0\0\0\0\0",
         Word::Type => *b" type\0\0\0\0",
     }

@@ -19,9 +19,9 @@ unfolding unfiltered
 returns c =
     let type = c .before .before .before in
     let a = type .before .before .before .before .args in
-    c .of-decoded .ensures
+    c .of-padded .ensures
     ∙ rw (
-      c .before .from-header-and-payload .ensures,
+      c .before .from-padded .ensures,
       type .before .before .if1 .taken,
       type-2 (a .header) (type .before .type- .ensures) (c .before .before .if2 .taken) (search needs),
     )

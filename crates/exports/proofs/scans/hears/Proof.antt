@@ -14,6 +14,7 @@ returns c =
       start = a .scanned .«adv_data» .start;
       len = a .scanned .«adv_data» .len;
       count = a .scanned .«adv_data» .count;
+      taken = a .scanned .taken;
       channel = c .channel .ensures i;
       next = 0;
     }

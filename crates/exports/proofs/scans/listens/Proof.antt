@@ -15,6 +15,7 @@ returns c =
       start = 0;
       len = 0;
       count = 0;
+      taken = 0;
       channel = c .before .channel .ensures i;
       next = c .raw-micros .ensures i;
     }

@@ -1,67 +1,20 @@
--- `records::area::read_area` meets its contract. The loop's invariant: the area reads as so many good records before the area that is left.
+-- `records::area::read_area` meets its contract: good records that tile the area are accepted, and its first bad record refuses it.
 -- Assumes nothing.
-use mathlib.Core.Path.{_≡_, sym, _∙_}
-use Prim.Native.Nat.{_-_, _≤_}
-use native.Mathlib.Omega.{arith}
+use mathlib.Core.Path.{_≡_, sym, subst}
 use borrow.Author.Needs.{needs}
-use lib.ListN.{length, drop}
-use Rattle.records.specs.Area.{records, reads, areaOf, readArea}
-use Rattle.records.specs.declared.ad_structure.Read.the-variants.{Record}
-use Rattle.records.proofs.Cuts.{here, at-here, Step, stepped, counting, counting-none, area-more, area-end, area-refused}
+use Rattle.records.specs.Accepted.{FrontOf}
+use Rattle.records.proofs.Accepted.{decided}
+use Rattle.records.proofs.Fronts.{first-bad}
 use Rattle.records.proofs.area.read_area.Statement.{statement}
 use Rattle.records.proofs.area.read_area.Tie as tie
 
-abbrev Inv-loop : tie.InvT-loop
-Inv-loop s at₀ count₀ at count = (readArea s ≡ counting count (areaOf (reads (records (drop at s)) at))) × (count ≤ at) × (at ≤ length s)
+accepted : tie.Need-returns
+accepted c = sym (decided _ .accepted (subst (FrontOf _) (c .before .count .given .1) (c .before .before .before .read-front .ensures)))
 
-abbrev μ-loop : tie.MeasureT-loop
-μ-loop s at₀ count₀ at count = length s - at
-
-loop-holds : tie.Need-loop-holds Inv-loop μ-loop
-unfolding readArea
-loop-holds c = (counting-none (readArea (c .before .args .s .now)), omega arith, omega arith)
-
--- what a turn reads
-answered : (c : tie.After-read-record Inv-loop μ-loop) → here (c .before .before .before .args .s .now) (c .before .loop .at) ≡ c .read-record .result
-answered c = sym (c .read-record .ensures ∙ at-here _ _ (c .before .loop .inv .2))
-
--- it reads a record and goes on behind it
-found : (c : tie.After-next Inv-loop μ-loop)
-    → here (c .before .before .before .before .before .args .s .now) (c .before .before .before .loop .at) ≡ Record (c .next .given .0 .0) (c .next .given .0 .1 .0)
-found c = answered (c .before .before) ∙ c .next .given .1
-
-on : (c : tie.After-next Inv-loop μ-loop)
-    → Step (c .before .before .before .before .before .args .s .now) (c .before .before .before .loop .at) (c .next .given .0 .1 .0)
-on c = stepped _ _ (found c)
-
-add-count : tie.Need-add-count Inv-loop μ-loop
-add-count c = omega (arith, on (c .before))
-
-loop-less : tie.Need-loop-less Inv-loop μ-loop
-loop-less c = omega (arith, on (c .before))
-
-loop-again : tie.Need-loop-again Inv-loop μ-loop
-loop-again c = (c .before .before .before .before .loop .inv .0 ∙ area-more _ _ _ (found (c .before)), omega (arith, on (c .before)), on (c .before) .inside)
-
-accepted : tie.Need-returns Inv-loop μ-loop
-accepted c = sym (c .before .before .before .loop .inv .0 ∙ area-end _ _ _ (answered (c .before .before) ∙ c .enum-told .given .1))
-
-refused : tie.Need-returns-2 Inv-loop μ-loop
-refused c = sym (c .before .before .before .before .loop .inv .0 ∙ area-refused _ _ _ (answered (c .before .before .before) ∙ c .before .e .given .1))
+refused : tie.Need-returns-2
+refused c =
+    let found = subst (FrontOf _) (c .before .e .given .1) (c .before .before .before .read-front .ensures) in
+    sym (decided _ .refused (first-bad _ (c .before .e .given .0 .1 .0) (found .0) (found .1)))
 
 pub read-area-spec : {M : Type 1} → statement M
-read-area-spec =
-    tie.close
-    (tie.spec
-    Inv-loop
-    μ-loop
-    loop-holds
-    (λ c κs. search needs)
-    (λ c. search needs)
-    add-count
-    loop-less
-    loop-again
-    (λ c. search needs)
-    accepted
-    (λ c. search needs)
-    refused)
+read-area-spec = tie.close (tie.spec (λ c κs. search needs) (λ c. search needs) (λ c. search needs) accepted refused)

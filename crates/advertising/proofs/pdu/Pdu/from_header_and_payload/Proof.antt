@@ -10,7 +10,8 @@ use lib.ListN.{length}
 use borrow.Author.Tests.{eq-eqb, ne-eqb}
 use borrow.Author.Needs.{needs}
 use Rattle.advertising.proofs.Accepting.{arm-undirected}
-use Rattle.advertising.specs.Pdu.{byType, directed, decodeOf}
+use Rattle.advertising.specs.Pdu.{byType, directed, decodeBy, decodeOf}
+use Rattle.records.specs.Area.{readArea}
 use Rattle.addresses.specs.Header.{allowsAdvData, lengthOf}
 use Rattle.addresses.specs.declared.header.Header.{Header}
 use Rattle.addresses.specs.declared.header.PduType.{PduType}
@@ -19,7 +20,7 @@ use Rattle.advertising.proofs.pdu.Pdu.from_header_and_payload.Statement
 use Rattle.advertising.proofs.pdu.Pdu.from_header_and_payload.Tie as tie
 
 returns : tie.Need-returns
-unfolding decodeOf
+unfolding decodeBy
 returns c =
     let a = c .before .before .before .before .args in
     let differ : lengthOf (a .header) ≡ length (a .payload .now) → ⊥ = λ e. c .before .if1 .taken (c .before .before .payload-length .ensures ∙ e) in
@@ -28,14 +29,14 @@ returns c =
 -- the length agrees, and the type decides
 arm : (c : tie.After-type-) (ty : PduType) → c .type- .result ≡ ty
     → let a = c .before .before .before .before .args in
-    byType ty (a .header) (a .payload .now) ≡ decodeOf (a .header) (a .payload .now)
-unfolding decodeOf
+    byType readArea ty (a .header) (a .payload .now) ≡ decodeOf (a .header) (a .payload .now)
+unfolding decodeBy
 arm c ty is =
     let a = c .before .before .before .before .args in
     let same : lengthOf (a .header) ≡ length (a .payload .now) = sym (c .before .before .payload-length .ensures) ∙ c .before .if1 .left in
     rw (eq-eqb (lengthOf (a .header)) (length (a .payload .now)) same, ← c .type- .ensures, is)
 
-without-records : (ty : PduType) (h : Header) (p : List ℕ) → OneOf (0 ∷ 1 ∷ 2 ∷ 3 ∷ 4 ∷ 5 ∷ []) (tagOf the-type ty) → allowsAdvData ty ≡ false → directed ty h p ≡ byType ty h p
+without-records : (ty : PduType) (h : Header) (p : List ℕ) → OneOf (0 ∷ 1 ∷ 2 ∷ 3 ∷ 4 ∷ 5 ∷ []) (tagOf the-type ty) → allowsAdvData ty ≡ false → directed ty h p ≡ byType readArea ty h p
 unfolding byType
 without-records AdvDirectInd h p one is = refl
 without-records ScanReq h p one is = refl
@@ -48,7 +49,7 @@ without-records (Unknown n) h p one is = absurd (miss (0 ∷ 1 ∷ 2 ∷ 3 ∷ 4
 
 returns-2 : tie.Need-returns-2
 returns-2 c =
-    c .read-undirected .ensures ∙ sym (arm-undirected _ _ _ (sym (c .before .before .allows-adv-data .ensures) ∙ c .before .if2 .taken))
+    c .read-undirected .ensures ∙ sym (arm-undirected _ _ _ _ (sym (c .before .before .allows-adv-data .ensures) ∙ c .before .if2 .taken))
     ∙ arm (c .before .before .before) _ refl
 
 returns-3 : tie.Need-returns-3
