@@ -22,8 +22,8 @@ use Rattle.octets.specs.declared.error.Error.the-variants.{Eof, InvalidLength}
 use Rattle.records.specs.Area.{readArea}
 use Rattle.records.specs.declared.area.Area.{Area}
 use Rattle.records.specs.declared.area.Area.the-variants as area
-use Rattle.advertising.specs.Laws.{Figure, ShapedBy, with-records, two-addresses, with-lldata, AcceptingBy, Accepting, RecordAreaBy, RecordArea}
-use Rattle.advertising.specs.Pdu.{undirectedFigure, directedFigure, connectFigure, accuracyOf, requestOf, noRequest, noAddress, noData, senderOf, receiverOf, dataIn, dataPlace, isAccepted, decodedAs, refusedPdu, withArea, undirected, directed, connectRequest, byType, decodeBy, Reading}
+use Rattle.advertising.specs.Laws.{Figure, ShapedBy, with-records, two-addresses, with-lldata, AcceptingBy, Accepting, AcceptingHeard, RecordAreaBy, RecordArea, RecordAreaHeard}
+use Rattle.advertising.specs.Pdu.{undirectedFigure, directedFigure, connectFigure, accuracyOf, requestOf, noRequest, noAddress, noData, senderOf, receiverOf, dataIn, dataPlace, isAccepted, decodedAs, refusedPdu, withArea, undirected, directed, connectRequest, byType, decodeBy, Reading, asHub}
 use Rattle.advertising.specs.declared.pdu.AdvData.{AdvData}
 use Rattle.advertising.specs.declared.pdu.Decoded.{Decoded}
 use Rattle.advertising.specs.declared.pdu.Outcome.{Outcome}
@@ -147,7 +147,7 @@ module _ (reading : Reading) (h : Header) (p : List ℕ) where
   complete d counts (with-lldata initA advA aa crcInit winSize winOffset interval latency timeout chM hopSca further is fig e) =
       rw (eq-eqb (lengthOf h) (length p) counts, is) (connect-is fig ∙ sym e)
 
-pub accepting-by : (reading : Reading) (h : Header) (p : List ℕ) → AcceptingBy reading h p
+accepting-by : (reading : Reading) (h : Header) (p : List ℕ) → AcceptingBy reading (decodeBy reading) h p
 unfolding decodeBy
 accepting-by reading h p =
     record {
@@ -159,6 +159,9 @@ accepting-by reading h p =
 
 pub accepting : (h : Header) (p : List ℕ) → Accepting h p
 accepting h p = accepting-by readArea h p
+
+pub accepting-heard : (h : Header) (p : List ℕ) → AcceptingHeard h p
+accepting-heard h p = accepting-by asHub h p
 
 module _ (reading : Reading) (h : Header) (p : RefT (List ℕ)) where
   -- the records of a payload, and their place
@@ -190,7 +193,7 @@ module _ (reading : Reading) (h : Header) (p : RefT (List ℕ)) where
       let z : _≡_ {A = ℕ} 0 1 = cc in
       absurd (omega arith)
 
-  pub record-area-by : RecordAreaBy reading h p
+  record-area-by : RecordAreaBy (decodeBy reading) h p
   record-area-by =
       record {
         octets = λ allows ok. lies (decodeBy reading h (now p)) allows (accepting-by reading h (now p) .sound ok .1) .octets;
@@ -199,3 +202,6 @@ module _ (reading : Reading) (h : Header) (p : RefT (List ℕ)) where
 
 pub record-area : (h : Header) (p : RefT (List ℕ)) → RecordArea h p
 record-area h p = record-area-by readArea h p
+
+pub record-area-heard : (h : Header) (p : RefT (List ℕ)) → RecordAreaHeard h p
+record-area-heard h p = record-area-by asHub h p

@@ -11,9 +11,8 @@ use borrow.Author.Tests.{le-ltb, lt-ltb, leb-true, leb-false, le-leb, lt-leb, eq
 use Rattle.octets.proofs.Places.{both-true, enough}
 use Rattle.octets.specs.declared.error.Error.{Error}
 use Rattle.octets.specs.declared.error.Error.the-variants.{Eof, InvalidLength}
-use Rattle.records.proofs.Padded.{differs, took}
+use Rattle.records.proofs.Padded.{differs, without-size, before, took}
 use Rattle.records.specs.Area.{cut, reads, withFirst, areaOf, readArea}
-use Rattle.records.specs.Padded.{ZeroLength, tookAll}
 use Rattle.records.specs.Padding.{beforeZero, unpadded, isZeros, endedBy, readPadded, areaIn}
 use Rattle.records.specs.Record.{named, flagsRead, uuidsRead, dataRead, upTo, recordRead, first}
 use Rattle.records.specs.declared.area.Area.{Area}
@@ -26,7 +25,7 @@ use Rattle.addresses.specs.declared.header.PduType.{PduType}
 use Rattle.addresses.specs.declared.header.PduType.the-variants.{AdvInd, AdvDirectInd, AdvNonconnInd, AdvScanInd, ScanReq, ScanRsp, ConnectReq, Unknown}
 use Rattle.advertising.proofs.Accepting.{arm-undirected}
 use Rattle.advertising.specs.Padded.{Heard, Alike, PaddedRows}
-use Rattle.advertising.specs.Pdu.{Reading, senderOf, noAddress, noRequest, noData, dataIn, decodedAs, refusedPdu, withArea, undirected, directed, connectRequest, requestOf, byType, decodeBy, decodeOf, hasArea, asHub, heardOf, takenIn, paddedOf}
+use Rattle.advertising.specs.Pdu.{Reading, senderOf, noAddress, noRequest, noData, dataIn, decodedAs, refusedPdu, withArea, undirected, directed, connectRequest, requestOf, byType, decodeBy, decodeOf, hasArea, asHub, heardOf, octetsTaken, paddedOf}
 use Rattle.advertising.specs.declared.pdu.AdvData.{AdvData}
 use Rattle.advertising.specs.declared.pdu.Decoded.{Decoded}
 use Rattle.advertising.specs.declared.pdu.Outcome.the-variants.{Accepted, Refused}
@@ -37,7 +36,7 @@ abbrev pub pair : Decoded → ℕ → Padded
 pair d k = record { decoded = d; taken = k }
 
 -- no records take no octets
-none-taken : (p : List ℕ) → takenIn noData p ≡ 0
+none-taken : (p : List ℕ) → octetsTaken noData p ≡ 0
 unfolding unpadded beforeZero cut flatten
 none-taken p = rw (enough 0 p 0 (omega arith))
 
@@ -79,8 +78,7 @@ module _ (h : Header) (p : List ℕ) where
         let d : heardOf h p ≡ withArea (typeOf h) h p (area.Accepted n) = read-by asHub ∙ ap (λ (a : PaddedArea). withArea (typeOf h) h p (areaIn a)) is in
         let whole : dataIn (record { start = 6; len = length p - 6; count = n }) p ≡ drop 6 p =
         rw (enough (length p - 6) p 6 (omega (arith, long))) (take-all (length p - 6) (drop 6 p) (rw length-drop (omega arith))) in
-        let those = took (drop 6 p) [] in
-        let size : length (unpadded (drop 6 p)) ≡ taken = ap length (those .before n taken is) ∙ length-take-le taken (drop 6 p) (those .inside n taken is) in
+        let size : length (unpadded (drop 6 p)) ≡ taken = ap length (before (drop 6 p) n taken is) ∙ length-take-le taken (drop 6 p) (took (drop 6 p) n taken is [] .inside) in
         rw (d, whole, size)
 
     pub hears-not : (e : Error) → readPadded (drop 6 p) ≡ padded.Refused e → paddedOf h p ≡ record { decoded = refusedPdu e; taken = 0 }
@@ -119,7 +117,7 @@ module _ (h : Header) (p : List ℕ) where
   pub heard-bare : hasArea h p ≡ false → paddedOf h p ≡ record { decoded = decodeOf h p; taken = 0 }
   heard-bare none =
       let b = bare none in
-      ap₂ (λ (d : Decoded) (k : ℕ). pair d k) (b .0) (ap (λ (x : AdvData). takenIn x p) (b .1) ∙ none-taken p)
+      ap₂ (λ (d : Decoded) (k : ℕ). pair d k) (b .0) (ap (λ (x : AdvData). octetsTaken x p) (b .1) ∙ none-taken p)
 
   has-area : allowsAdvData (typeOf h) ≡ true → lengthOf h ≡ length p → 6 ≤ length p → hasArea h p ≡ true
   has-area allows counts long = rw (allows, eq-eqb (lengthOf h) (length p) counts, le-leb 6 (length p) long)
@@ -147,17 +145,12 @@ module _ (h : Header) (p : List ℕ) where
         other-type = λ none. heard-bare (ap (λ (b : Bool). b && (eqb (lengthOf h) (length p) && leb 6 (length p))) none);
       }
 
-  -- the strict reading's answer without the size that was put to it
-  untook : (a : Area) (n : ℕ) → areaIn (tookAll a n) ≡ a
-  unfolding areaIn
-  untook (area.Accepted m) n = refl
-  untook (area.Refused e) n = refl
-
   pub alike : Alike h p
   unfolding areaIn withArea
   alike =
       record {
-        agree = λ none. same-area asHub readArea (ap areaIn (differs d .agree none) ∙ untook (readArea d) (length d));
+        agree = λ none. same-area asHub readArea (ap areaIn (differs d .agree none) ∙ without-size (readArea d) (length d));
+        strict = λ allows counts long z. read-by (has-area allows counts long) readArea ∙ ap (withArea (typeOf h) h p) (differs d .strict z);
         accepts = λ ok. accepts (hasArea h p) refl (readArea d) refl ok;
         refuses = λ e is. refuses e (hasArea h p) refl (readPadded d) refl is;
       }

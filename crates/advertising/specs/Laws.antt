@@ -1,6 +1,6 @@
 -- The laws of PDUs, each with the theorem of proofs/ that proves it; refusals are in specs/Refusals.antt, what each builder builds in specs/Builders.antt.
---   Accepting     Accepting.accepting    which headers and payloads are accepted, and what is read of them
---   RecordArea    Accepting.record-area  where the records of a payload lie
+--   Accepting, AcceptingHeard      Accepting.accepting, accepting-heard       which headers and payloads are accepted, and what is read of them
+--   RecordArea, RecordAreaHeard    Accepting.record-area, record-area-heard   where the records of a payload lie
 --   Building      Building.building      what is read of a PDU that was built
 --   Example       Examples.example       a connect request, field by field, and what a type lacks
 --   Accuracies    Examples.accuracies    the sleep clock accuracies by their codes
@@ -25,7 +25,7 @@ use Rattle.octets.specs.declared.error.Error.{Error}
 use Rattle.octets.specs.declared.error.Error.the-variants.{Eof}
 use Rattle.records.specs.Area.{readArea, rewritten}
 use Rattle.records.specs.declared.area.Area.the-variants as area
-use Rattle.advertising.specs.Pdu.{undirectedFigure, directedFigure, connectFigure, accuracyOf, windowEnd, noRequest, noAddress, noData, dataIn, dataPlace, decodedAs, Reading, decodeBy, decodeOf}
+use Rattle.advertising.specs.Pdu.{undirectedFigure, directedFigure, connectFigure, accuracyOf, windowEnd, noRequest, noAddress, noData, dataIn, dataPlace, decodedAs, Reading, decodeOf, asHub, heardOf}
 use Rattle.advertising.specs.PduBuf.{headerFor, refusedBuf, builtOf, builtDirected, flagsRecord, payloadOf}
 use Rattle.advertising.specs.declared.pdu.AdvData.{AdvData}
 use Rattle.advertising.specs.declared.pdu.ConnectRequestData.{ConnectRequestData}
@@ -41,7 +41,7 @@ pub record Figure (widths : List ℕ) (fields : List (List ℕ)) (further p : Li
   pub tiles : p ≡ flatten fields ++ further
 
 -- A payload begins with the fields of a figure of the Core, drawn in specs/Pdu.antt, for the header's type; and both say what d says. Records are read by
--- either reading: strictly, or as the hub does.
+-- a given reading: strictly, or as the hub does.
 pub data ShapedBy (reading : Reading) (h : Header) (p : List ℕ) (d : Decoded) : Type 0 where
   -- an address and records
   with-records : (ty : PduType) (advA records : List ℕ) (n : ℕ) → typeOf h ≡ ty → allowsAdvData ty ≡ true
@@ -71,13 +71,17 @@ pub data ShapedBy (reading : Reading) (h : Header) (p : List ℕ) (d : Decoded) 
       → ShapedBy reading h p d
 
 -- A header and a payload are accepted exactly if the header counts the payload and they are so shaped; what is then read is what the shape says.
-pub record AcceptingBy (reading : Reading) (h : Header) (p : List ℕ) : Type 0 where
-  pub sound : decodeBy reading h p .outcome ≡ Accepted → (lengthOf h ≡ length p) × ShapedBy reading h p (decodeBy reading h p)
-  pub complete : (d : Decoded) → lengthOf h ≡ length p → ShapedBy reading h p d → decodeBy reading h p ≡ d
+pub record AcceptingBy (reading : Reading) (decoder : Header → List ℕ → Decoded) (h : Header) (p : List ℕ) : Type 0 where
+  pub sound : decoder h p .outcome ≡ Accepted → (lengthOf h ≡ length p) × ShapedBy reading h p (decoder h p)
+  pub complete : (d : Decoded) → lengthOf h ≡ length p → ShapedBy reading h p d → decoder h p ≡ d
 
--- the general decoder's, by the strict reading; the hub's is `AcceptingBy asHub`
+-- the general decoder, by the strict reading
 abbrev pub Accepting : Header → List ℕ → Type 0
-Accepting h p = AcceptingBy readArea h p
+Accepting h p = AcceptingBy readArea decodeOf h p
+
+-- the hub's, by its own
+abbrev pub AcceptingHeard : Header → List ℕ → Type 0
+AcceptingHeard h p = AcceptingBy asHub heardOf h p
 
 -- a PDU of type ty from the address a was built with these records, n of them, and reads so
 pub record ReadsBack (ty : PduType) (a : DeviceAddress) (flags s : List ℕ) (n : ℕ) : Type 0 where
@@ -180,9 +184,12 @@ abbrev pub WindowEnd : Type 0
 WindowEnd = (d : ConnectRequestData) → windowEnd d ≡ (d .«win_offset» + d .«win_size» + 1250) % 2 ^ 32
 
 -- The record area of a PDU that was read is the part of its payload behind the six octets of the address, in its own place.
-pub record RecordAreaBy (reading : Reading) (h : Header) (p : RefT (List ℕ)) : Type 0 where
-  pub octets : allowsAdvData (typeOf h) ≡ true → decodeBy reading h (now p) .outcome ≡ Accepted → dataIn (decodeBy reading h (now p) .pdu .«adv_data») (now p) ≡ drop 6 (now p)
-  pub place : allowsAdvData (typeOf h) ≡ true → decodeBy reading h (now p) .outcome ≡ Accepted → dataPlace (decodeBy reading h (now p) .pdu .«adv_data») p ≡ (p .ptr .0, p .ptr .1 + 6)
+pub record RecordAreaBy (decoder : Header → List ℕ → Decoded) (h : Header) (p : RefT (List ℕ)) : Type 0 where
+  pub octets : allowsAdvData (typeOf h) ≡ true → decoder h (now p) .outcome ≡ Accepted → dataIn (decoder h (now p) .pdu .«adv_data») (now p) ≡ drop 6 (now p)
+  pub place : allowsAdvData (typeOf h) ≡ true → decoder h (now p) .outcome ≡ Accepted → dataPlace (decoder h (now p) .pdu .«adv_data») p ≡ (p .ptr .0, p .ptr .1 + 6)
 
 abbrev pub RecordArea : Header → RefT (List ℕ) → Type 0
-RecordArea h p = RecordAreaBy readArea h p
+RecordArea h p = RecordAreaBy decodeOf h p
+
+abbrev pub RecordAreaHeard : Header → RefT (List ℕ) → Type 0
+RecordAreaHeard h p = RecordAreaBy heardOf h p

@@ -38,6 +38,8 @@ pub record Heard (h : Header) (p : List ℕ) : Type 0 where
 -- "the hub's differs from it only in this"
 pub record Alike (h : Header) (p : List ℕ) : Type 0 where
   pub agree : (ZeroLength (drop 6 p) → ⊥) → heardOf h p ≡ decodeOf h p
+  -- where a zero length stands at a record's place, the general decoder answers 2
+  pub strict : allowsAdvData (typeOf h) ≡ true → lengthOf h ≡ length p → 6 ≤ length p → ZeroLength (drop 6 p) → decodeOf h p ≡ refusedPdu InvalidLength
   -- what the general decoder accepts is heard alike, and what the hub's refuses the general one refuses alike
   pub accepts : decodeOf h p .outcome ≡ Accepted → heardOf h p ≡ decodeOf h p
   pub refuses : (e : Error) → heardOf h p .outcome ≡ Refused e → heardOf h p ≡ decodeOf h p

@@ -23,9 +23,9 @@
 --   decodeOf h p              == the same where they are read strictly; wellFormed h p: it is no refusal
 --   decodedAt found s         == the same for a header that was found in s, or not, and what follows it
 --   heardOf h p               == the answer where records are read as the hub does: zeros may follow them (document 02, Note 3)
---   hasArea h p               == they have records to read: the type has them, the length agrees and there is an address
---   takenIn d p               == how many octets the records take of the part d of a payload
---   paddedOf h p              == both
+--   hasArea h p               == there are records to read: the type has them, the length agrees and there is an address (for two inner contracts)
+--   octetsTaken d p           == how many octets the records take of the part d of a payload
+--   paddedOf h p              == what is heard, and how many octets its records took
 use mathlib.Core.Bool.{Bool, true, false, cond, _&&_}
 use mathlib.Core.List.{List, [], _∷_}
 use Prim.Native.Nat.{ℕ, _+_, _-_, _*_, _/_, _%_}
@@ -226,8 +226,8 @@ asHub s = areaIn (readPadded s)
 abbrev pub heardOf : Header → List ℕ → Decoded
 heardOf h p = decodeBy asHub h p
 
-abbrev pub takenIn : AdvData → List ℕ → ℕ
-takenIn d p = length (unpadded (dataIn d p))
+abbrev pub octetsTaken : AdvData → List ℕ → ℕ
+octetsTaken d p = length (unpadded (dataIn d p))
 
 abbrev pub paddedOf : Header → List ℕ → Padded
-paddedOf h p = record { decoded = heardOf h p; taken = takenIn (heardOf h p .pdu .«adv_data») p }
+paddedOf h p = record { decoded = heardOf h p; taken = octetsTaken (heardOf h p .pdu .«adv_data») p }

@@ -37,7 +37,7 @@ pub struct Pdu {
     pub lldata: ConnectRequestData,
 }
 
-// Where the records of a PDU lie in its payload, and how many they are.
+// Where the record area of a PDU lies in its payload, and how many records it has.
 pub struct AdvData {
     pub start: usize,
     pub len: usize,
@@ -239,7 +239,7 @@ fn has_area(header: Header, payload: &[u8]) -> bool
     false
 }
 
-// The same, read as the hub does.
+// An address, then records, read as the hub does.
 fn read_padded(header: Header, payload: &[u8]) -> Padded
     requires { ⌜ hasArea header (now payload) ≡ true ⌝ }
     ensures { λ r. ⌜ r ≡ paddedOf header (now (payload .entry)) ⌝ }

@@ -12,7 +12,7 @@ use borrow.Author.Tests.{ltb-true, ltb-false}
 use Rattle.octets.proofs.Places.{enough, too-few, cond-same}
 use Rattle.octets.specs.declared.error.Error.{Error}
 use Rattle.octets.specs.declared.error.Error.the-variants.{Eof}
-use Rattle.records.proofs.Padded.{differs, took}
+use Rattle.records.proofs.Padded.{differs, before}
 use Rattle.records.proofs.RoundTrip.{round-trip}
 use Rattle.records.specs.Area.{cut, reads, areaOf, readArea, rewritten}
 use Rattle.records.specs.Padding.{unpadded, readPadded}
@@ -25,11 +25,11 @@ use Rattle.addresses.specs.Header.{typeCode, typeOf, txAdd, bits}
 use Rattle.addresses.specs.declared.device_address.DeviceAddress.{DeviceAddress}
 use Rattle.addresses.specs.declared.header.Header.{Header}
 use Rattle.addresses.specs.declared.header.PduType.the-variants.{AdvNonconnInd}
-use Rattle.advertising.proofs.Accepting.{accepting-by}
+use Rattle.advertising.proofs.Accepting.{accepting-heard}
 use Rattle.advertising.proofs.Building.{building}
 use Rattle.advertising.proofs.Padded.{alike}
 use Rattle.advertising.specs.Laws.{ReadsBack}
-use Rattle.advertising.specs.Pdu.{noRequest, noAddress, dataIn, isAccepted, decodedAs, decodeOf, asHub, heardOf, paddedOf}
+use Rattle.advertising.specs.Pdu.{noRequest, noAddress, dataIn, isAccepted, decodedAs, decodeOf, heardOf, paddedOf}
 use Rattle.advertising.specs.PduBuf.{headerFor, beaconPdu, payloadOf}
 use Rattle.advertising.specs.declared.pdu.AdvData.{AdvData}
 use Rattle.advertising.specs.declared.pdu.Decoded.{Decoded}
@@ -70,7 +70,7 @@ type-of : (h : Header) (p : List ℕ) (a : DeviceAddress) (place : AdvData)
     → decodeOf h p ≡ decodedAs outcome.Accepted AdvNonconnInd a noAddress place noRequest → typeOf h ≡ AdvNonconnInd
 type-of h p a place reads =
     let same : heardOf h p ≡ decodeOf h p = alike h p .accepts (ap (λ (d : Decoded). d .outcome) reads) in
-    same-type h p (heardOf h p) (accepting-by asHub h p .sound (ap (λ (d : Decoded). d .outcome) (same ∙ reads)) .1) ∙ ap (λ (d : Decoded). d .pdu .ty) (same ∙ reads)
+    same-type h p (heardOf h p) (accepting-heard h p .sound (ap (λ (d : Decoded). d .outcome) (same ∙ reads)) .1) ∙ ap (λ (d : Decoded). d .pdu .ty) (same ∙ reads)
 
 pub broadcasting : (a : DeviceAddress) (s : List ℕ) (n : ℕ) → length (a .bytes) ≡ 6 → readArea s ≡ area.Accepted n → length s ≤ 31 → Broadcasting a s n
 broadcasting a s n six good fits =
@@ -85,7 +85,7 @@ broadcasting a s n six good fits =
     let whole : dataIn (heardOf h p .pdu .«adv_data») p ≡ rewritten s = ap (λ (d : Decoded). dataIn (d .pdu .«adv_data») p) heard ∙ back .records in
     let read : readPadded (rewritten s) ≡ padded.Accepted n (length (rewritten s)) = differs (rewritten s) .accepts n (round-trip s .area-again ∙ good) in
     let taken : paddedOf h p .taken ≡ length s =
-    ap (λ (l : List ℕ). length (unpadded l)) whole ∙ ap length (took (rewritten s) [] .before n (length (rewritten s)) read ∙ take-length (rewritten s)) ∙ as-long in
+    ap (λ (l : List ℕ). length (unpadded l)) whole ∙ ap length (before (rewritten s) n (length (rewritten s)) read ∙ take-length (rewritten s)) ∙ as-long in
     let size : length ((a .bytes ++ []) ++ rewritten s) ≡ 6 + length s = simp length-append (omega arith) in
     record {
       beacon = record { pdu = back .pdu };

@@ -25,7 +25,7 @@ use Rattle.addresses.specs.declared.filter.Matches.{Matches}
 use Rattle.addresses.specs.declared.filter.Matches.the-variants as matches
 use Rattle.addresses.specs.declared.header.Header.{Header}
 use Rattle.addresses.specs.declared.header.PduType.the-variants.{AdvNonconnInd}
-use Rattle.advertising.proofs.Accepting.{accepting-by, is-accepted, record-area-by}
+use Rattle.advertising.proofs.Accepting.{accepting-heard, is-accepted, record-area-heard}
 use Rattle.advertising.proofs.Figures.{field-is, behind, long}
 use Rattle.advertising.proofs.Padded.{heard}
 use Rattle.advertising.specs.Laws.{ShapedBy, with-records, two-addresses, with-lldata}
@@ -98,7 +98,7 @@ module _ (h : Header) (p : List ℕ) where
       let z : _≡_ {A = ℕ} 0 1 = cc in absurd (omega arith)
 
   pub holds-decoded : typeOf h ≡ AdvNonconnInd → heardOf h p .outcome ≡ outcome.Accepted → Holds h p (heardOf h p .pdu)
-  holds-decoded type-2 ok = holds (heardOf h p) type-2 (accepting-by asHub h p .sound ok .1)
+  holds-decoded type-2 ok = holds (heardOf h p) type-2 (accepting-heard h p .sound ok .1)
 
   -- what is heard of a beacon is what the hub reads behind the address
   read-heard : typeOf h ≡ AdvNonconnInd → heardOf h p .outcome ≡ outcome.Accepted
@@ -106,7 +106,7 @@ module _ (h : Header) (p : List ℕ) where
   read-heard type-2 ok = go (readPadded (drop 6 p)) refl
     where
       counts : lengthOf h ≡ length p
-      counts = accepting-by asHub h p .sound ok .0
+      counts = accepting-heard h p .sound ok .0
 
       long : 6 ≤ length p
       long = omega (arith, holds-decoded type-2 ok .size)
@@ -251,5 +251,5 @@ located s h p crcOk list =
       place = λ e.
           let c = reports s h (now p) crcOk list .sound e in
           let allows : allowsAdvData (typeOf h) ≡ true = ap allowsAdvData (type-is (bits 0 4 h) (c .type-2)) in
-          ap (λ (x : Scanned). dataPlace (x .«adv_data») p) (complete s h (now p) crcOk list c) ∙ record-area-by asHub h p .place allows (c .decoding);
+          ap (λ (x : Scanned). dataPlace (x .«adv_data») p) (complete s h (now p) crcOk list c) ∙ record-area-heard h p .place allows (c .decoding);
     }

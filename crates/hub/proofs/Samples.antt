@@ -17,7 +17,7 @@ use Rattle.records.specs.Padding.{beforeZero, unpadded, isZeros, endedBy, readP
 use Rattle.records.specs.Record.{named, first, flagsRead, dataRead, upTo, recordRead}
 use Rattle.hub.specs.Line.{reportLine, line, reportsIn}
 use Rattle.hub.specs.Log.{mostItems, heardIn, scannerAfter, after, printed, afterAll, printedAll, lastLine, logOf}
-use Rattle.hub.specs.Sample.{beacon, badBeacon, longPacket, sixItems, Sample}
+use Rattle.hub.specs.Sample.{beacon, badBeacon, paddedBeacon, unendedBeacon, longPacket, sixItems, Sample}
 
 -- step by step: computing `items` would unfold it 999,999 times
 both : items mostItems (0x00 ∷ beacon) ≡ (0x00 ∷ []) ∷ beacon ∷ []
@@ -39,6 +39,14 @@ alone s one = one ∙ ap (λ (its : List (List ℕ)). s ∷ its) (none-whole (mo
 bad-item : items mostItems badBeacon ≡ badBeacon ∷ []
 unfolding sizeOf wholeSize
 bad-item = alone badBeacon (one-whole (mostItems - 1) badBeacon (λ e. omega arith))
+
+padded-item : items mostItems paddedBeacon ≡ paddedBeacon ∷ []
+unfolding sizeOf wholeSize
+padded-item = alone paddedBeacon (one-whole (mostItems - 1) paddedBeacon (λ e. omega arith))
+
+unended-item : items mostItems unendedBeacon ≡ unendedBeacon ∷ []
+unfolding sizeOf wholeSize
+unended-item = alone unendedBeacon (one-whole (mostItems - 1) unendedBeacon (λ e. omega arith))
 
 long-item : items mostItems longPacket ≡ longPacket ∷ []
 unfolding sizeOf wholeSize
@@ -78,6 +86,8 @@ sample =
       sample = rw both;
       empty = rw no-items;
       crc-bad = rw bad-item;
+      zeros = rw padded-item;
+      another = rw unended-item;
       six-bits = rw long-item;
       two-above = rw above-item;
       broken = rw broken-item;

@@ -19,6 +19,13 @@ badBeacon = 0x02 ∷ 0x42 ∷ 0x09 ∷ nine
 abbrev pub longPacket : List ℕ
 longPacket = 0x01 ∷ 0x00 ∷ 0x20 ∷ replicate 32 0
 
+-- the same with 28 zeros behind its record, and with another octet at their end
+abbrev pub paddedBeacon : List ℕ
+paddedBeacon = 0x01 ∷ 0x42 ∷ 0x25 ∷ (nine ++ replicate 28 0)
+
+abbrev pub unendedBeacon : List ℕ
+unendedBeacon = 0x01 ∷ 0x42 ∷ 0x25 ∷ (nine ++ (replicate 27 0 ++ (0x01 ∷ [])))
+
 -- "     1     0 0": one whole item, no report, nothing left over
 abbrev pub oneItem : List ℕ
 oneItem = 32 ∷ 32 ∷ 32 ∷ 32 ∷ 32 ∷ 49 ∷ 32 ∷ 32 ∷ 32 ∷ 32 ∷ 32 ∷ 48 ∷ 32 ∷ 48 ∷ 10 ∷ []
@@ -50,6 +57,14 @@ pub record Sample : Type 0 where
   pub empty : logOf [] ≡ 32 ∷ 32 ∷ 32 ∷ 32 ∷ 32 ∷ 48 ∷ 32 ∷ 32 ∷ 32 ∷ 32 ∷ 32 ∷ 48 ∷ 32 ∷ 48 ∷ 10 ∷ []
   -- a CRC-bad packet is an item and no report
   pub crc-bad : logOf badBeacon ≡ oneItem
+  -- zeros behind the record: "     1 1   1   2   3   4   5 198  1" and "     1     1 0"; an octet among them that is not zero: no report
+  pub zeros :
+      logOf paddedBeacon
+      ≡ 32 ∷ 32 ∷ 32 ∷ 32 ∷ 32 ∷ 49 ∷ 32 ∷ 49
+      ∷ 32 ∷ 32 ∷ 32 ∷ 49 ∷ 32 ∷ 32 ∷ 32 ∷ 50 ∷ 32 ∷ 32 ∷ 32 ∷ 51 ∷ 32 ∷ 32 ∷ 32 ∷ 52 ∷ 32 ∷ 32 ∷ 32 ∷ 53 ∷ 32 ∷ 49 ∷ 57 ∷ 56
+      ∷ 32 ∷ 32 ∷ 49 ∷ 10
+      ∷ 32 ∷ 32 ∷ 32 ∷ 32 ∷ 32 ∷ 49 ∷ 32 ∷ 32 ∷ 32 ∷ 32 ∷ 32 ∷ 49 ∷ 32 ∷ 48 ∷ 10 ∷ []
+  pub another : logOf unendedBeacon ≡ oneItem
   -- the length has six bits, and the two above them do not count
   pub six-bits : logOf longPacket ≡ oneItem
   pub two-above : logOf (0x01 ∷ 0x00 ∷ 0xC0 ∷ []) ≡ oneItem

@@ -14,13 +14,14 @@ use Rattle.octets.specs.Bytes.{part, le, has}
 use Rattle.octets.specs.Error.{numberOf}
 use Rattle.octets.specs.Time.{later}
 use Rattle.octets.specs.declared.error.Error.{Error}
-use Rattle.octets.specs.declared.error.Error.the-variants.{Eof, EmptyMap, WrongMode}
+use Rattle.octets.specs.declared.error.Error.the-variants.{Eof, InvalidLength, EmptyMap, WrongMode}
 use Rattle.octets.specs.declared.time.Instant.{Instant}
 use Rattle.channels.proofs.Events.{run}
 use Rattle.channels.specs.Hop.{unmapped, eventChannel, unmappedBefore, hopped}
 use Rattle.channels.specs.Map.{marks, fromRaw}
 use Rattle.channels.specs.declared.connection.Hop.{Hop}
 use Rattle.channels.specs.declared.connection.Hop.the-variants as hop
+use Rattle.records.proofs.Padded.{differs}
 use Rattle.records.specs.Area.{readArea, rewritten}
 use Rattle.records.specs.declared.area.Area.{Area}
 use Rattle.records.specs.declared.area.Area.the-variants as area
@@ -45,7 +46,7 @@ use Rattle.advertising.specs.declared.pdu_buf.Built.{Built}
 use Rattle.advertising.specs.declared.pdu_buf.PduBuf.{PduBuf}
 use Rattle.radio.specs.Calls.{instant, isAdvertising, isConnected, isScanRequest, refusal, sent, beginning, discoverable, started, startedAfter, isFor, listens, responds, repliedIf, heard, connectedAt, connectsTo, addressed, setTo, hoppedTo, hops, startOf, startAfter, tickOf, tickAfter, packetOf, packetAfter, eventOf, stopOf}
 use Rattle.radio.specs.Demand.{numberIn, replyHeader, replyOctets, ReplyOf}
-use Rattle.radio.specs.Laws.{ForBoard, Scans, Requests, Words, Modes, Refusing, Transmits, Hearing}
+use Rattle.radio.specs.Laws.{ForBoard, Scans, Requests, Words, Modes, Refusing, Transmits, BadStart, Hearing}
 use Rattle.radio.specs.Trace.{Call, start, tick, packet, event, stop, setScanData, callOf, isConnectRequest, forBoard, requested, scans, mapIn, hopIn, connects, replySize, Strikable}
 use Rattle.radio.specs.declared.link.Advertisement.{Advertisement}
 use Rattle.radio.specs.declared.link.Answer.{Answer}
@@ -344,6 +345,13 @@ module _ (d : Device) (tx : List ℕ) where
         let no : _≡_ {A = ℕ} 1 0 = rw (building .too-long AdvInd (d .«dev_addr») flagsRecord records k good (omega (arith, front)) long) at is in
         absurd (omega (arith, no))
     started-writes (area.Accepted k) good false m is = started-fitting k good (ltb-false 28 (length records) m) is
+
+  pub bad-start : (time : Instant) (interval : ℕ) (records : List ℕ) → BadStart d time interval records tx
+  unfolding startOf
+  bad-start time interval records = record { bad-area = bad-area; zeros = λ z. bad-area InvalidLength (differs records .strict z) }
+    where
+      bad-area : (e : Error) → readArea records ≡ area.Refused e → callOf d (start time interval records tx) ≡ refusal d e
+      bad-area e is = rw (building .bad-area AdvInd (d .«dev_addr») flagsRecord records e is)
 
   pub transmits : Transmits d tx
   unfolding tickOf tickAfter

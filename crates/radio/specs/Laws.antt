@@ -4,6 +4,7 @@
 --   Modes         Words.modes              which mode advertises, and which is connected
 --   Refusing      Words.refusing           a refused call changes nothing
 --   Transmits     Words.transmits          what an accepted start and tick write
+--   BadStart      Words.bad-start          a start with a bad area
 --   Judged        Replies.judged           a reply by the Core: its header by numbers, and what it is read as
 --   Bare          Replies.bare             a fresh device's reply has no scan data
 --   Setting       Replies.setting          which scan data are set, what that changes, and that no other call changes the reply
@@ -26,6 +27,7 @@ use Rattle.channels.specs.Hop.{eventChannel}
 use Rattle.channels.specs.Map.{marks}
 use Rattle.channels.specs.declared.phy.AdvertisingChannel.the-variants.{Channel38, Channel39}
 use Rattle.records.specs.Area.{readArea, rewritten}
+use Rattle.records.specs.Padded.{ZeroLength}
 use Rattle.records.specs.declared.area.Area.the-variants as area
 use Rattle.addresses.specs.Address.{kindNumber, kindOf, addressOf}
 use Rattle.addresses.specs.Header.{headerOf, bits, rxAdd}
@@ -125,6 +127,11 @@ pub record Judged (own : DeviceAddress) (s : List ℕ) (n : ℕ) : Type 0 where
 -- "A fresh device", of an address of six octets, has the reply without scan data.
 abbrev pub Bare : DeviceAddress → Type 0
 Bare own = ReplyOf own [] (fresh own .«scan_response»)
+
+-- A start, in any mode, with a bad area is refused as its first bad record is, before its size and the transmit buffer are looked at; zeros behind the records are 2.
+pub record BadStart (d : Device) (time : Instant) (interval : ℕ) (records tx : List ℕ) : Type 0 where
+  pub bad-area : (e : Error) → readArea records ≡ area.Refused e → callOf d (start time interval records tx) ≡ record { answer = Refused e; device = d }
+  pub zeros : ZeroLength records → callOf d (start time interval records tx) ≡ record { answer = Refused InvalidLength; device = d }
 
 -- Scan data are set, in any mode, where they are an accepted area of at most 31 octets, and refused otherwise, a bad area as its first bad record is. The
 -- reply is then theirs, and nothing else changes; no other call changes the reply.

@@ -19,7 +19,7 @@ use Rattle.records.specs.Record.{named, flagsRead, uuidsRead, dataRead, 
 use Rattle.records.specs.Area.{cut, records, reads, withFirst, areaOf, readArea}
 use Rattle.records.specs.Accepted.{IsList, AllGood, Tiling, Bad, zero-length, too-few, wrong-flags, odd-list, FirstBad, Verdict}
 use Rattle.records.specs.Padding.{beforeZero, unpadded, isZeros, endedBy, readPadded, areaIn}
-use Rattle.records.specs.Padded.{Padding, Fault, bad-record, not-zero, Found, HubReads, ZeroLength, tookAll, Differs, Took, PaddedRows}
+use Rattle.records.specs.Padded.{Padding, Fault, bad-record, not-zero, Found, HubReads, ZeroLength, tookAll, Differs, WithoutSize, Took, PaddedRows}
 use Rattle.records.proofs.Accepted.{decided}
 use Rattle.records.proofs.Cuts.{cut-skip}
 use Rattle.records.proofs.Restored.{rewriting}
@@ -244,47 +244,54 @@ differs s =
         let both : padded.Refused k ≡ padded.Refused e = sym (ap readPadded at ∙ read-bad front t n rest some b) ∙ is in
         refused-by s front (n ∷ rest) at t b ∙ ap area.Refused cc
 
-pub took : (s out : List ℕ) → Took s out
-took s out =
-    record {
-      inside = λ m taken is. omega (arith, long (padding is));
-      before = λ m taken is. before (padding is);
-      strictly = λ m taken is. strictly (padding is);
-      zeros = λ m taken is. zeros (padding is);
-      restores = λ m taken is room. rewriting (take taken s) out .restores m (strictly (padding is)) (omega (arith, size (padding is)));
-      no-room = λ m taken is few. rewriting (take taken s) out .no-room m (strictly (padding is)) (omega (arith, size (padding is)));
-    }
-  where
-    padding : {m taken : ℕ} → readPadded s ≡ padded.Accepted m taken → Padding s m taken
-    padding is = subst (Found s) is (hub-reads s .found)
+pub without-size : WithoutSize
+unfolding areaIn
+without-size (area.Accepted n) size = refl
+without-size (area.Refused e) size = refl
 
-    long : {m taken : ℕ} (p : Padding s m taken) → length s ≡ taken + p .zeros
-    long p = ap length (p .made-up) ∙ length-append (p .front) (replicate (p .zeros) 0) ∙ rw (length-replicate, p .size)
+all-zero : (k : ℕ) → unpadded (replicate k 0) ≡ []
+all-zero zero = unpadded-nil
+all-zero (suc k) = unpadded-zero (replicate k 0)
 
-    front-is : {m taken : ℕ} (p : Padding s m taken) → take taken s ≡ p .front
-    front-is {m} {taken} p = ap (take taken) (p .made-up) ∙ take-at (p .front) (replicate (p .zeros) 0) taken (p .size)
+-- an area that is accepted so
+module _ (s : List ℕ) (m taken : ℕ) (is : readPadded s ≡ padded.Accepted m taken) where
+  padding : Padding s m taken
+  padding = subst (Found s) is (hub-reads s .found)
 
-    all-zero : (k : ℕ) → unpadded (replicate k 0) ≡ []
-    all-zero zero = unpadded-nil
-    all-zero (suc k) = unpadded-zero (replicate k 0)
+  front : List ℕ
+  front = padding .front
 
-    before : {m taken : ℕ} → Padding s m taken → unpadded s ≡ take taken s
-    before p =
-        ap unpadded (p .made-up) ∙ unpadded-front (p .front) (tiling-of (p .front) (p .strict)) (replicate (p .zeros) 0)
-        ∙ ap (λ (l : List ℕ). p .front ++ l) (all-zero (p .zeros)) ∙ append-nil (p .front) ∙ sym (front-is p)
+  long : length s ≡ taken + padding .zeros
+  unfolding front
+  long = ap length (padding .made-up) ∙ length-append (padding .front) (replicate (padding .zeros) 0) ∙ rw (length-replicate, padding .size)
 
-    strictly : {m taken : ℕ} → Padding s m taken → readArea (take taken s) ≡ area.Accepted m
-    strictly p = ap readArea (front-is p) ∙ p .strict
+  front-is : take taken s ≡ front
+  unfolding front
+  front-is = ap (take taken) (padding .made-up) ∙ take-at (padding .front) (replicate (padding .zeros) 0) taken (padding .size)
 
-    size : {m taken : ℕ} → Padding s m taken → length (take taken s) ≡ taken
-    size p = ap length (front-is p) ∙ p .size
+  -- the octets taken are those before the first zero length
+  pub before : unpadded s ≡ take taken s
+  unfolding front
+  before =
+      ap unpadded (padding .made-up) ∙ unpadded-front (padding .front) (tiling-of (padding .front) (padding .strict)) (replicate (padding .zeros) 0)
+      ∙ ap (λ (l : List ℕ). padding .front ++ l) (all-zero (padding .zeros)) ∙ append-nil (padding .front) ∙ sym front-is
 
-    zeros : {m taken : ℕ} → Padding s m taken → (i : ℕ) → taken ≤ i → i < length s → getD s i 0 ≡ 0
-    zeros {m} {taken} p i past inside =
-        let j = i - taken in
-        let at : i ≡ length (p .front) + j = omega (arith, p .size) in
-        ap (λ (k : ℕ). getD s k 0) at ∙ ap (λ (l : List ℕ). getD l (length (p .front) + j) 0) (p .made-up) ∙ getD-append-add (p .front) (replicate (p .zeros) 0) j 0
-        ∙ getD-replicate (p .zeros) j 0 0 (omega (arith, long p))
+  pub took : (out : List ℕ) → Took s out m taken
+  unfolding front
+  took out =
+      let strictly : readArea (take taken s) ≡ area.Accepted m = ap readArea front-is ∙ padding .strict in
+      let size : length (take taken s) ≡ taken = ap length front-is ∙ padding .size in
+      record {
+        inside = omega (arith, long);
+        strictly = strictly;
+        zeros = λ i past inside.
+            let j = i - taken in
+            let at : i ≡ length (padding .front) + j = omega (arith, padding .size) in
+            ap (λ (k : ℕ). getD s k 0) at ∙ ap (λ (l : List ℕ). getD l (length (padding .front) + j) 0) (padding .made-up)
+            ∙ getD-append-add (padding .front) (replicate (padding .zeros) 0) j 0 ∙ getD-replicate (padding .zeros) j 0 0 (omega (arith, long));
+        restores = λ room. rewriting (take taken s) out .restores m strictly (omega arith);
+        no-room = λ few. rewriting (take taken s) out .no-room m strictly (omega arith);
+      }
 
 pub rows : PaddedRows
 unfolding readPadded endedBy isZeros unpadded beforeZero areaIn flatten readArea areaOf reads withFirst cut first recordRead dataRead flagsRead uuidsRead upTo named
@@ -295,8 +302,8 @@ rows =
       ended = refl;
       zeros-inside = refl;
       behind = refl;
+      behind-the-first = refl;
       before = refl;
       both = refl;
       strict = refl;
-      without-size = refl;
     }

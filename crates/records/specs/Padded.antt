@@ -3,14 +3,15 @@
 --   Padding s m taken    == m records that are accepted strictly, in `taken` octets, and then zeros alone, perhaps none, make up s
 --   Fault s e            == the first fault of s: a bad record before the first zero length, or behind it an octet that is not zero
 --   HubReads s           (Padded.hub-reads)     s is accepted exactly if it is padded so, and refused exactly as its first fault is
---   ZeroLength s         == a zero length stands at a record's place of s
+--   ZeroLength s         == a zero length stands in s behind records that are accepted strictly, perhaps none: at a record's place
 --   Differs s            (Padded.differs)       where the two readings differ, and where they do not
---   Took s out           (Padded.took)          what rewriting the octets taken writes
+--   WithoutSize          (Padded.without-size)  an answer without the octets taken
+--   Took s out m taken   (Padded.took)          what rewriting the octets taken writes
 --   PaddedRows           (Padded.rows)          worked values, on both sides of each limit
 use mathlib.Core.Path.{_≡_}
 use mathlib.Core.List.{List, [], _∷_, _++_, map}
 use Prim.Native.Nat.{ℕ, _≤_, _<_}
-use lib.ListN.{length, getD, take, drop, replicate}
+use lib.ListN.{length, getD, take, replicate}
 use Rattle.octets.specs.declared.error.Error.{Error}
 use Rattle.octets.specs.declared.error.Error.the-variants.{Eof, InvalidLength}
 use Rattle.records.specs.declared.area.Area.{Area}
@@ -18,9 +19,9 @@ use Rattle.records.specs.declared.area.Area.the-variants as area
 use Rattle.records.specs.declared.area.PaddedArea.{PaddedArea}
 use Rattle.records.specs.declared.area.PaddedArea.the-variants as padded
 use Rattle.records.specs.Accepted.{Bad}
-use Rattle.records.specs.Area.{readArea, rewritten, rewrittenTo, rewrittenAfter}
-use Rattle.records.specs.Padding.{unpadded, readPadded, areaIn}
-use Rattle.records.specs.RoundTrip.{RoundTrip, Restores, Unwritten}
+use Rattle.records.specs.Area.{readArea}
+use Rattle.records.specs.Padding.{readPadded, areaIn}
+use Rattle.records.specs.RoundTrip.{Restores, Unwritten}
 
 pub record Padding (s : List ℕ) (m taken : ℕ) : Type 0 where
   pub front : List ℕ
@@ -67,14 +68,16 @@ pub record Differs (s : List ℕ) : Type 0 where
   pub accepts : (n : ℕ) → readArea s ≡ area.Accepted n → readPadded s ≡ padded.Accepted n (length s)
   pub refuses : (e : Error) → readPadded s ≡ padded.Refused e → readArea s ≡ area.Refused e
 
--- "Rewriting what it read gives the octets before the padding, save undefined Flags bits": `rewrite_area` over the octets taken.
-pub record Took (s out : List ℕ) : Type 0 where
-  pub inside : (m taken : ℕ) → readPadded s ≡ padded.Accepted m taken → taken ≤ length s
-  pub before : (m taken : ℕ) → readPadded s ≡ padded.Accepted m taken → unpadded s ≡ take taken s
-  pub strictly : (m taken : ℕ) → readPadded s ≡ padded.Accepted m taken → readArea (take taken s) ≡ area.Accepted m
-  pub zeros : (m taken : ℕ) → readPadded s ≡ padded.Accepted m taken → (i : ℕ) → taken ≤ i → i < length s → getD s i 0 ≡ 0
-  pub restores : (m taken : ℕ) → readPadded s ≡ padded.Accepted m taken → taken ≤ length out → Restores (take taken s) out
-  pub no-room : (m taken : ℕ) → readPadded s ≡ padded.Accepted m taken → length out < taken → Unwritten (take taken s) out Eof
+abbrev pub WithoutSize : Type 0
+WithoutSize = (a : Area) (size : ℕ) → areaIn (tookAll a size) ≡ a
+
+-- Of an area that is accepted with m records in `taken` octets. "Rewriting what it read gives the octets before the padding, save undefined Flags bits": by `rewrite_area` over the octets taken.
+pub record Took (s out : List ℕ) (m taken : ℕ) : Type 0 where
+  pub inside : taken ≤ length s
+  pub strictly : readArea (take taken s) ≡ area.Accepted m
+  pub zeros : (i : ℕ) → taken ≤ i → i < length s → getD s i 0 ≡ 0
+  pub restores : taken ≤ length out → Restores (take taken s) out
+  pub no-room : length out < taken → Unwritten (take taken s) out Eof
 
 -- one record, which is accepted
 abbrev pub flags : List ℕ
@@ -96,6 +99,7 @@ pub record PaddedRows : Type 0 where
   -- behind the zero: a good record, and an octet that is not zero, in the next place and in the last
   pub behind : map (λ (l : List ℕ). readPadded (flags ++ (0x00 ∷ l))) (flags ∷ (0x01 ∷ []) ∷ (blanks 26 ++ (0x01 ∷ [])) ∷ (blanks 52 ++ (0xFF ∷ [])) ∷ [])
       ≡ padded.Refused InvalidLength ∷ padded.Refused InvalidLength ∷ padded.Refused InvalidLength ∷ padded.Refused InvalidLength ∷ []
+  pub behind-the-first : map readPadded ((0x00 ∷ 0x01 ∷ []) ∷ (0x00 ∷ flags) ∷ []) ≡ padded.Refused InvalidLength ∷ padded.Refused InvalidLength ∷ []
   -- a bad record before the zero decides: odd list data 1, wrong Flags 2; too few octets 1, though they are zeros
   pub before : map readPadded ((0x02 ∷ 0x03 ∷ 0x0F ∷ blanks 3) ∷ (0x01 ∷ 0x01 ∷ blanks 3) ∷ (0x05 ∷ 0x0A ∷ blanks 3) ∷ [])
       ≡ padded.Refused Eof ∷ padded.Refused InvalidLength ∷ padded.Refused Eof ∷ []
@@ -104,4 +108,3 @@ pub record PaddedRows : Type 0 where
   -- the strict reading of padded areas is 2
   pub strict : map readArea (blanks 1 ∷ (flags ++ blanks 1) ∷ (flags ++ blanks 28) ∷ [])
       ≡ area.Refused InvalidLength ∷ area.Refused InvalidLength ∷ area.Refused InvalidLength ∷ []
-  pub without-size : map areaIn (padded.Accepted 2 6 ∷ padded.Refused Eof ∷ []) ≡ area.Accepted 2 ∷ area.Refused Eof ∷ []

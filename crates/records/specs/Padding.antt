@@ -1,6 +1,6 @@
 -- What the hub's reading of an area finds (document 02, Note 3; the Core, Vol 3 Part C, 11: a zero length ends the records). specs/Padded says it in the Note's words.
 --   beforeZero rs       == the records before the first whose length is zero
---   unpadded s          == their octets: those of s before the first zero length at a record's place
+--   unpadded s          == their octets; a record among them may be bad
 --   isZeros l           == no octet of l is another than zero
 --   readPadded s        == the number of records and the octets that they took, or the refusal of the first fault
 --   areaIn a            == the same without the octets taken

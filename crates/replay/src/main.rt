@@ -217,7 +217,6 @@ fn area(out: &mut Page, at: usize, s: &[u8]) -> usize {
     }
 }
 
-// A record of a kind, whose data are octets 4 on of the request.
 // How many records, and how many octets they took.
 fn counts(out: &mut Page, at: usize, count: usize, taken: usize) -> usize {
     let next = labelled(out, at, Word::Records, count as u64);
@@ -235,6 +234,7 @@ fn padded(out: &mut Page, at: usize, s: &[u8], lent: &mut [u8]) -> usize {
     }
 }
 
+// A record of a kind, whose data are octets 4 on of the request.
 fn structure(kind: u8, value: u16, len: usize) -> AdStructure {
     let start = 4;
     let complete = 16 <= kind;

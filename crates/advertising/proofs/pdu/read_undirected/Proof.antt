@@ -24,6 +24,10 @@ passed : (ty : PduType) (h : Header) (p : List ℕ) → 6 ≤ length p
 unfolding undirected
 passed ty h p long = rw (le-ltb (length p) 6 long, take-all (length p - 6) (drop 6 p) (rw length-drop (omega arith)))
 
+-- there is an address
+enough : tie.Need-with-area-requires
+enough c κs = search needs
+
 returns-2 : tie.Need-returns-2
 returns-2 c =
     c .with-area .ensures ∙ ap (withArea _ _ _) (c .before .read-area .ensures) ∙ sym (passed _ _ _ (omega arith))
@@ -38,5 +42,5 @@ read-undirected-spec =
     (λ c. search needs)
     (λ c. search needs)
     (λ c κs. search needs)
-    (λ c κs. search needs)
+    enough
     returns-2)
