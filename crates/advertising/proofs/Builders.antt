@@ -21,7 +21,7 @@ use Rattle.records.specs.Area.{cut, reads, withFirst, areaOf, readArea, clean, 
 use Rattle.records.specs.Record.{named, first, flagsRead, dataRead, upTo, recordRead}
 use Rattle.records.specs.declared.area.Area.the-variants as area
 use Rattle.advertising.specs.Builders.{Builds, Builders, Directed, Writing, Examples}
-use Rattle.advertising.specs.Pdu.{outcomeNumber, requestOf, connectRequest, byType, decodeBy, decodeOf}
+use Rattle.advertising.specs.Pdu.{outcomeNumber, requestOf, connectRequest, byType, decodeBy}
 use Rattle.advertising.specs.PduBuf.{headerFor, bufOf, refusedBuf, afterReading, withRecords, builtOf, flagsRecord, payloadOf}
 use Rattle.advertising.specs.declared.pdu.Outcome.the-variants.{Accepted}
 use Rattle.advertising.specs.declared.pdu_buf.Built.{Built}

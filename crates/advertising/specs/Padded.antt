@@ -19,7 +19,7 @@ use Rattle.advertising.specs.Laws.{nine}
 use Rattle.advertising.specs.Pdu.{noAddress, noRequest, outcomeNumber, decodedAs, refusedPdu, decodeOf, heardOf, paddedOf}
 use Rattle.advertising.specs.declared.pdu.Outcome.the-variants.{Accepted, Refused}
 
--- "the number of records and how many octets they took", beside the sender and the whole area
+-- "how many octets the records took" beside the sender, the whole area and the number of records
 pub record Heard (h : Header) (p : List ℕ) : Type 0 where
   -- a type with records, counted by its header, and behind an address an area that the hub reads, or does not
   pub accepted : (n taken : ℕ) → allowsAdvData (typeOf h) ≡ true → lengthOf h ≡ length p → 6 ≤ length p → readPadded (drop 6 p) ≡ padded.Accepted n taken

@@ -8,7 +8,7 @@ use Rattle.records.specs.Area.{cut, reads, withFirst, areaOf, readArea, clean, 
 use Rattle.records.specs.Record.{named, flagsRead, uuidsRead, dataRead, upTo, recordRead, first}
 use Rattle.addresses.specs.Address.{sameOctets, sameAddress}
 use Rattle.addresses.specs.Header.{pduType}
-use Rattle.advertising.specs.Pdu.{requestOf, directed, connectRequest, byType, decodeBy, decodeOf}
+use Rattle.advertising.specs.Pdu.{requestOf, directed, connectRequest, byType, decodeBy}
 use Rattle.advertising.specs.PduBuf.{bufOf, afterReading, withRecords}
 use Rattle.radio.specs.Calls.{isFor, connectsTo, addressed, hops, startOf, startAfter, tickOf, tickAfter, packetOf, packetAfter, eventOf}
 use Rattle.radio.specs.Laws.{Example, Titled, Limits}

@@ -7,7 +7,7 @@ use Rattle.channels.specs.Map.{marked, marks, channelAt}
 use Rattle.records.specs.Area.{cut, reads, withFirst, areaOf, readArea, clean, rewritten, mayRewrite, rewrittenAfter}
 use Rattle.records.specs.Record.{named, flagsRead, uuidsRead, dataRead, upTo, recordRead, first, recordAt}
 use Rattle.addresses.specs.Header.{pduType}
-use Rattle.advertising.specs.Pdu.{withArea, undirected, byType, decodeBy, decodeOf}
+use Rattle.advertising.specs.Pdu.{withArea, undirected, byType, decodeBy}
 use Rattle.radio.specs.Table.{Table}
 
 pub table : Table

@@ -276,7 +276,7 @@ module _ (s : List ℕ) (m taken : ℕ) (is : readPadded s ≡ padded.Accepted m
       ap unpadded (padding .made-up) ∙ unpadded-front (padding .front) (tiling-of (padding .front) (padding .strict)) (replicate (padding .zeros) 0)
       ∙ ap (λ (l : List ℕ). padding .front ++ l) (all-zero (padding .zeros)) ∙ append-nil (padding .front) ∙ sym front-is
 
-  pub took : (out : List ℕ) → Took s out m taken
+  pub took : (out : List ℕ) → Took s out m taken is
   unfolding front
   took out =
       let strictly : readArea (take taken s) ≡ area.Accepted m = ap readArea front-is ∙ padding .strict in

@@ -6,7 +6,7 @@
 --   ZeroLength s         == a zero length stands in s behind records that are accepted strictly, perhaps none: at a record's place
 --   Differs s            (Padded.differs)       where the two readings differ, and where they do not
 --   WithoutSize          (Padded.without-size)  an answer without the octets taken
---   Took s out m taken   (Padded.took)          what rewriting the octets taken writes
+--   Took s out m taken _ (Padded.took)          what rewriting the octets taken writes
 --   PaddedRows           (Padded.rows)          worked values, on both sides of each limit
 use mathlib.Core.Path.{_≡_}
 use mathlib.Core.List.{List, [], _∷_, _++_, map}
@@ -71,8 +71,8 @@ pub record Differs (s : List ℕ) : Type 0 where
 abbrev pub WithoutSize : Type 0
 WithoutSize = (a : Area) (size : ℕ) → areaIn (tookAll a size) ≡ a
 
--- Of an area that is accepted with m records in `taken` octets. "Rewriting what it read gives the octets before the padding, save undefined Flags bits": by `rewrite_area` over the octets taken.
-pub record Took (s out : List ℕ) (m taken : ℕ) : Type 0 where
+-- An area that is accepted with m records in `taken` octets. "Rewriting what it read gives the octets before the padding, save undefined Flags bits": by `rewrite_area` over the octets taken.
+pub record Took (s out : List ℕ) (m taken : ℕ) (accepted : readPadded s ≡ padded.Accepted m taken) : Type 0 where
   pub inside : taken ≤ length s
   pub strictly : readArea (take taken s) ≡ area.Accepted m
   pub zeros : (i : ℕ) → taken ≤ i → i < length s → getD s i 0 ≡ 0
