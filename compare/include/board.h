@@ -129,8 +129,9 @@ typedef struct BoardSent {
 /* Makes a beacon and writes its payload to the front of tx. */
 BoardSent board_beacon(const uint8_t own[6], bool random, const uint8_t *records, size_t records_len, uint8_t *tx, size_t tx_len);
 
-/* What a scanner says of a packet. The sender and the place of its records in the payload (as in BoardPacket) are those of a packet that is reported;
- * channel: where it keeps listening, 0 after refusal 4. */
+/* What a scanner says of a packet. The sender and the place of its record area in the payload (as in BoardPacket) are those of a packet that is reported.
+ * It reads the area as board_padded_area does: `len` is the whole area, `count` its records, and `taken` the octets that they took, the same as `len` where
+ * no zeros follow them. channel: where it keeps listening, 0 after refusal 4. */
 typedef struct BoardHeard {
     uint8_t number;
     bool reported;
@@ -139,6 +140,7 @@ typedef struct BoardHeard {
     size_t start;
     size_t len;
     size_t count;
+    size_t taken;
     uint8_t channel;
 } BoardHeard;
 
@@ -157,6 +159,7 @@ typedef struct BoardListened {
     size_t start;
     size_t len;
     size_t count;
+    size_t taken;
     uint8_t channel;
     uint32_t next;
 } BoardListened;
@@ -191,8 +194,12 @@ BoardSaid board_call(const uint8_t own[6], bool random, const uint8_t *calls, si
 
 /* --- libbasics.a: records --- */
 
-/* first: the number of records in an area. */
+/* first: the number of records in an area. A record of length 0 is 2. */
 BoardGot board_area(const uint8_t *s, size_t s_len);
+
+/* The same as the hub reads an area, which a board may have filled with zeros: a length of 0 ends the records. second: how many octets they took, without
+ * that zero. An octet behind it that is not zero is 2. board_rewrite writes the records of so many octets again. */
+BoardGot board_padded_area(const uint8_t *s, size_t s_len);
 
 /* A record. kind: 0 the end of the area, 1 Flags, 2, 3 and 4 lists of UUIDs of 16, 32 and 128 bits, 5 service data, 6 a complete name, 7 a
  * shortened one, 8 data of a manufacturer, 9 any other. complete: of a list. value: the bits of Flags (1), a UUID (5), a company (8) or a type (9).

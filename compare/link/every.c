@@ -1,5 +1,5 @@
-/* Calls every function, so that each field of the header is held to a known answer: every.out, whose values are document 01's, and of the bit stream
- * those on which other implementations agree. What the header says of `which`, kinds, refusals and lists that are cut is tried one by one. */
+/* Calls every function, so that each field of the header is held to a known answer: every.out, whose values are document 01's, of padding document 02's, and
+ * of the bit stream those on which other implementations agree. What the header says of `which`, kinds, refusals and lists that are cut is tried one by one. */
 #include "board.h"
 #include <stdio.h>
 #include <string.h>
@@ -60,7 +60,13 @@ static void said(BoardSaid d) {
 static void listened(BoardListened l) {
     printf("board_scanner_call %d %d %d", l.number, l.reported, l.random);
     octets(l.sender, 6);
-    printf(" %zu %zu %zu %d %u\n", l.start, l.len, l.count, l.channel, l.next);
+    printf(" %zu %zu %zu %zu %d %u\n", l.start, l.len, l.count, l.taken, l.channel, l.next);
+}
+
+static void heard(BoardHeard h) {
+    printf("board_scan %d %d %d", h.number, h.reported, h.random);
+    octets(h.sender, 6);
+    printf(" %zu %zu %zu %zu %d\n", h.start, h.len, h.count, h.taken, h.channel);
 }
 
 static uint8_t out[16];
@@ -79,6 +85,7 @@ static const uint8_t request[] = {0x85, 0x22, 0x11, 0x12, 0x13, 0x14, 0x15, 0x16
                                   2,    3,    0,    0x18, 0,    7,    0,    100,  0, 0x0A, 0, 0, 0, 0, 0xA5};
 static const uint8_t own[6] = {1, 2, 3, 4, 5, 0xC6}, other[6] = {1, 2, 3, 4, 5, 6}, two[5] = {0x0A}, mark[5] = {0xFF, 0xFF, 0xFF, 0xFF, 0xFF};
 static const uint8_t list[7] = {1, 1, 2, 3, 4, 5, 0xC6}, area[] = {2, 1, 6, 5, 3, 0x0F, 0x18, 0x0A, 0x18}, bits[] = {0, 1, 2, 3, 4, 5, 6, 7};
+static const uint8_t padded[] = {2, 1, 0x86, 3, 9, 0x47, 0x6F, 0, 0, 0};
 static const uint8_t full[16] = {0, 1, 2, 3, 4, 5, 6, 7, 8, 9, 10, 11, 12, 13, 14, 15};
 
 static void call_of(uint8_t c[272], uint8_t kind, uint8_t time, uint8_t interval, const uint8_t *header, const uint8_t *s, uint8_t n) {
@@ -124,6 +131,7 @@ static void packets(void) {
 
 static void areas(void) {
     got("board_area", board_area(S(area)));
+    got("board_padded_area", board_padded_area(S(padded)));
     structure("board_record", board_record(S(area), 0));
     structure("board_known", board_known(S(area), 3));
     wrote("board_write", board_write(5, false, 0x180F, 0, 1, S(bits), 1, S(out)));
@@ -164,9 +172,7 @@ static void positions(void) {
 static void air(void) {
     BoardSent s = board_beacon(own, true, records + 6, 3, S(out));
     printf("board_beacon %d %04x %d %d %d", s.number, s.header, s.first, s.second, s.third), octets(S(out)), printf("\n");
-    BoardHeard h = board_scan(true, S(list), 1, S(beacon), S(records), true);
-    printf("board_scan %d %d %d", h.number, h.reported, h.random), octets(h.sender, 6);
-    printf(" %zu %zu %zu %d\n", h.start, h.len, h.count, h.channel);
+    heard(board_scan(true, S(list), 1, S(beacon), S(records), true));
     got("board_scanner", board_scanner(100, 20, 2));
     static uint8_t calls[2 * 272], call[272], first[37], second[37];
     call_of(calls, 0, 5, 30, beacon, bits, 0), call_of(calls + 272, 1, 200, 0, beacon, bits, 0);
@@ -270,6 +276,31 @@ static void scanner(void) {
         got("board_scanner", board_scanner(100, 20, (uint8_t)n)), channel("board_advertising_channel", board_advertising_channel((uint8_t)n));
 }
 
+/* An area that is padded: all octets of it and fewer, up to each end; with an octet behind the first zero, and the last, that is not zero. What was read is
+ * rewritten. The scanner hears the same, and the general decoder, a builder and a start refuse it. */
+static void padding(void) {
+    static const uint8_t sizes[] = {0, 2, 3, 6, 7, 8, 10}, header[] = {0x42, 0x10};
+    static uint8_t a[10], payload[16], call[272], first[37], second[37];
+    for (size_t i = 0; i < sizeof sizes; i++)
+        printf("%d ", sizes[i]), got("board_padded_area", board_padded_area(padded, sizes[i]));
+    wrote("7", board_rewrite(padded, 7, S(out)));
+    wrote("10", board_rewrite(S(padded), S(out)));
+    memcpy(payload, own, 6), memcpy(payload + 6, padded, 10);
+    heard(board_scan(false, list, 0, 0, S(header), S(payload), true));
+    packet("board_decode", board_decode(S(header), S(payload)));
+    frame("board_build", board_build(2, own, true, S(padded)));
+    call_of(call, 0, 5, 30, beacon, S(padded));
+    said(board_call(other, true, call, 0, S(call), S(first), S(second))), printf("\n");
+    call_of(call, 2, 0, 0, header, S(payload));
+    listened(board_scanner_call(false, list, 0, call, 0, S(call)));
+    for (size_t i = 8; i < sizeof a; i++) {
+        memcpy(a, padded, 10), a[i] = 1;
+        printf("%zu ", i), got("board_padded_area", board_padded_area(S(a)));
+        memcpy(payload + 6, a, 10);
+        heard(board_scan(false, list, 0, 0, S(header), S(payload), true));
+    }
+}
+
 /* A call for each refusal's number, and what it leaves. */
 static void refusals(void) {
     static const uint8_t name[] = {2, 9, 0xFF}, zero[] = {0}, none[5], long_data[255], bad[7] = {2}, unknown[] = {0x47, 0x09};
@@ -351,6 +382,6 @@ int main(void) {
     memset(out, 0xFF, sizeof out);
     leaves(), packets(), areas(), positions(), air();
     memset(out, 0xFF, sizeof out);
-    builders(), writes(), device(), scanner(), refusals(), stream();
+    builders(), writes(), device(), scanner(), padding(), refusals(), stream();
     return 0;
 }

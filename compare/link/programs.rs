@@ -87,11 +87,14 @@ impl Random {
     }
 }
 
-/// The number of whole records in an area, by the rules of document 01.
+/// The number of whole records in an area, by the rules of document 01; a zero length ends them where zeros alone follow (document 02, Note 3).
 fn records(area: &[u8]) -> Option<usize> {
     let (mut at, mut count) = (0, 0);
     while at < area.len() {
         let len = area[at] as usize;
+        if len == 0 {
+            return area[at..].iter().all(|octet| *octet == 0).then_some(count);
+        }
         let record = area.get(at + 1..at + 1 + len)?;
         let good = match record.first()? {
             1 => len == 2,
@@ -107,7 +110,7 @@ fn records(area: &[u8]) -> Option<usize> {
     Some(count)
 }
 
-/// hublog's log, written from document 01 and from nothing else.
+/// hublog's log, written from documents 01 and 02 and from nothing else.
 fn log(input: &[u8]) -> Vec<u8> {
     let (mut out, mut at, mut items, mut reports) = (Vec::new(), 0, 0, 0);
     let is_broken = loop {
@@ -153,6 +156,9 @@ fn some_input(random: &mut Random) -> Vec<u8> {
             payload.push(random.below(5) as u8);
             payload.extend((0..data).map(|_| random.below(256) as u8));
         }
+        if random.below(2) == 0 {
+            payload.extend((0..random.below(40)).map(|_| (random.below(80) == 0) as u8));
+        }
         payload.truncate(63);
         let length = payload.len() as u64 + if random.below(40) == 0 { 1 } else { 0 };
         input.push(1 + (random.below(6) == 0) as u8);
@@ -191,7 +197,7 @@ fn hublog_prints(t: &mut Tried, example: &[u8]) {
             return t.say(&format!("hublog: random input {round}"), false, &ran);
         }
     }
-    println!("ok    hublog: 1000 random inputs against a log written from document 01");
+    println!("ok    hublog: 1000 random inputs against a log written from documents 01 and 02");
     for count in [999_998, 999_999, 1_000_000] {
         let input = vec![0; count];
         let ran = t.run("hublog", &input);

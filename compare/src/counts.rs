@@ -1,6 +1,7 @@
-//! What was compared: comparisons and refusals by kind, lengths of payloads, near misses, replies, connections and events of lists, CRC flags.
+//! What was compared: comparisons and refusals by kind, lengths of payloads, near misses, padded areas, replies, connections and events of lists, CRC flags.
 use crate::inputs::marks_any;
 use crate::ours::BEHIND;
+use crate::padding::{self, Behind};
 use crate::request::{Kind, Request, CALL, KINDS};
 
 /// Classes of lengths, each from its first to before the next one's.
@@ -17,6 +18,19 @@ const SCANNER: usize = 4;
 
 const DEVICE_OFF: [&str; 6] = ["a bit of the address", "RxAdd", "the CRC", "the length", "the type", "an empty map"];
 const SCANNER_OFF: [&str; 5] = ["the type", "the CRC", "the length", "the entry's kind", "a bit of the entry"];
+
+/// The kinds that read as the hub does. What they answer where a zero length stands at a record's place is judged by Note 3: of beacons those that have
+/// passed the checks before decoding are counted.
+const HUB: [(Kind, &str); 3] = [
+    (Kind::Padded, "zero lengths in areas"),
+    (Kind::Scan, "zero lengths in beacons for a new scanner"),
+    (Kind::ScannerCalls, "zero lengths in beacons for scanners that live on"),
+];
+const ZEROS: [&str; 3] = ["zeros behind it", "of these accepted or reported", "another octet behind it"];
+const HUB_OCTETS: [&str; 3] = ["31", "57", "others"];
+
+/// What reads strictly, and refuses padding.
+const STRICT: [&str; 7] = ["counted", "rewritten", "decoded", "built", "sent", "in a start", "set as scan data"];
 
 const REPLIES: [(&str, usize); 3] = [("bare", 6), ("with 1 to 30 octets of data", 7), ("with 31", 37)];
 const SETS: [&str; 4] = ["refused with 1", "refused with 2", "accepted", "accepted without data"];
@@ -35,7 +49,7 @@ const NUMBERS: usize = 11;
 const GOT: usize = 17;
 const RECORD: usize = 29;
 const CALL_ANSWER: usize = 19;
-const SCANNER_ANSWER: usize = 38;
+const SCANNER_ANSWER: usize = 46;
 
 pub struct Counts {
     /// For each kind how often it was answered with each number; 0 is no refusal.
@@ -43,6 +57,9 @@ pub struct Counts {
     lengths: [[u64; 256]; GROUPS.len()],
     device_off: [u64; DEVICE_OFF.len()],
     scanner_off: [u64; SCANNER_OFF.len()],
+    zeros: [[u64; ZEROS.len()]; HUB.len()],
+    hub_octets: [u64; HUB_OCTETS.len()],
+    strict: [u64; STRICT.len()],
     replies: [u64; REPLIES.len()],
     no_room: u64,
     sets: [u64; SETS.len()],
@@ -63,6 +80,9 @@ impl Default for Counts {
             lengths: [[0; 256]; GROUPS.len()],
             device_off: [0; DEVICE_OFF.len()],
             scanner_off: [0; SCANNER_OFF.len()],
+            zeros: [[0; ZEROS.len()]; HUB.len()],
+            hub_octets: [0; HUB_OCTETS.len()],
+            strict: [0; STRICT.len()],
             replies: [0; REPLIES.len()],
             no_room: 0,
             sets: [0; SETS.len()],
@@ -91,6 +111,13 @@ fn only(off: &[bool]) -> Option<usize> {
     so.next().filter(|_| so.next().is_none())
 }
 
+/// The area of a packet, where the type has records, the length is as the header counts and there is an address.
+fn area_in<'a>(header: &[u8], payload: &'a [u8]) -> Option<&'a [u8]> {
+    let [first, second] = header[..] else { return None };
+    let counted = matches!(first % 16, 0 | 2 | 4 | 6) && second as usize % 64 == payload.len();
+    payload.get(6..).filter(|_| counted)
+}
+
 impl Counts {
     /// Counts a request with its answer, and says how many comparisons it is: one for each call of a list and for each event of a connection.
     pub fn count(&mut self, r: &Request, answer: &[u8]) -> u64 {
@@ -108,7 +135,9 @@ impl Counts {
                 let [list, header, payload] = &r.parts[..] else { panic!("a scan has three parts") };
                 let filter = (r.numbers[0] == 1).then_some(&list[..]);
                 self.count_heard(filter, header, payload, r.numbers[2] == 1);
+                self.count_beacon(1, header, payload, r.numbers[2] == 1, answer[1] == 1);
             }
+            Kind::Padded => self.count_zeros(0, &r.parts[0], answer[0] == 0),
             Kind::Whiten | Kind::CrcFlag => self.count_stream(r, answer),
             _ => {}
         }
@@ -120,7 +149,48 @@ impl Counts {
             _ => 0,
         };
         self.answers[r.kind as usize][number as usize % NUMBERS] += 1;
+        let p = &r.parts;
+        match r.kind {
+            Kind::Area => self.count_strict(0, number, Some(&p[0])),
+            Kind::Rewrite => self.count_strict(1, number, Some(&p[0])),
+            Kind::Decode => self.count_strict(2, number, area_in(&p[0], &p[1])),
+            Kind::Build => self.count_strict(3, number, Some(&p[1])),
+            Kind::Beacon => self.count_strict(4, number, Some(&p[1])),
+            _ => {}
+        }
         1
+    }
+
+    /// Counts an area that is refused with 2, where it has zeros behind its records and is no other.
+    fn count_strict(&mut self, by: usize, number: u8, area: Option<&[u8]>) {
+        let Some(area) = area.filter(|a| number == 2 && a.last() == Some(&0)) else { return };
+        self.strict[by] += (padding::read(area).behind == Behind::Zeros) as u64;
+    }
+
+    /// Counts an area that a kind reads as the hub does.
+    fn count_zeros(&mut self, kind: usize, area: &[u8], taken: bool) {
+        let behind = padding::read(area).behind;
+        let of_kind = &mut self.zeros[kind];
+        match behind {
+            Behind::Zeros => {
+                of_kind[0] += 1;
+                of_kind[1] += taken as u64;
+            }
+            Behind::Another => of_kind[2] += 1,
+            Behind::Nothing | Behind::Bad(_) => return,
+        }
+        self.hub_octets[match area.len() {
+            31 => 0,
+            57 => 1,
+            _ => 2,
+        }] += 1;
+    }
+
+    /// The same of a packet for a scanner.
+    fn count_beacon(&mut self, kind: usize, header: &[u8], payload: &[u8], crc_ok: bool, reported: bool) {
+        if let Some(area) = area_in(header, payload).filter(|_| crc_ok && header[0] % 16 == 2) {
+            self.count_zeros(kind, area, reported);
+        }
     }
 
     fn count_stream(&mut self, r: &Request, answer: &[u8]) {
@@ -144,6 +214,11 @@ impl Counts {
                 (2, 1, _) => self.no_room += 1,
                 (5, 0, _) => self.sets[2 + (c[3] == 0) as usize] += 1,
                 (5, n, _) => self.sets[n as usize - 1] += 1,
+                _ => {}
+            }
+            match c[0] {
+                0 => self.count_strict(5, a[0], c.get(14..14 + c[3] as usize)),
+                5 => self.count_strict(6, a[0], c.get(14..14 + c[3] as usize)),
                 _ => {}
             }
             // A packet in another mode is refused with 5, whatever it holds.
@@ -185,7 +260,9 @@ impl Counts {
                 1 => updates += 1,
                 _ => {
                     packets += 1;
-                    self.count_heard(filter, &c[12..14], &c[14..14 + c[3] as usize], c[1] == 1);
+                    let payload = &c[14..14 + c[3] as usize];
+                    self.count_heard(filter, &c[12..14], payload, c[1] == 1);
+                    self.count_beacon(2, &c[12..14], payload, c[1] == 1, a[1] == 1);
                 }
             }
         }
@@ -227,6 +304,9 @@ impl Counts {
         self.lengths.iter_mut().zip(&more.lengths).for_each(|(sum, n)| add(sum, n));
         add(&mut self.device_off, &more.device_off);
         add(&mut self.scanner_off, &more.scanner_off);
+        self.zeros.iter_mut().zip(&more.zeros).for_each(|(sum, n)| add(sum, n));
+        add(&mut self.hub_octets, &more.hub_octets);
+        add(&mut self.strict, &more.strict);
         add(&mut self.replies, &more.replies);
         self.no_room += more.no_room;
         add(&mut self.sets, &more.sets);
@@ -247,8 +327,16 @@ impl Counts {
         self.answers[kind as usize].iter().sum()
     }
 
+    /// What reads as the hub does and met no padding.
+    pub fn without_padding(&self) -> Option<&'static str> {
+        let lacks = |(kind, zeros): (&(Kind, _), &[u64; ZEROS.len()])| self.of(kind.0) > 0 && zeros[1] == 0;
+        let at = HUB.iter().zip(&self.zeros).position(lacks);
+        at.map(|at| HUB[at].1)
+    }
+
     pub fn print(&self) {
         self.print_shares();
+        self.print_padding();
         self.print_kinds();
     }
 
@@ -279,6 +367,16 @@ impl Counts {
         if met(&self.heard_on) > 0 {
             println!("packets as heard: {} of 256 channel numbers and {} of 256 lengths met", met(&self.heard_on), met(&self.heard_octets));
         }
+    }
+
+    fn print_padding(&self) {
+        HUB.iter().zip(&self.zeros).for_each(|((_, name), zeros)| print_row(name, &ZEROS, zeros));
+        print_row("their areas by octets", &HUB_OCTETS, &self.hub_octets);
+        let (judged, taken) = (self.hub_octets.iter().sum::<u64>(), self.zeros.iter().map(|zeros| zeros[1]).sum::<u64>());
+        if judged > 0 {
+            println!("{judged} answers judged by Note 3's rule for a zero length, {taken} of them accepted or reported");
+        }
+        print_row("padded areas refused with 2 by what reads strictly", &STRICT, &self.strict);
     }
 
     fn print_kinds(&self) {

@@ -1,5 +1,5 @@
 //! Lists of calls on a device.
-use crate::inputs::{area, count, damage, length, likely_count, map, marks_any, neighbour, payload, write_over};
+use crate::inputs::{area, count, damage, length, likely_count, map, marks_any, neighbour, pad, payload, write_over};
 use crate::request::{Kind, Request, CALL};
 use crate::rng::Rng;
 
@@ -79,7 +79,7 @@ impl<'a> List<'a> {
         self.push(START, second, &Packet { header: [0; 2], payload: records, crc_ok: true });
     }
 
-    /// Scan data around the most that a reply holds, sometimes damaged, any, or none.
+    /// Scan data around the most that a reply holds, sometimes damaged or with zeros behind them, any, or none.
     fn set(&mut self) {
         let n = match self.rng.below(8) {
             0..=3 => self.rng.below(32),
@@ -88,8 +88,10 @@ impl<'a> List<'a> {
             _ => length(self.rng),
         };
         let mut records = area(self.rng, n);
-        if self.rng.one_in(6) {
-            damage(self.rng, &mut records);
+        match self.rng.below(12) {
+            0 | 1 => damage(self.rng, &mut records),
+            2 => pad(self.rng, &mut records),
+            _ => {}
         }
         records.truncate(255);
         let second = self.rng.one_in(5);
@@ -104,14 +106,16 @@ impl<'a> List<'a> {
         self.mode = ADVERTISING;
     }
 
-    /// A start with records of any length, sometimes damaged.
+    /// A start with records of any length, sometimes damaged or with zeros behind them.
     fn any_start(&mut self) {
         let n = if self.rng.bit() == 0 { 24 + self.rng.below(9) } else { length(self.rng) };
         let mut records = area(self.rng, n);
-        if self.rng.one_in(4) {
-            damage(self.rng, &mut records);
-            records.truncate(255);
+        match self.rng.below(8) {
+            0 | 1 => damage(self.rng, &mut records),
+            2 => pad(self.rng, &mut records),
+            _ => {}
         }
+        records.truncate(255);
         let second = self.rng.one_in(5);
         self.start_with(records, second);
     }

@@ -40,6 +40,41 @@ pub fn area(rng: &mut Rng, n: usize) -> Vec<u8> {
     out
 }
 
+/// Zeros behind records: to 31 octets in all, to 57, one, or some.
+pub fn pad(rng: &mut Rng, area: &mut Vec<u8>) {
+    let least = area.len() + 1;
+    let all = match rng.below(4) {
+        0 => 31,
+        1 => 57,
+        2 => least,
+        _ => least + rng.below(40),
+    };
+    area.resize(all.max(least), 0);
+}
+
+/// Spoils the zeros behind the first so many octets: behind the first of them another octet comes next, comes last or stands anywhere, or a record does. Where
+/// there is one zero alone, an octet comes behind it.
+pub fn spoil(rng: &mut Rng, area: &mut Vec<u8>, taken: usize) {
+    let next = taken + 1;
+    if area.len() <= next {
+        area.resize(next, 0);
+        return area.push(1 + rng.octet() % 255);
+    }
+    let last = area.len() - 1;
+    let at = match rng.below(4) {
+        0 => next,
+        1 => last,
+        _ => next + rng.below(area.len() - next),
+    };
+    area[at] = 1 + rng.octet() % 255;
+    if rng.one_in(4) && at < last {
+        let n = 2 + rng.below((last - at).min(255));
+        let mut other = Vec::new();
+        record(rng, n, &mut other);
+        write_over(area, at, &other);
+    }
+}
+
 /// A small change of a good input.
 pub fn damage(rng: &mut Rng, octets: &mut Vec<u8>) {
     if octets.is_empty() {

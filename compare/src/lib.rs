@@ -1,9 +1,11 @@
 //! Both sides of the comparison. A request is a kind, numbers and octets; `ours` and `theirs` write its answer as octets, of the bit stream `stream`.
+//! Where a zero length may end an area's records, `theirs` asks `padding`.
 pub mod counts;
 pub mod device;
 pub mod inputs;
 pub mod made;
 pub mod ours;
+pub mod padding;
 pub mod request;
 pub mod rng;
 pub mod scanner;

@@ -1,9 +1,9 @@
-//! Compares the translation with rubble, and its bit stream with `stream`; `usage.txt` says how it is called and how it ends.
+//! Compares the translation with rubble, its bit stream with `stream` and the hub's reading with `padding`; `usage.txt` says how it is called and how it ends.
 use compare::counts::Counts;
 use compare::made::{self, Each, Share};
-use compare::request::{brief, hex, line, Request, CALL};
+use compare::request::{brief, hex, line, Kind, Request, CALL};
 use compare::shrink::smallest;
-use compare::{ours, stream, theirs, wide};
+use compare::{ours, padding, stream, theirs, wide};
 use std::io::IsTerminal;
 use std::panic::{catch_unwind, AssertUnwindSafe};
 use std::process::exit;
@@ -16,13 +16,18 @@ const USAGE: &str = include_str!("usage.txt");
 type Suite = (&'static str, fn(&Share, Each));
 
 /// The parts by their names, with the number of requests that each makes.
-const SUITES: [Suite; 14] = [
+const SUITES: [Suite; 15] = [
     ("headers", |s, e| made::all_headers(s, e)),
     ("packets", |s, e| made::packets(s, 8_000_000, e)),
     ("few-octets", |s, e| made::small_areas(s, e)),
     ("areas", |s, e| {
         made::areas(s, 2_000, e);
         wide::built(s, 400, e);
+    }),
+    ("padding", |s, e| {
+        padding::made::small(s, e);
+        padding::made::zeros(s, e);
+        padding::made::areas(s, 400, e);
     }),
     ("writers", |s, e| {
         made::writers(s, 40, e);
@@ -35,12 +40,12 @@ const SUITES: [Suite; 14] = [
     }),
     ("long-lists", |s, e| made::long_lists(s, 6_000, e)),
     ("scans", |s, e| {
-        made::scans(s, 2_000_000, e);
-        wide::scans(s, 500_000, e);
+        made::scans(s, 2_500_000, e);
+        wide::scans(s, 600_000, e);
     }),
     ("scanners", |s, e| {
-        made::scanners(s, 150_000, e);
-        wide::scanners(s, 40_000, e);
+        made::scanners(s, 180_000, e);
+        wide::scanners(s, 50_000, e);
     }),
     ("positions", |s, e| made::positions(s, 200, e)),
     ("small", |s, e| {
@@ -106,7 +111,7 @@ impl Both {
         self.agree(&least);
         println!("\ndifference: {}", brief(&least));
         println!("  ours    {}", hex(&self.ours));
-        println!("  {}  {}", if r.kind.is_stream() { "stream" } else { "rubble" }, hex(&self.theirs));
+        println!("  {}  {}", answers(r.kind), hex(&self.theirs));
         println!("  request {}", line(&least));
         if r.kind.is_list() {
             println!("found in a list of {} calls", r.parts[1].len() / CALL);
@@ -114,6 +119,15 @@ impl Both {
             println!("found in  {}", line(r));
         }
         exit(1);
+    }
+}
+
+/// Who answers beside us.
+fn answers(kind: Kind) -> &'static str {
+    match kind {
+        Kind::Padded => "Note 3",
+        kind if kind.is_stream() => "stream",
+        _ => "rubble",
     }
 }
 
@@ -166,10 +180,12 @@ fn progress(name: &str, before: u64, threads: &[std::thread::ScopedJoinHandle<()
 }
 
 /// Runs a part on all threads.
-fn run(suite: Suite, seed: u64, shares: u64, all: &Mutex<Counts>) {
+fn run(suite: Suite, seed: u64, shares: u64) -> Counts {
     let before = MADE.load(Ordering::Relaxed);
     let begun = Instant::now();
+    let all = Mutex::new(Counts::default());
     std::thread::scope(|scope| {
+        let all = &all;
         let one = |mine| {
             let mut both = Both::default();
             suite.1(&Share { mine, shares, seed }, &mut |r| both.compare(r));
@@ -189,6 +205,12 @@ fn run(suite: Suite, seed: u64, shares: u64, all: &Mutex<Counts>) {
         println!("{}: no comparison was made", suite.0);
         exit(2);
     }
+    let counts = all.into_inner().expect("no thread fails with it");
+    if let Some(what) = counts.without_padding() {
+        println!("{}: {what}: none has zeros behind it and is accepted or reported", suite.0);
+        exit(2);
+    }
+    counts
 }
 
 fn main() {
@@ -198,11 +220,10 @@ fn main() {
     let shares = std::thread::available_parallelism().map_or(2, |n| n.get()) as u64;
     let begun = Instant::now();
     println!("seed {seed}, {shares} threads, {} of {} parts", parts.len(), SUITES.len());
-    let counts = Mutex::new(Counts::default());
+    let mut counts = Counts::default();
     for suite in parts {
-        run(suite, seed, shares, &counts);
+        counts.add(&run(suite, seed, shares));
     }
-    let counts = counts.into_inner().expect("no thread fails with it");
     counts.print();
     println!("{} comparisons, no difference, {:.1} s", counts.total(), begun.elapsed().as_secs_f64());
 }

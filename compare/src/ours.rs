@@ -112,14 +112,15 @@ struct Sent {
 }
 
 #[repr(C)]
-struct Heard {
+pub struct Heard {
     number: u8,
     reported: bool,
     random: bool,
     sender: [u8; 6],
     start: usize,
     len: usize,
-    count: usize,
+    pub count: usize,
+    taken: usize,
     channel: u8,
 }
 
@@ -132,6 +133,7 @@ struct Listened {
     start: usize,
     len: usize,
     count: usize,
+    taken: usize,
     channel: u8,
     next: u32,
 }
@@ -157,6 +159,7 @@ extern "C" {
     fn board_build(which: u8, own: *const [u8; 6], random: bool, records: In, records_len: usize) -> Frame;
     fn board_build_directed(own: *const [u8; 6], random: bool, other: *const [u8; 6], other_random: bool) -> Frame;
     fn board_area(s: In, s_len: usize) -> Got;
+    fn board_padded_area(s: In, s_len: usize) -> Got;
     fn board_record(s: In, s_len: usize, at: usize) -> Structure;
     fn board_known(s: In, s_len: usize, at: usize) -> Structure;
     fn board_write(
@@ -221,6 +224,12 @@ pub fn decode(header: &[u8], payload: &[u8]) -> Packet {
     unsafe { board_decode(header.as_ptr(), header.len(), payload.as_ptr(), payload.len()) }
 }
 
+/// What a new scanner that reports all senders says of a packet with a good CRC.
+pub fn scanned(header: &[u8], payload: &[u8]) -> Heard {
+    let list: [u8; 0] = [];
+    unsafe { board_scan(false, list.as_ptr(), 0, 0, header.as_ptr(), header.len(), payload.as_ptr(), payload.len(), true) }
+}
+
 fn got(g: Got, out: &mut Vec<u8>) {
     out.push(g.number);
     sizes([g.first, g.second], out);
@@ -249,6 +258,13 @@ fn structures(s: &[u8], read: unsafe extern "C" fn(In, usize, usize) -> Structur
         }
         at = r.next;
     }
+}
+
+/// The records of an area written again, into a new buffer.
+fn rewrite(area: &[u8], space: u64, out: &mut Vec<u8>) {
+    let mut buffer = lent(space);
+    got(unsafe { board_rewrite(area.as_ptr(), area.len(), buffer.as_mut_ptr(), space as usize) }, out);
+    out.extend(buffer);
 }
 
 /// A PDU, also a refused one; the fields that its type does not have are to be blank.
@@ -309,10 +325,13 @@ pub fn answer(r: &Request, out: &mut Vec<u8>) {
                 got(g, out);
                 out.extend(buffer);
             }
-            Kind::Rewrite => {
-                let mut buffer = lent(n[0]);
-                got(board_rewrite(p[0].as_ptr(), p[0].len(), buffer.as_mut_ptr(), n[0] as usize), out);
-                out.extend(buffer);
+            Kind::Rewrite => rewrite(&p[0], n[0], out),
+            Kind::Padded => {
+                let g = board_padded_area(p[0].as_ptr(), p[0].len());
+                got(g, out);
+                if g.number == 0 {
+                    rewrite(p[0].get(..g.second).unwrap_or(&p[0]), n[0], out);
+                }
             }
             Kind::Flags => {
                 let f = board_flags(n[0] as u8);
@@ -375,7 +394,7 @@ pub fn answer(r: &Request, out: &mut Vec<u8>) {
                 );
                 out.extend([h.number, h.reported as u8, h.random as u8]);
                 out.extend(h.sender);
-                sizes([h.start, h.len, h.count], out);
+                sizes([h.start, h.len, h.count, h.taken], out);
                 out.push(h.channel);
             }
             Kind::Scanner => got(board_scanner(n[0] as u32, n[1] as u32, n[2] as u8), out),
@@ -429,7 +448,7 @@ fn scanner_calls(filters: bool, list: &[u8], entries: &[u8], out: &mut Vec<u8>) 
         };
         out.extend([l.number, l.reported as u8, l.random as u8]);
         out.extend(l.sender);
-        sizes([l.start, l.len, l.count], out);
+        sizes([l.start, l.len, l.count, l.taken], out);
         out.push(l.channel);
         out.extend(l.next.to_le_bytes());
     }

@@ -28,6 +28,8 @@ pub enum Kind {
     Write,
     /// space | area: the records written again
     Rewrite,
+    /// space | area: the number of records as the hub reads it and the octets that they took, and these octets written again
+    Padded,
     /// octet: what Flags say
     Flags,
     /// | octets: whether they are UTF-8
@@ -94,9 +96,9 @@ pub enum Kind {
     CrcFlag,
 }
 
-pub const KINDS: [Kind; 44] = [
+pub const KINDS: [Kind; 45] = [
     Kind::Decode, Kind::Header, Kind::SetHeader, Kind::NewHeader, Kind::Build, Kind::BuildDirected, Kind::Whitelist,
-    Kind::Area, Kind::Records, Kind::Known, Kind::Write, Kind::Rewrite, Kind::Flags, Kind::Utf8, Kind::Uuid16,
+    Kind::Area, Kind::Records, Kind::Known, Kind::Write, Kind::Rewrite, Kind::Padded, Kind::Flags, Kind::Utf8, Kind::Uuid16,
     Kind::Uuid32, Kind::UuidList, Kind::Later, Kind::Since, Kind::AdvertisingChannel, Kind::DataChannel, Kind::Map,
     Kind::Events, Kind::Beacon, Kind::Scan, Kind::Scanner, Kind::ReadPdu,
     Kind::ReadHeader, Kind::WriteHeader, Kind::ReadAt, Kind::WriteAt, Kind::ReadUuid, Kind::WriteUuid, Kind::MayScan,

@@ -1,5 +1,5 @@
 //! Packets for a scanner, with filter lists; lists of calls on a scanner.
-use crate::inputs::{count, damage, filter, length, likely_count, neighbour, packet, payload, write_over};
+use crate::inputs::{area, count, damage, filter, length, likely_count, neighbour, packet, payload, spoil, write_over};
 use crate::request::{Kind, Request, CALL};
 use crate::rng::Rng;
 
@@ -29,6 +29,33 @@ impl Heard {
 fn beacon(rng: &mut Rng) -> Heard {
     let n = 6 + if rng.bit() == 0 { rng.below(32) } else { rng.below(58) };
     let p = payload(rng, 2, if n == 7 { 6 } else { n });
+    listed(rng, p)
+}
+
+/// The same with zeros behind its records, a quarter of them spoiled, and sometimes damaged.
+fn padded(rng: &mut Rng) -> Heard {
+    let all = match rng.below(4) {
+        0 => 31,
+        1 => 57,
+        _ => 1 + rng.below(57),
+    };
+    let n = rng.below(all);
+    let mut a = if n == 1 { Vec::new() } else { area(rng, n) };
+    let taken = a.len();
+    a.resize(all, 0);
+    match rng.below(16) {
+        0..=3 => spoil(rng, &mut a, taken),
+        4 => damage(rng, &mut a),
+        _ => {}
+    }
+    // Spoiled and damaged it may have an octet more.
+    a.truncate(57);
+    let p = [rng.octets(6), a].concat();
+    listed(rng, p)
+}
+
+/// A beacon of this payload.
+fn listed(rng: &mut Rng, p: Vec<u8>) -> Heard {
     let header = vec![2 | (rng.octet() & 0xF0), count(rng, p.len())];
     let mut list = Vec::new();
     for _ in 0..rng.below(3) {
@@ -42,7 +69,7 @@ fn beacon(rng: &mut Rng) -> Heard {
 
 /// A beacon of a listed sender with one thing off.
 fn near_miss(rng: &mut Rng) -> Heard {
-    let mut h = beacon(rng);
+    let mut h = if rng.one_in(3) { padded(rng) } else { beacon(rng) };
     let entry = h.list.len() - 7;
     match rng.below(10) {
         0 => h.header[0] = (h.header[0] & 0xF0) | neighbour(rng, 2),
@@ -83,9 +110,10 @@ fn any(rng: &mut Rng) -> Heard {
 }
 
 pub fn heard(rng: &mut Rng) -> Heard {
-    match rng.below(4) {
+    match rng.below(5) {
         0 => beacon(rng),
-        1 => near_miss(rng),
+        1 => padded(rng),
+        2 => near_miss(rng),
         _ => any(rng),
     }
 }

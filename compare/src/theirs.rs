@@ -2,6 +2,7 @@
 mod basics;
 
 use crate::ours::{pattern, BEHIND};
+use crate::padding::{self, Behind};
 use crate::request::{last_asked, Kind, Request, CALL};
 use rubble::beacon::{Beacon, BeaconScanner, ScanCallback};
 use rubble::bytes::{ByteReader, ByteWriter, BytesOr, FromBytes, ToBytes};
@@ -22,7 +23,7 @@ use std::cell::RefCell;
 use std::panic::{catch_unwind, AssertUnwindSafe};
 
 /// Document 01's numbers of the errors.
-fn number(e: Error) -> u8 {
+pub(crate) fn number(e: Error) -> u8 {
     match e {
         Error::Eof => 1,
         Error::InvalidLength => 2,
@@ -628,13 +629,42 @@ fn listens(cmd: Cmd) -> (u8, NextUpdate) {
     }
 }
 
-/// What a scanner said of a packet; without a report of the channel alone.
-fn heard(report: Option<Report>, payload: &[u8], channel: u8, out: &mut Vec<u8>) {
+/// A packet as rubble's scanner can read it. A beacon with zeros behind its records is cut there, and its header counts what is left; any other packet is as
+/// it came.
+fn unpadded(header: Header, payload: &[u8]) -> (Header, &[u8]) {
+    let counted = header.type_().is_beacon() && header.payload_length() as usize == payload.len();
+    let Some(area) = payload.get(6..).filter(|_| counted) else { return (header, payload) };
+    let read = padding::read(area);
+    if read.behind != Behind::Zeros {
+        return (header, payload);
+    }
+    let [first, second] = header.to_u16().to_le_bytes();
+    let kept = 6 + read.taken;
+    (Header::parse(&[first, (second & 0xC0) | kept as u8]), &payload[..kept])
+}
+
+/// What rubble's scanner says of a packet, which is cut first: the command, the report, and the octets of the area that were read. Of a packet that is
+/// cut it reports nothing as it came.
+fn hears<F: AddressFilter>(
+    scanner: &mut BeaconScanner<Reports<'_>, F>, reports: &RefCell<Option<Report>>, header: Header, payload: &[u8], crc_ok: bool,
+) -> (Cmd, Option<Report>, usize) {
+    let (cut, kept) = unpadded(header, payload);
+    if kept.len() < payload.len() {
+        let _ = scanner.process_adv_packet(header, payload, crc_ok);
+        assert!(reports.take().is_none());
+    }
+    let cmd = scanner.process_adv_packet(cut, kept, crc_ok);
+    (cmd, reports.take(), kept.len().saturating_sub(6))
+}
+
+/// What a scanner said of a packet; without a report of the channel alone. The area is the whole rest of the payload, and all of it was taken but for zeros
+/// that were cut.
+fn heard(report: Option<Report>, payload: &[u8], taken: usize, channel: u8, out: &mut Vec<u8>) {
     match report {
         Some(Report(sender, count)) => {
             out.extend([0, 1, sender.is_random() as u8]);
             out.extend(sender.raw());
-            sizes([6, payload.len() - 6, count], out);
+            sizes([6, payload.len() - 6, count, taken], out);
             out.push(channel);
         }
         None => unheard(0, channel, out),
@@ -645,7 +675,7 @@ fn heard(report: Option<Report>, payload: &[u8], channel: u8, out: &mut Vec<u8>)
 fn unheard(number: u8, channel: u8, out: &mut Vec<u8>) {
     out.push(number);
     out.extend([0; 8]);
-    sizes([0; 3], out);
+    sizes([0; 4], out);
     out.push(channel);
 }
 
@@ -661,9 +691,10 @@ fn scan_with<F: AddressFilter>(filter: F, r: &Request, out: &mut Vec<u8>) {
         Ok(header) => header,
         Err(n) => return unheard(n, 0, out),
     };
-    let (channel, next) = listens(scanner.process_adv_packet(header, &r.parts[2], r.numbers[2] == 1));
+    let (cmd, report, taken) = hears(&mut scanner, &reports, header, &r.parts[2], r.numbers[2] == 1);
+    let (channel, next) = listens(cmd);
     assert!(matches!(next, NextUpdate::Keep));
-    heard(reports.take(), &r.parts[2], channel, out);
+    heard(report, &r.parts[2], taken, channel, out);
 }
 
 /// A list that is no list of addresses, which rubble's types cannot hold, is refused with 3 (document 01).
@@ -689,16 +720,15 @@ fn scanner_calls_with<F: AddressFilter>(filter: F, bad: Option<u8>, entries: &[u
     let mut scanner = BeaconScanner::with_filter(Reports(&reports), filter);
     for c in entries.chunks_exact(CALL).map(call) {
         let time = Instant::from_raw_micros(c.time);
-        let cmd = match c.kind {
-            0 => scanner.configure(time, Duration::from_micros(c.interval)),
-            1 => scanner.timer_update(time),
-            _ => scanner.process_adv_packet(c.header, c.octets, c.crc_ok),
+        let (cmd, report, taken) = match c.kind {
+            0 => (scanner.configure(time, Duration::from_micros(c.interval)), None, 0),
+            1 => (scanner.timer_update(time), None, 0),
+            _ => hears(&mut scanner, &reports, c.header, c.octets, c.crc_ok),
         };
         let (channel, next) = listens(cmd);
-        let report = reports.take();
         match (c.kind, bad) {
             (2.., Some(n)) => unheard(n, channel, out),
-            _ => heard(report, c.octets, channel, out),
+            _ => heard(report, c.octets, taken, channel, out),
         }
         let next = match next {
             NextUpdate::At(next) => next.raw_micros(),
@@ -745,6 +775,46 @@ fn build(which: u64, own: DeviceAddress, area: &[u8]) -> Result<PduBuf, u8> {
         _ => PduBuf::scannable_undirected(own, &records),
     }
     .map_err(number)
+}
+
+/// Records written again, into a new buffer.
+fn rewritten(records: Result<Vec<AdStructure<'_>>, u8>, space: u64, out: &mut Vec<u8>) {
+    let mut buffer = pattern(space as usize);
+    let mut writer = ByteWriter::new(&mut buffer);
+    let done = records.and_then(|records| records[..].to_bytes(&mut writer).map_err(number));
+    match done {
+        Ok(()) => {
+            let left = writer.space_left() as u64;
+            got(0, space - left, 0, out)
+        }
+        Err(refused) => {
+            got(refused, 0, 0, out);
+            buffer = pattern(space as usize);
+        }
+    }
+    whole(&buffer, out);
+}
+
+/// An area as the hub reads it. rubble's reading of the whole area is the same where no zero length stands at a record's place, and 2 where one does. What
+/// rubble writes of the records is the octets before the padding, save undefined Flags bits.
+fn padded(area: &[u8], space: u64, out: &mut Vec<u8>) {
+    let read = padding::read(area);
+    let strict = list(area).map(|records| records.len());
+    assert!(match read.behind {
+        Behind::Nothing => strict == Ok(read.records.len()),
+        Behind::Bad(n) => strict == Err(n),
+        Behind::Zeros | Behind::Another => strict == Err(2),
+    });
+    match read.behind.number() {
+        0 => {
+            got(0, read.records.len() as u64, read.taken as u64, out);
+            let at = out.len();
+            rewritten(Ok(read.records), space, out);
+            assert_eq!(out[at] == 0, space >= read.taken as u64);
+            assert!(out[at] != 0 || out[at + 17..].starts_with(&padding::cleared(&area[..read.taken])));
+        }
+        refused => got(refused, 0, 0, out),
+    }
 }
 
 fn set(mut header: Header, n: &[u64], out: &mut Vec<u8>) {
@@ -819,22 +889,8 @@ pub fn answer(r: &Request, out: &mut Vec<u8>) {
         Kind::Records => structures(&p[0], false, out),
         Kind::Known => structures(&p[0], true, out),
         Kind::Write => write(n, &p[0], out),
-        Kind::Rewrite => {
-            let mut buffer = pattern(n[0] as usize);
-            let mut writer = ByteWriter::new(&mut buffer);
-            let done = list(&p[0]).and_then(|records| records[..].to_bytes(&mut writer).map_err(number));
-            match done {
-                Ok(()) => {
-                    let left = writer.space_left() as u64;
-                    got(0, n[0] - left, 0, out)
-                }
-                Err(refused) => {
-                    got(refused, 0, 0, out);
-                    buffer = pattern(n[0] as usize);
-                }
-            }
-            whole(&buffer, out);
-        }
+        Kind::Rewrite => rewritten(list(&p[0]), n[0], out),
+        Kind::Padded => padded(&p[0], n[0], out),
         Kind::Flags => {
             let f = Flags::from_bits_truncate(n[0] as u8);
             out.push(f.to_u8());
@@ -964,4 +1020,16 @@ pub fn decode_only(header: &[u8], payload: &[u8]) -> usize {
         }
         Err(_) => usize::MAX,
     }
+}
+
+/// For the benchmark: the number of records of a packet that a new scanner reports.
+#[inline(never)]
+pub fn scanned(header: &[u8], payload: &[u8]) -> usize {
+    let reports = RefCell::new(None);
+    let mut scanner = BeaconScanner::new(Reports(&reports));
+    let cmd = scanner.configure(Instant::from_raw_micros(0), Duration::from_micros(0));
+    std::hint::black_box(&cmd);
+    let cmd = scanner.process_adv_packet(Header::parse(header), payload, true);
+    std::hint::black_box(&cmd);
+    reports.take().map_or(usize::MAX, |report: Report| report.1)
 }

@@ -1,6 +1,9 @@
 //! Times both decoders on one million payloads that rubble accepts, the seven types in turn, made beforehand from a fixed seed. Both sides are
 //! called from here, in alternating rounds. Our answer has the number of records; rubble's area is walked for it, and timed without that too.
 //!
+//! Likewise both scanners, a new one for each of one million beacons that fill their area: ours as `board_scan` answers, rubble's with a callback that counts
+//! the records. rubble reports none that has zeros behind its records, so ours alone is timed on the same beacons with zeros up to 37 octets.
+//!
 //! Then the bit stream of packets of 42 octets, ours beside the same by tables (`tables.rs`); rubble has none.
 use compare::inputs::payload;
 use compare::rng::Rng;
@@ -17,11 +20,23 @@ struct Packets {
     places: Vec<([u8; 2], u32, u8)>,
 }
 
-fn packets() -> Packets {
+impl Packets {
+    fn push(&mut self, header: [u8; 2], payload: &[u8]) {
+        self.places.push((header, self.octets.len() as u32, payload.len() as u8));
+        self.octets.extend(payload);
+    }
+
+    fn payload(&self, start: u32, len: u8) -> &[u8] {
+        &self.octets[start as usize..start as usize + len as usize]
+    }
+}
+
+/// Of one type, or of all in turn.
+fn packets(only: Option<u8>) -> Packets {
     let mut rng = Rng(10);
     let mut found = Packets { octets: Vec::new(), places: Vec::new() };
     while found.places.len() < PAYLOADS {
-        let ty = (found.places.len() % 7) as u8;
+        let ty = only.unwrap_or((found.places.len() % 7) as u8);
         let n = match ty {
             1 | 3 => 12,
             5 => 34,
@@ -30,9 +45,19 @@ fn packets() -> Packets {
         let payload = payload(&mut rng, ty, n);
         let header = [ty | (rng.octet() & 0xC0), n as u8];
         if theirs::decode(&header, &payload) != usize::MAX {
-            found.places.push((header, found.octets.len() as u32, n as u8));
-            found.octets.extend(payload);
+            found.push(header, &payload);
         }
+    }
+    found
+}
+
+/// The same beacons with zeros up to the longest payload.
+fn padded(beacons: &Packets) -> Packets {
+    let mut found = Packets { octets: Vec::new(), places: Vec::new() };
+    for (header, start, len) in &beacons.places {
+        let mut payload = beacons.payload(*start, *len).to_vec();
+        payload.resize(37, 0);
+        found.push([header[0], 37], &payload);
     }
     found
 }
@@ -41,8 +66,7 @@ fn time(packets: &Packets, decode: impl Fn(&[u8], &[u8]) -> usize) -> (f64, usiz
     let begun = Instant::now();
     let mut sum = 0;
     for (header, start, len) in &packets.places {
-        let start = *start as usize;
-        sum += black_box(decode(black_box(header), &packets.octets[start..start + *len as usize]));
+        sum += black_box(decode(black_box(header), packets.payload(*start, *len)));
     }
     (begun.elapsed().as_secs_f64(), sum)
 }
@@ -56,7 +80,7 @@ fn middle<const N: usize>(times: [Vec<f64>; N]) -> [(f64, f64); N] {
 }
 
 fn decoders(rounds: usize) {
-    let packets = packets();
+    let packets = packets(None);
     let mut times = [Vec::new(), Vec::new(), Vec::new()];
     for _ in 0..rounds {
         let (a, ours) = time(&packets, |h, p| {
@@ -77,6 +101,32 @@ fn decoders(rounds: usize) {
     println!("rubble, records walked    {:7.2} ({:.2})", b.0 * 1e3, b.1 * 1e3);
     println!("rubble, decoded only      {:7.2} ({:.2})", c.0 * 1e3, c.1 * 1e3);
     println!("ratio to rubble with the walk {:.2} ({:.2}), without {:.2} ({:.2})", a.0 / b.0, a.1 / b.1, a.0 / c.0, a.1 / c.1);
+}
+
+fn scanners(rounds: usize) {
+    let beacons = packets(Some(2));
+    let filled = padded(&beacons);
+    let scan = |h: &[u8], p: &[u8]| {
+        let heard = ours::scanned(h, p);
+        black_box(&heard);
+        heard.count
+    };
+    let mut times = [Vec::new(), Vec::new(), Vec::new()];
+    for _ in 0..rounds {
+        let (a, ours) = time(&beacons, scan);
+        let (b, theirs) = time(&beacons, theirs::scanned);
+        let (c, with_zeros) = time(&filled, scan);
+        assert!(ours == theirs && ours == with_zeros, "the scanners report {ours}, {theirs} and {with_zeros} records");
+        times[0].push(a);
+        times[1].push(b);
+        times[2].push(c);
+    }
+    let [a, b, c] = middle(times);
+    println!("\nscanners, {PAYLOADS} beacons, {} octets, {rounds} rounds; median (least) in ms", beacons.octets.len());
+    println!("ours                      {:7.2} ({:.2})", a.0 * 1e3, a.1 * 1e3);
+    println!("rubble, records counted   {:7.2} ({:.2})", b.0 * 1e3, b.1 * 1e3);
+    println!("ratio {:.2} ({:.2})", a.0 / b.0, a.1 / b.1);
+    println!("ours, zeros to 37 octets  {:7.2} ({:.2})", c.0 * 1e3, c.1 * 1e3);
 }
 
 const LONGEST: usize = 42;
@@ -155,5 +205,6 @@ fn bit_stream(rounds: usize) {
 fn main() {
     let rounds = std::env::args().nth(1).map_or(15, |text| text.parse().expect("rounds are a number"));
     decoders(rounds);
+    scanners(rounds);
     bit_stream(rounds);
 }

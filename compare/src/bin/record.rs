@@ -1,7 +1,8 @@
 //! Prints requests for `crates/replay` with rubble's answers, a line for each: first the request, then its answer. From each suite the first
-//! requests that show a refusal, a type, a builder, a kind of record or a call's answer are taken.
+//! requests that show a refusal, a type, a builder, a kind of record, a call's answer or what stands behind an area's records are taken.
 use compare::made::{self, Share};
 use compare::ours::{pattern, BEHIND};
+use compare::padding::{self, Behind};
 use compare::request::{Kind, Request, CALL};
 use compare::theirs;
 use std::collections::HashMap;
@@ -151,16 +152,45 @@ fn beacon(r: &Request) -> Vec<Line> {
     line('k', (a[0], 0), &parts, text)
 }
 
+/// What stands behind the records of an area: nothing, zeros, another octet behind a zero length, or a bad record by its number.
+fn behind(area: &[u8]) -> u8 {
+    match padding::read(area).behind {
+        Behind::Nothing => 0,
+        Behind::Zeros => 1,
+        Behind::Another => 2,
+        Behind::Bad(number) => 2 + number,
+    }
+}
+
+/// The number of records and the octets that they took, which stand so in an answer.
+fn counts(a: &[u8]) -> String {
+    format!(" records {} taken {}", word(a, 0), word(a, 8))
+}
+
+fn padded(r: &Request) -> Vec<Line> {
+    let a = rubble(r);
+    let room = r.numbers[0] as usize;
+    let (number, text) = match a[0] {
+        0 => {
+            let (number, text) = written(&a[17..]);
+            (number, counts(&a[1..]) + &text)
+        }
+        n => (n, format!(" refused {n}{}", octets(&vec![0xFF; room]))),
+    };
+    line('z', (number, behind(&r.parts[0])), &[&[room as u8], &r.parts[0]], text)
+}
+
 fn scan(r: &Request) -> Vec<Line> {
     if r.numbers[0] == 1 || r.numbers[1] != 0 || r.parts[1].len() != 2 {
         return Vec::new();
     }
     let a = rubble(r);
     let text = match a[1] {
-        1 => address(a[2] == 1, &a[3..9]) + &octets(&r.parts[2][6..]),
+        1 => address(a[2] == 1, &a[3..9]) + &counts(&a[25..]) + &octets(&r.parts[2][6..]),
         _ => " nothing".to_string(),
     };
-    line('c', (0, a[1]), &[&[r.numbers[2] as u8], &r.parts[1], &r.parts[2]], text)
+    let shows = r.parts[2].get(6..).map_or(0, behind).min(2);
+    line('c', (shows, a[1]), &[&[r.numbers[2] as u8], &r.parts[1], &r.parts[2]], text)
 }
 
 /// A list of calls: a new device, and each call. A tick while connected is left out of rubble.
@@ -216,6 +246,7 @@ fn lines(r: &Request) -> Vec<Line> {
             let (number, text) = written(&rubble(r));
             line('r', (number, 0), &[&[r.numbers[0] as u8], &r.parts[0]], text)
         }
+        Kind::Padded if r.numbers[0] as usize <= ROOM => padded(r),
         Kind::Write => write(r),
         Kind::Build => build(r),
         Kind::Map => map(r),
@@ -258,9 +289,10 @@ fn main() {
     };
     made::packets(&share, 60_000, &mut |r| each(r, 24));
     made::areas(&share, 30, &mut |r| each(r, 24));
+    padding::made::areas(&share, 3, &mut |r| each(r, 18));
     made::writers(&share, 2, &mut |r| each(r, 6));
     made::scans(&share, 2_000, &mut |r| each(r, 24));
-    made::lists(&share, 8_000, &mut |r| each(r, 24));
+    made::lists(&share, 8_000, &mut |r| each(r, 30));
     for mine in [0, 5, 37, 64, 96] {
         made::small_things(&Share { mine, shares: 97, seed }, &mut |r| each(r, 48));
     }
