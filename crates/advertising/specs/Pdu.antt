@@ -22,6 +22,7 @@
 --   decodeBy reading h p      == the answer for a header and a payload, where records are read so
 --   decodeOf h p              == the same where they are read strictly; wellFormed h p: it is no refusal
 --   decodedAt found s         == the same for a header that was found in s, or not, and what follows it
+--   asHub s                   == an area as the hub reads it, the octets taken left out
 --   heardOf h p               == the answer where records are read as the hub does: zeros may follow them (document 02, Note 3)
 --   hasArea h p               == there are records to read: the type has them, the length agrees and there is an address (for two inner contracts)
 --   octetsTaken d p           == how many octets the records take of the part d of a payload
