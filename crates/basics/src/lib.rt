@@ -1,9 +1,10 @@
 // Functions to link in the form of `exports`, the smaller parts: octets, UUIDs, headers and PDUs at a position, instants,
-// channels, maps and hops, records and filters.
+// channels, maps and hops, records, names and filters.
 pub mod areas;
 pub mod at;
 pub mod filters;
 pub mod leaves;
+pub mod name;
 pub mod reads;
 pub mod uuids;
 pub mod writes;

@@ -14,7 +14,7 @@ use Rattle.records.specs.Accepted.{Good, AllGood, Tiling, Bad, FirstBad}
 use Rattle.records.proofs.Accepted.{Class, class}
 use Rattle.records.proofs.Cuts.{here, Step, stepped, ended}
 
-flatten-append : (rs ts : List (List ℕ)) → flatten (rs ++ ts) ≡ flatten rs ++ flatten ts
+pub flatten-append : (rs ts : List (List ℕ)) → flatten (rs ++ ts) ≡ flatten rs ++ flatten ts
 unfolding flatten
 flatten-append [] ts = refl
 flatten-append (r ∷ rs) ts = ap (λ (l : List ℕ). r ++ l) (flatten-append rs ts) ∙ sym (append-assoc r (flatten rs) (flatten ts))

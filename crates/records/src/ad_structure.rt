@@ -582,7 +582,7 @@ impl Flags {
 }
 
 // The type octets that are read or written here (Assigned Numbers, 2.3).
-struct Type {}
+pub struct Type {}
 
 impl Type {
     const FLAGS: u8 = 0x01;
@@ -599,9 +599,9 @@ impl Type {
 
     const COMPLETE_LIST_OF_128BIT_SERVICE_UUIDS: u8 = 0x07;
 
-    const SHORTENED_LOCAL_NAME: u8 = 0x08;
+    pub const SHORTENED_LOCAL_NAME: u8 = 0x08;
 
-    const COMPLETE_LOCAL_NAME: u8 = 0x09;
+    pub const COMPLETE_LOCAL_NAME: u8 = 0x09;
 
     const SERVICE_DATA_16BIT_UUID: u8 = 0x16;
 

@@ -46,7 +46,8 @@ fn is_request(letter: u8) -> bool {
     match letter {
         b'a'..=b'e' => true,
         b'g'..=b'i' => true,
-        b'k' | b'm' | b'n' | b'p' => true,
+        b'k'..=b'n' => true,
+        b'p' => true,
         b'w'..=b'z' => true,
         b'r'..=b't' => true,
         _ => false,
@@ -56,7 +57,7 @@ fn is_request(letter: u8) -> bool {
 // How many octets a request has at least.
 fn least(letter: u8) -> usize {
     match letter {
-        b'i' | b'r' | b't' | b'z' => 1,
+        b'i' | b'l' | b'r' | b't' | b'z' => 1,
         b'c' => 3,
         b'w' => 4,
         b'g' | b'm' => 5,

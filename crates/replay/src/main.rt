@@ -4,6 +4,7 @@
 //     a area                             an area: how many records, or why not
 //     r room, area                       an area rewritten into `room` octets of FF
 //     z room, area                       an area read as the hub does: records and octets that they took, and these octets rewritten into `room` octets of FF
+//     l size, areas                      the name in an advertisement of `size` octets and in a reply, the rest: the area that holds it, where it begins and ends, its octets
 //     w kind, value 2, room, data        a record written at 0 of `room` octets of FF; kinds 1 to 9 in the order of `AdStructure`, 16 more for a complete list
 //     d header 2, payload                a PDU read; its header may be short
 //     b type, address 7, records         a PDU built: of type 0, 2, 4 or 6, any other is a discoverable one. An address is its kind and six octets
@@ -71,6 +72,9 @@ use lines::Fault;
 use lines::Line;
 use lines::ended;
 use lines::read_on;
+use names::NamePlace;
+use names::find_name;
+use names::name;
 use octets::bytes::ByteWriter;
 use octets::bytes::Written;
 use octets::bytes::u16_from_le_bytes;
@@ -232,6 +236,37 @@ fn padded(out: &mut Page, at: usize, s: &[u8], lent: &mut [u8]) -> usize {
         }
         PaddedArea::Refused(e) => refused(out, at, e),
     }
+}
+
+// From where to where a name goes in its area, and its octets.
+fn lies(out: &mut Page, at: usize, start: usize, len: usize, name: &[u8]) -> usize {
+    let mut next = labelled(out, at, Word::At, start as u64);
+    next = labelled(
+        out,
+        next,
+        Word::To,
+        wrapping_add_u64(start as u64, len as u64),
+    );
+    octets(out, next, name)
+}
+
+fn named(out: &mut Page, at: usize, advertisement: &[u8], reply: &[u8]) -> usize {
+    match find_name(advertisement, reply) {
+        NamePlace::InReply { start, len } => {
+            let next = text(out, at, b" reply");
+            lies(out, next, start, len, name(advertisement, reply))
+        }
+        NamePlace::InAdvertisement { start, len } => {
+            let next = text(out, at, b" advertisement");
+            lies(out, next, start, len, name(advertisement, reply))
+        }
+        NamePlace::Refused(e) => refused(out, at, e),
+    }
+}
+
+// An advertisement of so many octets, and the reply behind it.
+fn two_areas(out: &mut Page, at: usize, size: usize, areas: &[u8]) -> usize {
+    named(out, at, start(areas, size), rest(areas, size))
 }
 
 // A record of a kind, whose data are octets 4 on of the request.
@@ -578,6 +613,7 @@ fn work_out(out: &mut Page, at: usize, letter: u8, s: &[u8]) -> usize {
         b'g' => set_header(out, at, s),
         b'h' => hop(out, at, s),
         b'i' => data_channel(out, at, s),
+        b'l' => two_areas(out, at, octet(s, 0) as usize, rest(s, 1)),
         b'm' => map(out, at, s),
         _ => at,
     }

@@ -1,0 +1,4 @@
+pub mod Search
+pub mod Read
+pub mod Pieces
+pub mod Names

@@ -1,0 +1,92 @@
+-- How the search for a name goes on from record to record. Assumes nothing.
+use mathlib.Core.Bool.{Bool, false, cond}
+use mathlib.Core.List.{List, [], _∷_}
+use mathlib.Core.Path.{_≡_, refl, sym, ap, subst, _∙_}
+use Prim.Native.Nat.{ℕ, suc, _+_, _-_, _≤_}
+use native.Mathlib.Omega.{arith}
+use lib.ListN.{length, getD, take, drop}
+use lib.Seq.{getD-take, getD-drop, drop-drop}
+use borrow.Author.Tests.{ne-eqb, eq-eqb}
+use Rattle.octets.specs.Bytes.{part}
+use Rattle.octets.specs.declared.error.Error.the-variants.{NoName}
+use Rattle.octets.proofs.Places.{drop-take}
+use Rattle.utf8.specs.Utf8.{isUtf8}
+use Rattle.records.specs.Accepted.{Good}
+use Rattle.records.specs.Area.{cut, records}
+use Rattle.records.specs.Record.{recordRead, first}
+use Rattle.records.specs.Types.{shortenedNameType, completeNameType}
+use Rattle.records.specs.declared.ad_structure.AdStructure.{AdStructure}
+use Rattle.records.specs.declared.ad_structure.Read.the-variants.{Record, End}
+use Rattle.records.proofs.Accepted.{Class, class}
+use Rattle.records.proofs.Cuts.{here, Step, stepped, ended}
+use Rattle.names.specs.Name.{isName, firstName, nameIn, inReply, inAdvertisement, chosen}
+use Rattle.names.specs.declared.Found.the-variants.{At, Nothing}
+use Rattle.names.specs.declared.NamePlace.the-variants.{InReply, InAdvertisement, Refused}
+
+-- a record that is read has a length and a type
+pub two-more : (s : List ℕ) (at : ℕ) {a : AdStructure} {next : ℕ} → here s at ≡ Record a next → at + 2 ≤ next
+unfolding here recordRead first
+two-more s at {a} {next} e = go (drop at s) refl
+  where
+    go : (l : List ℕ) → drop at s ≡ l → at + 2 ≤ next
+    go [] is = absurd (let none : End ≡ Record a next = ap (λ (l : List ℕ). recordRead (first l) at) (sym is) ∙ e in let z : _≡_ {A = ℕ} 0 1 = cc in omega arith)
+    go (n ∷ rest) is =
+        let good : Good n (take n rest) = subst (Class n rest) (ap (λ (l : List ℕ). recordRead (first l) at) (sym is) ∙ e) (class n rest at) in
+        let size : length (first (drop at s)) ≡ suc (length (take n rest)) = ap (λ (l : List ℕ). length (first l)) is in
+        omega (arith, stepped s at e .ends, good .whole, good .some)
+
+-- it is the name, or the search goes on behind it
+pub goes-on : (s : List ℕ) (ty at : ℕ) {a : AdStructure} {next : ℕ} → here s at ≡ Record a next
+    → firstName ty (records (drop at s)) at ≡ cond (isName ty (part (next - at) s at)) (At (at + 2) (next - at - 2)) (firstName ty (records (drop next s)) next)
+unfolding firstName
+goes-on s ty at {a} {next} e =
+    let step : Step s at next = stepped s at e in
+    let long : length (first (drop at s)) ≡ next - at = omega (arith, step .ends) in
+    rw (step .cuts, step .ends, long, step .octets)
+
+-- behind the last record there is none
+pub at-end : (s : List ℕ) (ty at : ℕ) → drop at s ≡ [] → firstName ty (records (drop at s)) at ≡ Nothing
+unfolding firstName cut
+at-end s ty at none = rw none
+
+-- ---- the record from `at` up to `next`
+module _ (s : List ℕ) (ty at next : ℕ) (two : at + 2 ≤ next) where
+  type-octet : getD (part (next - at) s at) 1 0 ≡ getD s (at + 1) 0
+  type-octet = getD-take (next - at) (drop at s) 1 0 (omega arith) ∙ getD-drop at s 1 0
+
+  data-octets : drop 2 (part (next - at) s at) ≡ part (next - (at + 2)) s (at + 2)
+  data-octets =
+      let left : next - at - 2 ≡ next - (at + 2) = omega arith in
+      drop-take 2 (next - at) (drop at s) ∙ rw (drop-drop 2 at s, left)
+
+  pub other-type : (getD s (at + 1) 0 ≡ ty → ⊥) → false ≡ isName ty (part (next - at) s at)
+  unfolding isName
+  other-type other = rw (type-octet, ne-eqb (getD s (at + 1) 0) ty other)
+
+  pub of-type : {b : Bool} → getD s (at + 1) 0 ≡ ty → b ≡ isUtf8 (part (next - (at + 2)) s (at + 2)) → b ≡ isName ty (part (next - at) s at)
+  unfolding isName
+  of-type is e = e ∙ rw (type-octet, eq-eqb (getD s (at + 1) 0) ty is, data-octets)
+
+-- ---- the four searches, up to the one that finds something
+module _ (a r : List ℕ) {start len : ℕ} where
+  pub in-first : nameIn completeNameType r ≡ At start len → InReply start len ≡ chosen a r
+  unfolding chosen inReply
+  in-first one = rw one
+
+  pub in-second : nameIn completeNameType r ≡ Nothing → nameIn completeNameType a ≡ At start len → InAdvertisement start len ≡ chosen a r
+  unfolding chosen inReply inAdvertisement
+  in-second one two = rw (one, two)
+
+  pub in-third : nameIn completeNameType r ≡ Nothing → nameIn completeNameType a ≡ Nothing → nameIn shortenedNameType r ≡ At start len → InReply start len ≡ chosen a r
+  unfolding chosen inReply inAdvertisement
+  in-third one two three = rw (one, two, three)
+
+  pub in-fourth : nameIn completeNameType r ≡ Nothing → nameIn completeNameType a ≡ Nothing → nameIn shortenedNameType r ≡ Nothing → nameIn shortenedNameType a ≡ At start len
+      → InAdvertisement start len ≡ chosen a r
+  unfolding chosen inReply inAdvertisement
+  in-fourth one two three four = rw (one, two, three, four)
+
+pub in-none : (a r : List ℕ) → nameIn completeNameType r ≡ Nothing → nameIn completeNameType a ≡ Nothing → nameIn shortenedNameType r ≡ Nothing → nameIn shortenedNameType a ≡ Nothing
+    → Refused NoName ≡ chosen a r
+unfolding chosen inReply inAdvertisement
+in-none a r one two three four = rw (one, two, three, four)
