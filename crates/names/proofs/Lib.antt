@@ -1,4 +1,3 @@
 pub mod Search
-pub mod Read
 pub mod Pieces
 pub mod Names

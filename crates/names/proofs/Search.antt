@@ -1,25 +1,29 @@
--- How the search for a name goes on from record to record. Assumes nothing.
+-- How the search for a name goes on from record to record and from search to search, and what of an area is searched. Assumes nothing.
 use mathlib.Core.Bool.{Bool, false, cond}
 use mathlib.Core.List.{List, [], _∷_}
 use mathlib.Core.Path.{_≡_, refl, sym, ap, subst, _∙_}
 use Prim.Native.Nat.{ℕ, suc, _+_, _-_, _≤_}
 use native.Mathlib.Omega.{arith}
-use lib.ListN.{length, getD, take, drop}
+use lib.ListN.{length, getD, take, drop, length-take}
 use lib.Seq.{getD-take, getD-drop, drop-drop}
 use borrow.Author.Tests.{ne-eqb, eq-eqb}
 use Rattle.octets.specs.Bytes.{part}
+use Rattle.octets.specs.declared.error.Error.{Error}
 use Rattle.octets.specs.declared.error.Error.the-variants.{NoName}
 use Rattle.octets.proofs.Places.{drop-take}
 use Rattle.utf8.specs.Utf8.{isUtf8}
 use Rattle.records.specs.Accepted.{Good}
-use Rattle.records.specs.Area.{cut, records}
+use Rattle.records.specs.Area.{cut, records, AcceptedFrom, readArea}
+use Rattle.records.specs.Padding.{unpadded, readPadded}
 use Rattle.records.specs.Record.{recordRead, first}
 use Rattle.records.specs.Types.{shortenedNameType, completeNameType}
 use Rattle.records.specs.declared.ad_structure.AdStructure.{AdStructure}
 use Rattle.records.specs.declared.ad_structure.Read.the-variants.{Record, End}
+use Rattle.records.specs.declared.area.PaddedArea.the-variants as padded
 use Rattle.records.proofs.Accepted.{Class, class}
-use Rattle.records.proofs.Cuts.{here, Step, stepped, ended}
-use Rattle.names.specs.Name.{isName, firstName, nameIn, inReply, inAdvertisement, chosen}
+use Rattle.records.proofs.Cuts.{here, Step, stepped}
+use Rattle.records.proofs.Padded.{before, took}
+use Rattle.names.specs.Name.{isName, firstName, nameIn, inReply, inAdvertisement, chosen, afterReading, nameOf}
 use Rattle.names.specs.declared.Found.the-variants.{At, Nothing}
 use Rattle.names.specs.declared.NamePlace.the-variants.{InReply, InAdvertisement, Refused}
 
@@ -90,3 +94,26 @@ pub in-none : (a r : List ℕ) → nameIn completeNameType r ≡ Nothing → nam
     → Refused NoName ≡ chosen a r
 unfolding chosen inReply inAdvertisement
 in-none a r one two three four = rw (one, two, three, four)
+
+-- ---- areas that are read as the hub reads: what is searched of them
+module _ (s : List ℕ) {n taken : ℕ} (is : readPadded s ≡ padded.Accepted n taken) where
+  -- the octets that the records took
+  pub as-long : taken ≡ length (take taken s)
+  as-long = rw length-take (omega (arith, took s n taken is [] .inside))
+
+  pub accepted : AcceptedFrom (take taken s) 0
+  unfolding readArea
+  accepted = record { count = n; accepted = took s n taken is [] .strictly }
+
+module _ (a r : List ℕ) where
+  pub both-read : {n first m second : ℕ} → readPadded a ≡ padded.Accepted n first → readPadded r ≡ padded.Accepted m second → chosen (take first a) (take second r) ≡ nameOf a r
+  unfolding nameOf afterReading
+  both-read is also = sym (rw (is, also, before a _ _ is, before r _ _ also))
+
+  pub first-refused : {e : Error} → readPadded a ≡ padded.Refused e → Refused e ≡ nameOf a r
+  unfolding nameOf afterReading
+  first-refused is = rw is
+
+  pub second-refused : {n first : ℕ} {e : Error} → readPadded a ≡ padded.Accepted n first → readPadded r ≡ padded.Refused e → Refused e ≡ nameOf a r
+  unfolding nameOf afterReading
+  second-refused is also = rw (is, also)

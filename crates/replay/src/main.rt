@@ -250,7 +250,7 @@ fn lies(out: &mut Page, at: usize, start: usize, len: usize, name: &[u8]) -> usi
     octets(out, next, name)
 }
 
-fn named(out: &mut Page, at: usize, advertisement: &[u8], reply: &[u8]) -> usize {
+fn named<'a>(out: &mut Page, at: usize, advertisement: &'a [u8], reply: &'a [u8]) -> usize {
     match find_name(advertisement, reply) {
         NamePlace::InReply { start, len } => {
             let next = text(out, at, b" reply");

@@ -3,7 +3,7 @@ use mathlib.Core.Path.{_≡_, sym, _∙_}
 use borrow.Author.Needs.{needs}
 use Rattle.records.specs.Padding.{readPadded}
 use Rattle.records.specs.declared.area.PaddedArea.the-variants.{Accepted}
-use Rattle.names.proofs.Read.{as-long, accepted, both-read, first-refused, second-refused}
+use Rattle.names.proofs.Search.{as-long, accepted, both-read, first-refused, second-refused}
 use Rattle.names.proofs.find_name.Statement.{statement}
 use Rattle.names.proofs.find_name.Tie as tie
 
