@@ -19,7 +19,7 @@ use Rattle.records.specs.Record.{named, flagsRead, uuidsRead, dataRead, upTo, r
 use Rattle.records.specs.declared.area.PaddedArea.{PaddedArea}
 use Rattle.records.specs.declared.area.PaddedArea.the-variants as padded
 use Rattle.records.proofs.Padded.{hub-reads}
-use Rattle.names.specs.Laws.{IsRead, Stands, First, None, Complete, Shortened, Answers, bad-advertisement, bad-reply, complete-in-reply, complete-in-advertisement, shortened-in-reply, shortened-in-advertisement, no-name, LooksUp, NoNames, Eleven, PartIs, HandsOn, Hands, AnyPlace, NameRows}
+use Rattle.names.specs.Laws.{IsRead, Stands, First, None, Complete, Shortened, Answers, bad-advertisement, bad-reply, complete-in-reply, complete-in-advertisement, shortened-in-reply, shortened-in-advertisement, no-name, LooksUp, NoNames, Eleven, PartIs, HandsOn, Hands, AnyPlace, NameRows, PartRows}
 use Rattle.names.specs.Name.{isName, firstName, nameIn, inReply, inAdvertisement, chosen, afterReading, nameOf, handedFrom, handedOn, nameFrom, nameOctets}
 use Rattle.names.specs.declared.Found.{Found}
 use Rattle.names.specs.declared.Found.the-variants.{At, Nothing}
@@ -167,3 +167,7 @@ rows =
       bad-before-none = refl;
       bad-behind = refl;
     }
+
+pub part-rows : (x : RefT (List ℕ)) → PartRows x
+unfolding nameOf afterReading chosen inReply inAdvertisement nameIn firstName isName rowIn utf8After readPadded endedBy isZeros unpadded beforeZero flatten readArea areaOf reads withFirst cut first recordRead dataRead flagsRead uuidsRead upTo named
+part-rows x = record { first = refl; second = refl; third = refl; fourth = refl; nothing-in-it = refl; none = refl; bad = refl }

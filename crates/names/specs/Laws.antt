@@ -10,7 +10,7 @@
 --   Eleven a r                (Names.eleven)         11 exactly where both are read and no such record of either type stands in either
 --   HandsOn a r               (Names.hands-on)       the part handed on is that record's data, in its own area
 --   AnyPlace a r              (Names.any-place)      the part that any place names, in any two areas
---   NameRows                  (Names.rows)           worked values
+--   NameRows, PartRows x      (Names.rows, Names.part-rows)   worked values: places, and what is handed on
 use mathlib.Core.Bool.{true}
 use mathlib.Core.List.{List, [], _∷_, _++_, map}
 use mathlib.Core.Path.{_≡_}
@@ -163,3 +163,21 @@ pub record NameRows : Type 0 where
   pub bad-before-none : nameOf flags (flags ++ cut-short) ≡ Refused Eof
   -- a name behind which a bad record stands is none
   pub bad-behind : map (nameOf (ada 0x09 ++ cut-short)) ([] ∷ bo 0x09 ∷ []) ≡ Refused Eof ∷ Refused Eof ∷ []
+
+-- octets that are lent at a place
+abbrev pub lent : RefT (List ℕ) → ℕ × ℕ → List ℕ → RefT (List ℕ)
+lent x at octets = record { ptr = at; name = x .name; now = octets }
+
+-- of an advertisement and a reply: where the name lies, and its octets
+abbrev pub handed : RefT (List ℕ) → List ℕ → List ℕ → (ℕ × ℕ) × List ℕ
+handed x a r = (nameFrom (lent x (1, 10) a) (lent x (2, 20) r), nameOctets a r)
+
+pub record PartRows (x : RefT (List ℕ)) : Type 0 where
+  pub first : handed x (ada 0x09) (ada 0x08 ++ bo 0x09) ≡ ((2, 27), 0x42 ∷ 0x6F ∷ [])
+  pub second : handed x (bo 0x08 ++ ada 0x09) (bo 0x08) ≡ ((1, 16), 0x41 ∷ 0x64 ∷ 0x61 ∷ [])
+  pub third : handed x (ada 0x08) (flags ++ bo 0x08) ≡ ((2, 25), 0x42 ∷ 0x6F ∷ [])
+  pub fourth : handed x (ada 0x08 ++ zeros 2) (zeros 2) ≡ ((1, 12), 0x41 ∷ 0x64 ∷ 0x61 ∷ [])
+  -- an empty name has a place, and so has no name
+  pub nothing-in-it : handed x (ada 0x09) (flags ++ empty 0x09) ≡ ((2, 25), [])
+  pub none : handed x flags flags ≡ ((1, 10), [])
+  pub bad : handed x (ada 0x09) cut-short ≡ ((1, 10), [])
