@@ -5,7 +5,7 @@ ghost use Rattle.basics.specs.Names.{nameSaid};
 use names::NamePlace;
 use names::find_name;
 
-// Which area holds the name, where it begins there, and how many octets it has.
+// Which area holds the name, where it begins there, and how many octets it has; zeros beside a refusal's number.
 #[repr(C)]
 pub struct NameSaid {
     pub number: u8,

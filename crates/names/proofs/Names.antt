@@ -1,8 +1,7 @@
--- The look-up in the Note's words: `looks-up`, `eleven`, `hands-on`; worked values: `rows`. Assumes nothing.
-use mathlib.Core.Bool.{Bool, cond, _&&_}
+-- The look-up in the Note's words: `looks-up`, `eleven`, `hands-on`, `any-place`; worked values: `rows`, `part-rows`. Assumes nothing.
 use mathlib.Core.List.{List, [], _∷_, _++_, append-assoc, flatten}
-use mathlib.Core.Path.{_≡_, refl, sym, ap, ap₂, subst, _∙_}
-use Prim.Native.Nat.{ℕ, suc, _+_, _≤_}
+use mathlib.Core.Path.{_≡_, refl, sym, ap, subst, _∙_}
+use Prim.Native.Nat.{ℕ, suc, _+_}
 use native.Mathlib.Omega.{arith}
 use lib.ListN.{length, length-append}
 use denote.Ref.{RefT, now}
@@ -19,12 +18,12 @@ use Rattle.records.specs.Record.{named, flagsRead, uuidsRead, dataRead, upTo, r
 use Rattle.records.specs.declared.area.PaddedArea.{PaddedArea}
 use Rattle.records.specs.declared.area.PaddedArea.the-variants as padded
 use Rattle.records.proofs.Padded.{hub-reads}
-use Rattle.names.specs.Laws.{IsRead, Stands, First, None, Complete, Shortened, Answers, bad-advertisement, bad-reply, complete-in-reply, complete-in-advertisement, shortened-in-reply, shortened-in-advertisement, no-name, LooksUp, NoNames, Eleven, PartIs, HandsOn, Hands, AnyPlace, NameRows, PartRows}
-use Rattle.names.specs.Name.{isName, firstName, nameIn, inReply, inAdvertisement, chosen, afterReading, nameOf, handedFrom, handedOn, nameFrom, nameOctets}
+use Rattle.names.specs.Laws.{IsRead, Stands, completeType, shortenedType, Answers, bad-advertisement, bad-reply, complete-in-reply, complete-in-advertisement, shortened-in-reply, shortened-in-advertisement, no-name, LooksUp, NoNames, Eleven, HandsOn, Hands, AnyPlace, NameRows, PartRows}
+use Rattle.names.specs.Name.{isName, firstName, nameIn, inReply, inAdvertisement, chosen, afterReading, nameOf}
 use Rattle.names.specs.declared.Found.{Found}
 use Rattle.names.specs.declared.Found.the-variants.{At, Nothing}
 use Rattle.names.specs.declared.NamePlace.{NamePlace}
-use Rattle.names.specs.declared.NamePlace.the-variants.{InReply, InAdvertisement, Refused}
+use Rattle.names.specs.declared.NamePlace.the-variants.{Refused}
 use Rattle.names.proofs.Pieces.{Tells, tells, first-is, none-is}
 
 module _ (a r : List ℕ) where
@@ -32,10 +31,10 @@ module _ (a r : List ℕ) where
   choice : IsRead a → IsRead r → Answers a r (chosen (unpadded a) (unpadded r))
   unfolding chosen inReply inAdvertisement
   choice x y =
-      pick (nameIn Complete (unpadded r)) (tells r y Complete) (nameIn Complete (unpadded a)) (tells a x Complete) (nameIn Shortened (unpadded r)) (tells r y Shortened)
-      (nameIn Shortened (unpadded a)) (tells a x Shortened)
+      pick (nameIn completeType (unpadded r)) (tells r y completeType) (nameIn completeType (unpadded a)) (tells a x completeType) (nameIn shortenedType (unpadded r)) (tells r y shortenedType)
+      (nameIn shortenedType (unpadded a)) (tells a x shortenedType)
     where
-      pick : (f : Found) → Tells r y Complete f → (g : Found) → Tells a x Complete g → (h : Found) → Tells r y Shortened h → (k : Found) → Tells a x Shortened k
+      pick : (f : Found) → Tells r y completeType f → (g : Found) → Tells a x completeType g → (h : Found) → Tells r y shortenedType h → (k : Found) → Tells a x shortenedType k
           → Answers a r (inReply f (inAdvertisement g (inReply h (inAdvertisement k (Refused NoName)))))
       pick (At start len) tf g tg h th k tk = complete-in-reply start len x y tf
       pick Nothing tf (At start len) tg h th k tk = complete-in-advertisement start len x y tf tg
@@ -61,12 +60,12 @@ module _ (a r : List ℕ) where
   unfolding nameOf afterReading chosen inReply inAdvertisement
   only _ (bad-advertisement e is) = rw is
   only _ (bad-reply e x is) = rw (x .accepted, is)
-  only _ (complete-in-reply start len x y c) = read-both x y ∙ rw (first-is r y Complete start len c)
-  only _ (complete-in-advertisement start len x y n c) = read-both x y ∙ rw (none-is r y Complete n, first-is a x Complete start len c)
-  only _ (shortened-in-reply start len x y n m c) = read-both x y ∙ rw (none-is r y Complete n, none-is a x Complete m, first-is r y Shortened start len c)
+  only _ (complete-in-reply start len x y c) = read-both x y ∙ rw (first-is r y completeType start len c)
+  only _ (complete-in-advertisement start len x y n c) = read-both x y ∙ rw (none-is r y completeType n, first-is a x completeType start len c)
+  only _ (shortened-in-reply start len x y n m c) = read-both x y ∙ rw (none-is r y completeType n, none-is a x completeType m, first-is r y shortenedType start len c)
   only _ (shortened-in-advertisement start len x y n m k c) =
-      read-both x y ∙ rw (none-is r y Complete n, none-is a x Complete m, none-is r y Shortened k, first-is a x Shortened start len c)
-  only _ (no-name x y n m k l) = read-both x y ∙ rw (none-is r y Complete n, none-is a x Complete m, none-is r y Shortened k, none-is a x Shortened l)
+      read-both x y ∙ rw (none-is r y completeType n, none-is a x completeType m, none-is r y shortenedType k, first-is a x shortenedType start len c)
+  only _ (no-name x y n m k l) = read-both x y ∙ rw (none-is r y completeType n, none-is a x completeType m, none-is r y shortenedType k, none-is a x shortenedType l)
 
 pub looks-up : (a r : List ℕ) → LooksUp a r
 looks-up a r = record { found = found a r; only = only a r }
@@ -105,30 +104,6 @@ eleven a r =
     go _ is (no-name x y n m k l) = record { advertisement = x; reply = y; complete = (m, n); shortened = (l, k) }
 
 -- ---- the part that is handed on
-part-there : (s : RefT (List ℕ)) (ty start len : ℕ) (n : Stands ty (now s) start len) → PartIs s ty start len n (partPlace len s start) (partOr len (now s) start)
-part-there s ty start len n =
-    let ahead : List ℕ = n .before ++ (suc (length (n .name)) ∷ ty ∷ []) in
-    let size : length ahead ≡ start = length-append (n .before) (suc (length (n .name)) ∷ ty ∷ []) ∙ sym (n .begins) in
-    let cuts : now s ≡ ahead ++ (n .name ++ n .behind) = n .made-up ∙ sym (append-assoc (n .before) (suc (length (n .name)) ∷ ty ∷ []) (n .name ++ n .behind)) in
-    let told = part-is s .there ahead (n .name) (n .behind) cuts in
-    let whole : length (now s) ≡ start + (len + length (n .behind)) =
-    ap length cuts ∙ length-append ahead (n .name ++ n .behind) ∙ ap₂ (λ (x y : ℕ). x + y) size (length-append (n .name) (n .behind) ∙ ap (λ (k : ℕ). k + length (n .behind)) (sym (n .long))) in
-    let place : partPlace len s start ≡ (s .ptr .0, s .ptr .1 + start) = rw (← size, n .long) (told .1) in
-    record {
-      octets = rw (← size, n .long) (told .0);
-      in-its-area = ap (λ (p : ℕ × ℕ). p .0) place;
-      in-its-place = ap (λ (p : ℕ × ℕ). p .1) place;
-      inside = omega arith;
-    }
-
-pub hands-on : (a r : RefT (List ℕ)) → HandsOn a r
-hands-on a r =
-    record {
-      of-reply = λ ty start len is n. rw is (part-there r ty start len n);
-      of-advertisement = λ ty start len is n. rw is (part-there a ty start len n);
-      refused = λ e is. rw is (refl, refl);
-    }
-
 -- by octets' law of parts
 hands : (s : RefT (List ℕ)) (start len : ℕ) → Hands s start len (partPlace len s start) (partOr len (now s) start)
 hands s start len =
@@ -137,6 +112,20 @@ hands s start len =
           let told = part-is s .there before xs behind is in
           rw (← begins, ← long) (told .0, told .1);
       fewer = λ few. part-is s .fewer len start few;
+    }
+
+part-there : (s : RefT (List ℕ)) (ty start len : ℕ) (n : Stands ty (now s) start len) → (partOr len (now s) start ≡ n .name) × (partPlace len s start ≡ (s .ptr .0, s .ptr .1 + start))
+part-there s ty start len n =
+    let ahead : List ℕ = n .before ++ (suc (length (n .name)) ∷ ty ∷ []) in
+    let cuts : now s ≡ ahead ++ (n .name ++ n .behind) = n .made-up ∙ sym (append-assoc (n .before) (suc (length (n .name)) ∷ ty ∷ []) (n .name ++ n .behind)) in
+    hands s start len .there ahead (n .name) (n .behind) cuts (length-append (n .before) (suc (length (n .name)) ∷ ty ∷ []) ∙ sym (n .begins)) (sym (n .long))
+
+pub hands-on : (a r : RefT (List ℕ)) → HandsOn a r
+hands-on a r =
+    record {
+      of-reply = λ ty start len is n. rw is (part-there r ty start len n);
+      of-advertisement = λ ty start len is n. rw is (part-there a ty start len n);
+      refused = λ e is. rw is (refl, refl);
     }
 
 pub any-place : (a r : RefT (List ℕ)) → AnyPlace a r

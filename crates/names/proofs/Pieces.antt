@@ -1,46 +1,27 @@
 -- The records of an area that is read, and what a search among them finds. Assumes nothing.
-use mathlib.Core.Bool.{Bool, true, false, cond, _&&_}
-use mathlib.Core.List.{List, [], _∷_, _++_, append-assoc, append-nil, flatten}
+use mathlib.Core.Bool.{Bool, true, false, cond}
+use mathlib.Core.List.{List, [], _∷_, _++_, append-assoc, append-nil, flatten, nil≢cons, head-eq-of-cons-eq, tail-eq-of-cons-eq}
 use mathlib.Core.Path.{_≡_, refl, sym, ap, ap₂, subst, _∙_}
 use Prim.Native.Nat.{ℕ, zero, suc, _+_, _-_, _≤_, _<_}
 use native.Mathlib.Omega.{arith}
 use lib.Dec.{eqb}
-use lib.ListN.{length, getD, take, drop, replicate, length-append}
-use lib.Seq.{take-at, drop-at, getD-append-add}
+use lib.ListN.{length, getD, take, replicate, length-append}
+use lib.Seq.{take-at, getD-append-add}
 use borrow.Author.Tests.{eqb-true, eq-eqb}
+use Rattle.octets.proofs.Places.{both-true}
 use Rattle.utf8.specs.Utf8.{isUtf8}
-use Rattle.records.specs.Accepted.{Good, AllGood, Tiling}
-use Rattle.records.specs.Area.{cut, records, readArea}
+use Rattle.records.specs.Accepted.{AllGood, Tiling}
+use Rattle.records.specs.Area.{cut, records}
 use Rattle.records.specs.Padded.{Padding, Found as FoundPadded}
-use Rattle.records.specs.Padding.{unpadded, readPadded}
+use Rattle.records.specs.Padding.{unpadded}
 use Rattle.records.specs.Record.{first}
-use Rattle.records.specs.declared.area.Area.the-variants as area
 use Rattle.records.proofs.Accepted.{decided}
-use Rattle.records.proofs.Cuts.{cut-skip}
-use Rattle.records.proofs.Fronts.{flatten-append}
+use Rattle.records.proofs.Fronts.{flatten-append, records-behind, good-parts}
 use Rattle.records.proofs.Padded.{tiling-of, hub-reads, before}
 use Rattle.names.specs.Laws.{IsRead, Stands, First, None}
 use Rattle.names.specs.Name.{isName, firstName, nameIn}
 use Rattle.names.specs.declared.Found.{Found}
 use Rattle.names.specs.declared.Found.the-variants.{At, Nothing}
-
--- good records before other octets are cut apart as they are
-records-behind : (rs : List (List ℕ)) (l : List ℕ) → AllGood rs → records (flatten rs ++ l) ≡ rs ++ records l
-unfolding cut first flatten
-records-behind [] l all = refl
-records-behind ([] ∷ rs) l all = absurd all
-records-behind ((n ∷ body) ∷ rs) l all =
-    let more : List ℕ = flatten rs ++ l in
-    let long : length body ≡ n = all .0 .whole in
-    rw (append-assoc body (flatten rs) l, take-at body more n long, cut-skip (body ++ more) n, drop-at body more n long, records-behind rs l (all .1))
-
-good-before : (ps : List (List ℕ)) (r : List ℕ) (qs : List (List ℕ)) → AllGood (ps ++ (r ∷ qs)) → AllGood ps × AllGood (r ∷ [])
-good-before [] [] qs all = absurd all
-good-before [] (n ∷ body) qs all = (tt, (all .0, tt))
-good-before ([] ∷ ps) r qs all = absurd all
-good-before ((n ∷ body) ∷ ps) r qs all =
-    let later = good-before ps r qs (all .1) in
-    ((all .0, later .0), later .1)
 
 -- ---- the search
 data Outcome (ty : ℕ) (rs : List (List ℕ)) (at : ℕ) : Found → Type 0 where
@@ -69,21 +50,11 @@ unfolding cut first
 zeros-cut zero = tt
 zeros-cut (suc k) = (refl, zeros-cut k)
 
--- two lists that are the same begin alike and go on alike
-heads : {x y : List ℕ} {xs ys : List (List ℕ)} → x ∷ xs ≡ y ∷ ys → x ≡ y
-heads e = ap (λ (l : List (List ℕ)). getD l 0 []) e
-
-tails : {x y : List ℕ} {xs ys : List (List ℕ)} → x ∷ xs ≡ y ∷ ys → xs ≡ ys
-tails e = ap (λ (l : List (List ℕ)). drop 1 l) e
-
-no-end : {y : List ℕ} {ys : List (List ℕ)} → [] ≡ y ∷ ys → ⊥
-no-end e = let z : _≡_ {A = ℕ} 0 1 = cc in omega arith
-
 among-zeros : (zs ps : List (List ℕ)) (r : List ℕ) (qs : List (List ℕ)) → AllZero zs → zs ≡ ps ++ (r ∷ qs) → getD r 0 0 ≡ 0
-among-zeros [] [] r qs all is = absurd (no-end is)
-among-zeros [] (p ∷ ps) r qs all is = absurd (no-end is)
-among-zeros (z ∷ zs) [] r qs all is = ap (λ (l : List ℕ). getD l 0 0) (sym (heads is)) ∙ all .0
-among-zeros (z ∷ zs) (p ∷ ps) r qs all is = among-zeros zs ps r qs (all .1) (tails is)
+among-zeros [] [] r qs all is = absurd (nil≢cons is)
+among-zeros [] (p ∷ ps) r qs all is = absurd (nil≢cons is)
+among-zeros (z ∷ zs) [] r qs all is = ap (λ (l : List ℕ). getD l 0 0) (sym (head-eq-of-cons-eq is)) ∙ all .0
+among-zeros (z ∷ zs) (p ∷ ps) r qs all is = among-zeros zs ps r qs (all .1) (tail-eq-of-cons-eq is)
 
 -- a name that stands among records is found, or one before it
 abbrev FoundBy : ℕ → Found → Type 0
@@ -95,12 +66,12 @@ found-by : (ty at : ℕ) (rs zs ps : List (List ℕ)) (r : List ℕ) (qs : List 
 unfolding firstName flatten
 found-by ty at [] zs ps r qs zeros some name is = absurd (omega (arith, among-zeros zs ps r qs zeros is))
 found-by ty at (x ∷ rs) zs [] r qs zeros some name is =
-    let here : isName ty x ≡ true = ap (isName ty) (heads is) ∙ name in
+    let here : isName ty x ≡ true = ap (isName ty) (head-eq-of-cons-eq is) ∙ name in
     rw here (omega arith)
-found-by ty at (x ∷ rs) zs (p ∷ ps) r qs zeros some name is = go (isName ty x) (firstName ty rs (at + length x)) (found-by ty (at + length x) rs zs ps r qs zeros some name (tails is))
+found-by ty at (x ∷ rs) zs (p ∷ ps) r qs zeros some name is = go (isName ty x) (firstName ty rs (at + length x)) (found-by ty (at + length x) rs zs ps r qs zeros some name (tail-eq-of-cons-eq is))
   where
     size : length p ≡ length x
-    size = ap length (sym (heads is))
+    size = ap length (sym (head-eq-of-cons-eq is))
 
     later : (f : Found) → FoundBy (at + length x + length (flatten ps) + 2) f → FoundBy (at + length (p ++ flatten ps) + 2) f
     later (At start len) h = omega (arith, length-append p (flatten ps), size)
@@ -109,12 +80,6 @@ found-by ty at (x ∷ rs) zs (p ∷ ps) r qs zeros some name is = go (isName ty 
     go : (b : Bool) (f : Found) → FoundBy (at + length x + length (flatten ps) + 2) f → FoundBy (at + length (p ++ flatten ps) + 2) (cond b (At (at + 2) (length x - 2)) f)
     go true f h = omega arith
     go false f h = later f h
-
--- both tests of a name
-both-hold : (b c : Bool) → b && c ≡ true → (b ≡ true) × (c ≡ true)
-both-hold true true e = (refl, refl)
-both-hold true false e = absurd (let z : _≡_ {A = ℕ} 0 1 = cc in omega arith)
-both-hold false c e = absurd (let z : _≡_ {A = ℕ} 0 1 = cc in omega arith)
 
 -- ---- an area that is read
 module _ (s : List ℕ) (x : IsRead s) where
@@ -139,13 +104,13 @@ module _ (s : List ℕ) (x : IsRead s) where
   -- what is found is a name that stands there
   stands : (ty : ℕ) {start len : ℕ} → Outcome ty (tiling .pieces) 0 (At start len) → Stands ty s start len
   unfolding isName flatten
-  stands ty {start} {len} (there ps r qs is name begins long) = go r is name long (good-before ps r qs (subst AllGood is (tiling .good)))
+  stands ty {start} {len} (there ps r qs is name begins long) = go r is name long (good-parts ps r qs (subst AllGood is (tiling .good)))
     where
       go : (r : List ℕ) → tiling .pieces ≡ ps ++ (r ∷ qs) → isName ty r ≡ true → len ≡ length r - 2 → AllGood ps × AllGood (r ∷ []) → Stands ty s start len
       go [] is name long good = absurd (good .1)
       go (n ∷ []) is name long good = absurd (omega (arith, good .1 .0 .whole, good .1 .0 .some))
       go (n ∷ t ∷ d) is name long good =
-          let holds = both-hold (eqb t ty) (isUtf8 d) name in
+          let holds = both-true (eqb t ty) (isUtf8 d) name in
           let type : t ≡ ty = eqb-true t ty (holds .0) in
           let counts : n ≡ suc (length d) = sym (good .1 .0 .whole) in
           let behind : List ℕ = flatten qs ++ replicate (padding .zeros) 0 in

@@ -1,7 +1,7 @@
 -- How the search for a name goes on from record to record and from search to search, and what of an area is searched. Assumes nothing.
 use mathlib.Core.Bool.{Bool, false, cond}
 use mathlib.Core.List.{List, [], _∷_}
-use mathlib.Core.Path.{_≡_, refl, sym, ap, subst, _∙_}
+use mathlib.Core.Path.{_≡_, sym, ap, _∙_}
 use Prim.Native.Nat.{ℕ, suc, _+_, _-_, _≤_}
 use native.Mathlib.Omega.{arith}
 use lib.ListN.{length, getD, take, drop, length-take}
@@ -12,16 +12,15 @@ use Rattle.octets.specs.declared.error.Error.{Error}
 use Rattle.octets.specs.declared.error.Error.the-variants.{NoName}
 use Rattle.octets.proofs.Places.{drop-take}
 use Rattle.utf8.specs.Utf8.{isUtf8}
-use Rattle.records.specs.Accepted.{Good}
 use Rattle.records.specs.Area.{cut, records, AcceptedFrom, readArea}
-use Rattle.records.specs.Padding.{unpadded, readPadded}
-use Rattle.records.specs.Record.{recordRead, first}
+use Rattle.records.specs.Padding.{readPadded}
+use Rattle.records.specs.Record.{first}
 use Rattle.records.specs.Types.{shortenedNameType, completeNameType}
 use Rattle.records.specs.declared.ad_structure.AdStructure.{AdStructure}
-use Rattle.records.specs.declared.ad_structure.Read.the-variants.{Record, End}
+use Rattle.records.specs.declared.ad_structure.Read.the-variants.{Record}
 use Rattle.records.specs.declared.area.PaddedArea.the-variants as padded
-use Rattle.records.proofs.Accepted.{Class, class}
 use Rattle.records.proofs.Cuts.{here, Step, stepped}
+use Rattle.records.proofs.Fronts.{GoodAt, good-here}
 use Rattle.records.proofs.Padded.{before, took}
 use Rattle.names.specs.Name.{isName, firstName, nameIn, inReply, inAdvertisement, chosen, afterReading, nameOf}
 use Rattle.names.specs.declared.Found.the-variants.{At, Nothing}
@@ -29,15 +28,11 @@ use Rattle.names.specs.declared.NamePlace.the-variants.{InReply, InAdver
 
 -- a record that is read has a length and a type
 pub two-more : (s : List ℕ) (at : ℕ) {a : AdStructure} {next : ℕ} → here s at ≡ Record a next → at + 2 ≤ next
-unfolding here recordRead first
-two-more s at {a} {next} e = go (drop at s) refl
-  where
-    go : (l : List ℕ) → drop at s ≡ l → at + 2 ≤ next
-    go [] is = absurd (let none : End ≡ Record a next = ap (λ (l : List ℕ). recordRead (first l) at) (sym is) ∙ e in let z : _≡_ {A = ℕ} 0 1 = cc in omega arith)
-    go (n ∷ rest) is =
-        let good : Good n (take n rest) = subst (Class n rest) (ap (λ (l : List ℕ). recordRead (first l) at) (sym is) ∙ e) (class n rest at) in
-        let size : length (first (drop at s)) ≡ suc (length (take n rest)) = ap (λ (l : List ℕ). length (first l)) is in
-        omega (arith, stepped s at e .ends, good .whole, good .some)
+unfolding first
+two-more s at e =
+    let g : GoodAt s at = good-here s at e in
+    let size : length (first (drop at s)) ≡ suc (length (take (g .n) (g .rest))) = ap (λ (l : List ℕ). length (first l)) (g .cuts) in
+    omega (arith, stepped s at e .ends, g .good .whole, g .good .some)
 
 -- it is the name, or the search goes on behind it
 pub goes-on : (s : List ℕ) (ty at : ℕ) {a : AdStructure} {next : ℕ} → here s at ≡ Record a next

@@ -8,7 +8,7 @@
 --   Answers a r p             == p is the answer for the advertisement a and the reply r
 --   LooksUp a r               (Names.looks-up)       `nameOf` is that answer, and no other place is
 --   Eleven a r                (Names.eleven)         11 exactly where both are read and no such record of either type stands in either
---   HandsOn a r               (Names.hands-on)       the part handed on is that record's data, in its own area
+--   HandsOn a r               (Names.hands-on)       the part handed on is the data of the record that is found, in its own area and place
 --   AnyPlace a r              (Names.any-place)      the part that any place names, in any two areas
 --   NameRows, PartRows x      (Names.rows, Names.part-rows)   worked values: places, and what is handed on
 use mathlib.Core.Bool.{true}
@@ -52,22 +52,22 @@ pub record First (ty : ℕ) (s : List ℕ) (start len : ℕ) : Type 0 where
 abbrev pub None : ℕ → List ℕ → Type 0
 None ty s = (start len : ℕ) → Stands ty s start len → ⊥
 
--- the types of a complete name, and of a shortened one
-abbrev pub Complete : ℕ
-Complete = 0x09
+-- the type octets of names as numbers, apart from the definition's own (Assigned Numbers, 2.3)
+abbrev pub completeType : ℕ
+completeType = 0x09
 
-abbrev pub Shortened : ℕ
-Shortened = 0x08
+abbrev pub shortenedType : ℕ
+shortenedType = 0x08
 
 pub data Answers (a r : List ℕ) : NamePlace → Type 0 where
   bad-advertisement : (e : Error) → readPadded a ≡ padded.Refused e → Answers a r (Refused e)
   bad-reply : (e : Error) → IsRead a → readPadded r ≡ padded.Refused e → Answers a r (Refused e)
-  complete-in-reply : (start len : ℕ) → IsRead a → IsRead r → First Complete r start len → Answers a r (InReply start len)
-  complete-in-advertisement : (start len : ℕ) → IsRead a → IsRead r → None Complete r → First Complete a start len → Answers a r (InAdvertisement start len)
-  shortened-in-reply : (start len : ℕ) → IsRead a → IsRead r → None Complete r → None Complete a → First Shortened r start len → Answers a r (InReply start len)
-  shortened-in-advertisement : (start len : ℕ) → IsRead a → IsRead r → None Complete r → None Complete a → None Shortened r → First Shortened a start len
+  complete-in-reply : (start len : ℕ) → IsRead a → IsRead r → First completeType r start len → Answers a r (InReply start len)
+  complete-in-advertisement : (start len : ℕ) → IsRead a → IsRead r → None completeType r → First completeType a start len → Answers a r (InAdvertisement start len)
+  shortened-in-reply : (start len : ℕ) → IsRead a → IsRead r → None completeType r → None completeType a → First shortenedType r start len → Answers a r (InReply start len)
+  shortened-in-advertisement : (start len : ℕ) → IsRead a → IsRead r → None completeType r → None completeType a → None shortenedType r → First shortenedType a start len
       → Answers a r (InAdvertisement start len)
-  no-name : IsRead a → IsRead r → None Complete r → None Complete a → None Shortened r → None Shortened a → Answers a r (Refused NoName)
+  no-name : IsRead a → IsRead r → None completeType r → None completeType a → None shortenedType r → None shortenedType a → Answers a r (Refused NoName)
 
 pub record LooksUp (a r : List ℕ) : Type 0 where
   pub found : Answers a r (nameOf a r)
@@ -77,25 +77,19 @@ pub record LooksUp (a r : List ℕ) : Type 0 where
 pub record NoNames (a r : List ℕ) : Type 0 where
   pub advertisement : IsRead a
   pub reply : IsRead r
-  pub complete : None Complete a × None Complete r
-  pub shortened : None Shortened a × None Shortened r
+  pub complete : None completeType a × None completeType r
+  pub shortened : None shortenedType a × None shortenedType r
 
 pub record Eleven (a r : List ℕ) : Type 0 where
   pub only-then : nameOf a r ≡ Refused NoName → NoNames a r
   pub then : NoNames a r → nameOf a r ≡ Refused NoName
 
--- octets `part` that lie at `from` are the data of a name of s, and lie in s where that name does
-pub record PartIs (s : RefT (List ℕ)) (ty start len : ℕ) (n : Stands ty (now s) start len) (from : ℕ × ℕ) (part : List ℕ) : Type 0 where
-  pub octets : part ≡ n .name
-  pub in-its-area : from .0 ≡ s .ptr .0
-  pub in-its-place : from .1 ≡ s .ptr .1 + start
-  pub inside : start + len ≤ length (now s)
-
+-- the data of the record that is found, in its own area and place
 pub record HandsOn (a r : RefT (List ℕ)) : Type 0 where
   pub of-reply : (ty start len : ℕ) → nameOf (now a) (now r) ≡ InReply start len → (n : Stands ty (now r) start len)
-      → PartIs r ty start len n (nameFrom a r) (nameOctets (now a) (now r))
+      → (nameOctets (now a) (now r) ≡ n .name) × (nameFrom a r ≡ (r .ptr .0, r .ptr .1 + start))
   pub of-advertisement : (ty start len : ℕ) → nameOf (now a) (now r) ≡ InAdvertisement start len → (n : Stands ty (now a) start len)
-      → PartIs a ty start len n (nameFrom a r) (nameOctets (now a) (now r))
+      → (nameOctets (now a) (now r) ≡ n .name) × (nameFrom a r ≡ (a .ptr .0, a .ptr .1 + start))
   -- no octets, and a place of the advertisement
   pub refused : (e : Error) → nameOf (now a) (now r) ≡ Refused e → (nameFrom a r ≡ a .ptr) × (nameOctets (now a) (now r) ≡ [])
 
@@ -136,7 +130,7 @@ abbrev pub no-length : List ℕ
 no-length = 0x00 ∷ 0x01 ∷ []
 
 pub record NameRows : Type 0 where
-  -- the four places, each with all that come behind it in both areas, where the types stand in either order; then none
+  -- each of the four places, with names in the places after it, in either order; then none
   pub first : map (λ (a : List ℕ). nameOf a (ada 0x08 ++ bo 0x09)) ((ada 0x09 ++ bo 0x08) ∷ (bo 0x08 ++ ada 0x09) ∷ ada 0x08 ∷ flags ∷ [] ∷ [])
       ≡ InReply 7 2 ∷ InReply 7 2 ∷ InReply 7 2 ∷ InReply 7 2 ∷ InReply 7 2 ∷ []
   pub second : map (nameOf (flags ++ (bo 0x08 ++ ada 0x09))) (ada 0x08 ∷ flags ∷ [] ∷ []) ≡ InAdvertisement 9 3 ∷ InAdvertisement 9 3 ∷ InAdvertisement 9 3 ∷ []
@@ -161,7 +155,7 @@ pub record NameRows : Type 0 where
   pub bad-both : nameOf cut-short no-length ≡ Refused Eof
   pub bad-both-ways : nameOf no-length cut-short ≡ Refused InvalidLength
   pub bad-before-none : nameOf flags (flags ++ cut-short) ≡ Refused Eof
-  -- a name behind which a bad record stands is none
+  -- a bad record behind a name: its refusal
   pub bad-behind : map (nameOf (ada 0x09 ++ cut-short)) ([] ∷ bo 0x09 ∷ []) ≡ Refused Eof ∷ Refused Eof ∷ []
 
 -- octets that are lent at a place

@@ -24,7 +24,7 @@ use Rattle.names.specs.declared.Found.the-variants.{At, Nothing}
 use Rattle.names.specs.declared.NamePlace.{NamePlace}
 use Rattle.names.specs.declared.NamePlace.the-variants as place
 
--- a record is its length, its type and its data
+-- a record is its length, its type and its data (the Core, Vol 3 Part C, 11); those of a name are UTF-8 (the Supplement, Part A, 1.2)
 unfoldable pub isName : ℕ → List ℕ → Bool
 isName ty r = eqb (getD r 1 0) ty && isUtf8 (drop 2 r)
 

@@ -40,7 +40,7 @@ impl NamePlace {
     }
 }
 
-// Whether the record from `at` up to `next` is a name of type `ty`: its data are well-formed UTF-8.
+// Whether the record from `at` up to `next` is of type `ty` and its data are well-formed UTF-8.
 fn is_name(s: &[u8], at: usize, next: usize, ty: u8) -> bool
     requires { ⌜ (at + 2 ≤ next) × (next ≤ length (now s)) ⌝ }
     ensures { λ r. ⌜ r ≡ isName ty (part (next - at) (now (s .entry)) at) ⌝ }

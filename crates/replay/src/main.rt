@@ -250,6 +250,7 @@ fn lies(out: &mut Page, at: usize, start: usize, len: usize, name: &[u8]) -> usi
     octets(out, next, name)
 }
 
+// The octets by `name`, so that it runs too.
 fn named<'a>(out: &mut Page, at: usize, advertisement: &'a [u8], reply: &'a [u8]) -> usize {
     match find_name(advertisement, reply) {
         NamePlace::InReply { start, len } => {
