@@ -1,4 +1,4 @@
--- The look-up in the Note's words: `looks-up`, `eleven`, `hands-on`, `any-place`; worked values: `rows`, `part-rows`. Assumes nothing.
+-- The look-up in the Note's words: `looks-up`, `eleven`, `hands-on`, `any-place`; worked values: `rows`, `part-rows`; all of them: `holds`. Assumes nothing.
 use mathlib.Core.List.{List, [], _∷_, _++_, append-assoc, flatten}
 use mathlib.Core.Path.{_≡_, refl, sym, ap, subst, _∙_}
 use Prim.Native.Nat.{ℕ, suc, _+_}
@@ -18,7 +18,7 @@ use Rattle.records.specs.Record.{named, flagsRead, uuidsRead, dataRead, upTo, r
 use Rattle.records.specs.declared.area.PaddedArea.{PaddedArea}
 use Rattle.records.specs.declared.area.PaddedArea.the-variants as padded
 use Rattle.records.proofs.Padded.{hub-reads}
-use Rattle.names.specs.Laws.{IsRead, Stands, completeType, shortenedType, Answers, bad-advertisement, bad-reply, complete-in-reply, complete-in-advertisement, shortened-in-reply, shortened-in-advertisement, no-name, LooksUp, NoNames, Eleven, HandsOn, Hands, AnyPlace, NameRows, PartRows}
+use Rattle.names.specs.Laws.{IsRead, Stands, completeType, shortenedType, Answers, bad-advertisement, bad-reply, complete-in-reply, complete-in-advertisement, shortened-in-reply, shortened-in-advertisement, no-name, LooksUp, NoNames, Eleven, HandsOn, Hands, AnyPlace, NameRows, PartRows, Holds}
 use Rattle.names.specs.Name.{isName, firstName, nameIn, inReply, inAdvertisement, chosen, afterReading, nameOf}
 use Rattle.names.specs.declared.Found.{Found}
 use Rattle.names.specs.declared.Found.the-variants.{At, Nothing}
@@ -160,3 +160,6 @@ rows =
 pub part-rows : (x : RefT (List ℕ)) → PartRows x
 unfolding nameOf afterReading chosen inReply inAdvertisement nameIn firstName isName rowIn utf8After readPadded endedBy isZeros unpadded beforeZero flatten readArea areaOf reads withFirst cut first recordRead dataRead flagsRead uuidsRead upTo named
 part-rows x = record { first = refl; second = refl; third = refl; fourth = refl; nothing-in-it = refl; none = refl; bad = refl }
+
+pub holds : Holds
+holds = record { looks-up = looks-up; eleven = eleven; hands-on = hands-on; any-place = any-place; rows = rows; part-rows = part-rows }

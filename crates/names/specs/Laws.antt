@@ -11,6 +11,7 @@
 --   HandsOn a r               (Names.hands-on)       the part handed on is the data of the record that is found, in its own area and place
 --   AnyPlace a r              (Names.any-place)      the part that any place names, in any two areas
 --   NameRows, PartRows x      (Names.rows, Names.part-rows)   worked values: places, and what is handed on
+--   Holds                     (Names.holds)          all of these, of every two areas
 use mathlib.Core.Bool.{true}
 use mathlib.Core.List.{List, [], _∷_, _++_, map}
 use mathlib.Core.Path.{_≡_}
@@ -171,7 +172,15 @@ pub record PartRows (x : RefT (List ℕ)) : Type 0 where
   pub second : handed x (bo 0x08 ++ ada 0x09) (bo 0x08) ≡ ((1, 16), 0x41 ∷ 0x64 ∷ 0x61 ∷ [])
   pub third : handed x (ada 0x08) (flags ++ bo 0x08) ≡ ((2, 25), 0x42 ∷ 0x6F ∷ [])
   pub fourth : handed x (ada 0x08 ++ zeros 2) (zeros 2) ≡ ((1, 12), 0x41 ∷ 0x64 ∷ 0x61 ∷ [])
-  -- an empty name has a place, and so has no name
+  -- an empty name lies in its own place; where there is none, the advertisement's start is answered
   pub nothing-in-it : handed x (ada 0x09) (flags ++ empty 0x09) ≡ ((2, 25), [])
   pub none : handed x flags flags ≡ ((1, 10), [])
   pub bad : handed x (ada 0x09) cut-short ≡ ((1, 10), [])
+
+pub record Holds : Type 0 where
+  pub looks-up : (a r : List ℕ) → LooksUp a r
+  pub eleven : (a r : List ℕ) → Eleven a r
+  pub hands-on : (a r : RefT (List ℕ)) → HandsOn a r
+  pub any-place : (a r : RefT (List ℕ)) → AnyPlace a r
+  pub rows : NameRows
+  pub part-rows : (x : RefT (List ℕ)) → PartRows x
