@@ -8,11 +8,12 @@
  * written. A bool is 0 or 1.
  *
  * `number` in an answer is 0, or says why the call was refused:
- *   1 a field, record or output needs more octets than there are     6 a channel map that marks no channel
- *   2 a length that does not fit                                     7 a payload length to set outside 6 to 37
- *   3 an unknown PDU type, a name that is not UTF-8, a bad list      8 a data channel above 36, a place that a map does not have
- *   4 a header of under two octets                                   9 a record length above 255
- *   5 the wrong mode                                                10 a channel index above 39
+ *   1 a field, record or output needs more octets than there are     7 a payload length to set outside 6 to 37
+ *   2 a length that does not fit                                     8 a data channel above 36, a place that a map does not have
+ *   3 an unknown PDU type, a name that is not UTF-8, a bad list      9 a record length above 255
+ *   4 a header of under two octets                                  10 a channel index above 39
+ *   5 the wrong mode                                                11 neither area has a name
+ *   6 a channel map that marks no channel
  * What has no meaning in an answer is 0, save two fields of BoardPacket. A call that is refused leaves its buffers as they were; board_call, as the
  * calls of its list left them.
  *
@@ -241,6 +242,18 @@ typedef struct BoardFlagsSaid {
 
 /* What the octet of a Flags record says. */
 BoardFlagsSaid board_flags(uint8_t octet);
+
+/* A name: its `len` octets from `start` on, of the reply or of the advertisement. */
+typedef struct BoardNameSaid {
+    uint8_t number;
+    bool in_reply;
+    size_t start;
+    size_t len;
+} BoardNameSaid;
+
+/* The player's name in two areas, which are read as board_padded_area does: complete in the reply, or else complete in the advertisement, shortened in the reply,
+ * shortened in the advertisement; of those the area's first that is UTF-8. A bad advertisement is refused first, then a bad reply, then where there is no name. */
+BoardNameSaid board_name(const uint8_t *advertisement, size_t advertisement_len, const uint8_t *reply, size_t reply_len);
 
 /* --- libbasics.a: UTF-8, UUIDs, instants, channels, maps, hops --- */
 

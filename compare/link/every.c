@@ -1,5 +1,5 @@
-/* Calls every function, so that each field of the header is held to a known answer: every.out, whose values are document 01's, of padding document 02's, and
- * of the bit stream those on which other implementations agree. What the header says of `which`, kinds, refusals and lists that are cut is tried one by one. */
+/* Calls every function, so that each field of the header is held to a known answer: every.out, whose values are document 01's, of padding and names document
+ * 02's, and of the bit stream those on which other implementations agree. What the header says of `which`, kinds, refusals and lists that are cut is tried one by one. */
 #include "board.h"
 #include <stdio.h>
 #include <string.h>
@@ -67,6 +67,11 @@ static void heard(BoardHeard h) {
     printf("board_scan %d %d %d", h.number, h.reported, h.random);
     octets(h.sender, 6);
     printf(" %zu %zu %zu %zu %d\n", h.start, h.len, h.count, h.taken, h.channel);
+}
+
+static void name(const char *what, const uint8_t *advertisement, size_t advertisement_len, const uint8_t *reply, size_t reply_len) {
+    BoardNameSaid n = board_name(advertisement, advertisement_len, reply, reply_len);
+    printf("%s board_name %d %d %zu %zu\n", what, n.number, n.in_reply, n.start, n.len);
 }
 
 static uint8_t out[16];
@@ -301,6 +306,28 @@ static void padding(void) {
     }
 }
 
+/* A name in each place, with those that come behind it in the other places; one that is not UTF-8 before it; empty ones; none; each refusal in each area, with a
+ * name in the other; both bad. */
+static void names(void) {
+    static const uint8_t advertisement[] = {2, 1, 6, 4, 8, 0x41, 0x64, 0x61, 3, 9, 0x42, 0x6F, 0}, reply[] = {3, 8, 0x43, 0x79, 4, 9, 0x44, 0x61, 0x6E, 0, 0};
+    static const uint8_t broken[] = {2, 9, 0xC3, 3, 9, 0xC3, 0xA9}, empty[] = {1, 8, 1, 9}, zero[] = {0, 1};
+    name("complete, reply", S(advertisement), S(reply));
+    name("complete, advertisement", S(advertisement), reply, 4);
+    name("shortened, reply", advertisement, 8, reply, 4);
+    name("shortened, advertisement", advertisement, 8, reply, 0);
+    name("not UTF-8", advertisement, 8, S(broken));
+    name("empty", S(advertisement), S(empty));
+    name("empty", S(empty), reply, 4);
+    name("none", advertisement, 3, broken, 3);
+    name("none", advertisement, 0, reply, 0);
+    name("cut, advertisement", advertisement, 7, S(reply));
+    name("cut, reply", S(advertisement), reply, 8);
+    name("zero, advertisement", S(zero), S(reply));
+    name("zero, reply", S(advertisement), S(zero));
+    name("zero, cut", S(zero), reply, 8);
+    name("cut, zero", advertisement, 7, S(zero));
+}
+
 /* A call for each refusal's number, and what it leaves. */
 static void refusals(void) {
     static const uint8_t name[] = {2, 9, 0xFF}, zero[] = {0}, none[5], long_data[255], bad[7] = {2}, unknown[] = {0x47, 0x09};
@@ -382,6 +409,6 @@ int main(void) {
     memset(out, 0xFF, sizeof out);
     leaves(), packets(), areas(), positions(), air();
     memset(out, 0xFF, sizeof out);
-    builders(), writes(), device(), scanner(), padding(), refusals(), stream();
+    builders(), writes(), device(), scanner(), padding(), names(), refusals(), stream();
     return 0;
 }

@@ -1,5 +1,7 @@
-//! What was compared: comparisons and refusals by kind, lengths of payloads, near misses, padded areas, replies, connections and events of lists, CRC flags.
+//! What was compared: comparisons and refusals by kind, lengths of payloads, near misses, padded areas, searches for a name, replies, connections and events of
+//! lists, CRC flags.
 use crate::inputs::marks_any;
+use crate::names;
 use crate::ours::BEHIND;
 use crate::padding::{self, Behind};
 use crate::request::{Kind, Request, CALL, KINDS};
@@ -32,6 +34,9 @@ const HUB_OCTETS: [&str; 3] = ["31", "57", "others"];
 /// What reads strictly, and refuses padding.
 const STRICT: [&str; 7] = ["counted", "rewritten", "decoded", "built", "sent", "in a start", "set as scan data"];
 
+/// What a search for a name meets where neither area is bad.
+const SEARCHED: [&str; 3] = ["a name that is not UTF-8", "zeros behind the advertisement's records", "zeros behind the reply's"];
+
 const REPLIES: [(&str, usize); 3] = [("bare", 6), ("with 1 to 30 octets of data", 7), ("with 31", 37)];
 const SETS: [&str; 4] = ["refused with 1", "refused with 2", "accepted", "accepted without data"];
 
@@ -43,7 +48,7 @@ const LIVED: [(&str, usize); 4] = [("none", 0), ("1-9", 1), ("10-99", 10), ("100
 const FLAGS: [&str; 4] = ["good on 0 to 36", "bad", "good on 37 to 39", "bad"];
 
 /// Numbers that an answer has: 0, and those of refusals.
-const NUMBERS: usize = 11;
+const NUMBERS: usize = 12;
 
 /// The octets of an answer of two numbers, of a record, of a call before both buffers, and of a scanner.
 const GOT: usize = 17;
@@ -60,6 +65,8 @@ pub struct Counts {
     zeros: [[u64; ZEROS.len()]; HUB.len()],
     hub_octets: [u64; HUB_OCTETS.len()],
     strict: [u64; STRICT.len()],
+    names: [u64; names::ENDS.len()],
+    searched: [u64; SEARCHED.len()],
     replies: [u64; REPLIES.len()],
     no_room: u64,
     sets: [u64; SETS.len()],
@@ -83,6 +90,8 @@ impl Default for Counts {
             zeros: [[0; ZEROS.len()]; HUB.len()],
             hub_octets: [0; HUB_OCTETS.len()],
             strict: [0; STRICT.len()],
+            names: [0; names::ENDS.len()],
+            searched: [0; SEARCHED.len()],
             replies: [0; REPLIES.len()],
             no_room: 0,
             sets: [0; SETS.len()],
@@ -138,6 +147,7 @@ impl Counts {
                 self.count_beacon(1, header, payload, r.numbers[2] == 1, answer[1] == 1);
             }
             Kind::Padded => self.count_zeros(0, &r.parts[0], answer[0] == 0),
+            Kind::Name => self.count_name(&r.parts[0], &r.parts[1]),
             Kind::Whiten | Kind::CrcFlag => self.count_stream(r, answer),
             _ => {}
         }
@@ -190,6 +200,15 @@ impl Counts {
     fn count_beacon(&mut self, kind: usize, header: &[u8], payload: &[u8], crc_ok: bool, reported: bool) {
         if let Some(area) = area_in(header, payload).filter(|_| crc_ok && header[0] % 16 == 2) {
             self.count_zeros(kind, area, reported);
+        }
+    }
+
+    fn count_name(&mut self, advertisement: &[u8], reply: &[u8]) {
+        let search = names::search(advertisement, reply);
+        self.names[search.end.class()] += 1;
+        if search.behind.iter().all(|behind| behind.number() == 0) {
+            let [first, second] = search.behind.map(|behind| behind == Behind::Zeros);
+            add(&mut self.searched, &[search.malformed > 0, first, second].map(u64::from));
         }
     }
 
@@ -307,6 +326,8 @@ impl Counts {
         self.zeros.iter_mut().zip(&more.zeros).for_each(|(sum, n)| add(sum, n));
         add(&mut self.hub_octets, &more.hub_octets);
         add(&mut self.strict, &more.strict);
+        add(&mut self.names, &more.names);
+        add(&mut self.searched, &more.searched);
         add(&mut self.replies, &more.replies);
         self.no_room += more.no_room;
         add(&mut self.sets, &more.sets);
@@ -334,9 +355,18 @@ impl Counts {
         at.map(|at| HUB[at].1)
     }
 
+    /// An end of searches for a name, or what they meet, that there was not.
+    pub fn without_name(&self) -> Option<&'static str> {
+        let mut all = names::ENDS.iter().zip(&self.names).chain(SEARCHED.iter().zip(&self.searched));
+        let lacks = all.find(|(_, n)| **n == 0).filter(|_| self.of(Kind::Name) > 0);
+        lacks.map(|(what, _)| *what)
+    }
+
     pub fn print(&self) {
         self.print_shares();
         self.print_padding();
+        print_row("searches for a name by their end", &names::ENDS, &self.names);
+        print_row("those without a bad area that met", &SEARCHED, &self.searched);
         self.print_kinds();
     }
 

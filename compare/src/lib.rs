@@ -1,9 +1,10 @@
 //! Both sides of the comparison. A request is a kind, numbers and octets; `ours` and `theirs` write its answer as octets, of the bit stream `stream`.
-//! Where a zero length may end an area's records, `theirs` asks `padding`.
+//! Where a zero length may end an area's records, `theirs` asks `padding`, and for a player's name `names`.
 pub mod counts;
 pub mod device;
 pub mod inputs;
 pub mod made;
+pub mod names;
 pub mod ours;
 pub mod padding;
 pub mod request;

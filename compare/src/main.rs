@@ -1,9 +1,10 @@
-//! Compares the translation with rubble, its bit stream with `stream` and the hub's reading with `padding`; `usage.txt` says how it is called and how it ends.
+//! Compares the translation with rubble, its bit stream with `stream`, the hub's reading with `padding` and a player's name with `names`; `usage.txt` says how
+//! it is called and how it ends.
 use compare::counts::Counts;
 use compare::made::{self, Each, Share};
 use compare::request::{brief, hex, line, Kind, Request, CALL};
 use compare::shrink::smallest;
-use compare::{ours, padding, stream, theirs, wide};
+use compare::{names, ours, padding, stream, theirs, wide};
 use std::io::IsTerminal;
 use std::panic::{catch_unwind, AssertUnwindSafe};
 use std::process::exit;
@@ -16,7 +17,7 @@ const USAGE: &str = include_str!("usage.txt");
 type Suite = (&'static str, fn(&Share, Each));
 
 /// The parts by their names, with the number of requests that each makes.
-const SUITES: [Suite; 15] = [
+const SUITES: [Suite; 16] = [
     ("headers", |s, e| made::all_headers(s, e)),
     ("packets", |s, e| made::packets(s, 8_000_000, e)),
     ("few-octets", |s, e| made::small_areas(s, e)),
@@ -28,6 +29,14 @@ const SUITES: [Suite; 15] = [
         padding::made::small(s, e);
         padding::made::zeros(s, e);
         padding::made::areas(s, 400, e);
+    }),
+    ("names", |s, e| {
+        names::made::few(s, e);
+        names::made::places(s, 12, e);
+        names::made::characters(s, 12, e);
+        names::made::refusals(s, 8_000, e);
+        names::made::lengths(s, 100, e);
+        names::made::any(s, 500_000, e);
     }),
     ("writers", |s, e| {
         made::writers(s, 40, e);
@@ -126,6 +135,7 @@ impl Both {
 fn answers(kind: Kind) -> &'static str {
     match kind {
         Kind::Padded => "Note 3",
+        Kind::Name => "Note 4",
         kind if kind.is_stream() => "stream",
         _ => "rubble",
     }
@@ -208,6 +218,10 @@ fn run(suite: Suite, seed: u64, shares: u64) -> Counts {
     let counts = all.into_inner().expect("no thread fails with it");
     if let Some(what) = counts.without_padding() {
         println!("{}: {what}: none has zeros behind it and is accepted or reported", suite.0);
+        exit(2);
+    }
+    if let Some(what) = counts.without_name() {
+        println!("{}: no search for a name ended so, or met this: {what}", suite.0);
         exit(2);
     }
     counts

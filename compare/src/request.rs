@@ -30,6 +30,8 @@ pub enum Kind {
     Rewrite,
     /// space | area: the number of records as the hub reads it and the octets that they took, and these octets written again
     Padded,
+    /// | advertisement, reply: where a player's name lies
+    Name,
     /// octet: what Flags say
     Flags,
     /// | octets: whether they are UTF-8
@@ -96,10 +98,10 @@ pub enum Kind {
     CrcFlag,
 }
 
-pub const KINDS: [Kind; 45] = [
+pub const KINDS: [Kind; 46] = [
     Kind::Decode, Kind::Header, Kind::SetHeader, Kind::NewHeader, Kind::Build, Kind::BuildDirected, Kind::Whitelist,
-    Kind::Area, Kind::Records, Kind::Known, Kind::Write, Kind::Rewrite, Kind::Padded, Kind::Flags, Kind::Utf8, Kind::Uuid16,
-    Kind::Uuid32, Kind::UuidList, Kind::Later, Kind::Since, Kind::AdvertisingChannel, Kind::DataChannel, Kind::Map,
+    Kind::Area, Kind::Records, Kind::Known, Kind::Write, Kind::Rewrite, Kind::Padded, Kind::Name, Kind::Flags, Kind::Utf8,
+    Kind::Uuid16, Kind::Uuid32, Kind::UuidList, Kind::Later, Kind::Since, Kind::AdvertisingChannel, Kind::DataChannel, Kind::Map,
     Kind::Events, Kind::Beacon, Kind::Scan, Kind::Scanner, Kind::ReadPdu,
     Kind::ReadHeader, Kind::WriteHeader, Kind::ReadAt, Kind::WriteAt, Kind::ReadUuid, Kind::WriteUuid, Kind::MayScan,
     Kind::MayConnect, Kind::ShouldScan, Kind::NamedFlags, Kind::AllChannels, Kind::ScannerCalls, Kind::Calls,

@@ -56,6 +56,7 @@ fn count_less(least: &mut Request, differs: Differs) {
                 while attempt(least, differs, |r| one_counted_less(&mut r.parts[1][at..])) {}
             }
         }
+        Kind::Name => (0..2).for_each(|part| shorten_records(least, part, differs)),
         _ => {}
     }
 }
@@ -70,6 +71,42 @@ fn one_counted_less(call: &mut [u8]) {
     if call[3] > 0 && call[13] > 0 {
         call[3] -= 1;
         call[13] -= 1;
+    }
+}
+
+/// Where the record that begins there ends, if it is whole.
+fn end_of_record(area: &[u8], at: usize) -> Option<usize> {
+    let end = at + 1 + *area.get(at)? as usize;
+    (end <= area.len()).then_some(end)
+}
+
+/// Takes whole records out of an area, or else octets of their data.
+fn shorten_records(least: &mut Request, part: usize, differs: Differs) {
+    for at in 0..least.parts[part].len() {
+        while let Some(end) = end_of_record(&least.parts[part], at) {
+            if !attempt(least, differs, |r| drop(r.parts[part].drain(at..end))) {
+                shorten_data(least, part, at, differs);
+                break;
+            }
+        }
+    }
+}
+
+/// Takes octets out of a record's data, which its length counts no more: all, halves, quarters, down to one.
+fn shorten_data(least: &mut Request, part: usize, at: usize, differs: Differs) {
+    let mut size = (least.parts[part][at] as usize).saturating_sub(1);
+    while size > 0 {
+        let mut from = at + 2;
+        while end_of_record(&least.parts[part], at).is_some_and(|end| from + size <= end) {
+            let fewer = |r: &mut Request| {
+                r.parts[part].drain(from..from + size);
+                r.parts[part][at] -= size as u8;
+            };
+            if !attempt(least, differs, fewer) {
+                from += size;
+            }
+        }
+        size /= 2;
     }
 }
 

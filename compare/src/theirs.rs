@@ -1,6 +1,7 @@
 //! rubble's answers. Where it panics, the number that document 01 gives (its rows marked P).
 mod basics;
 
+use crate::names;
 use crate::ours::{pattern, BEHIND};
 use crate::padding::{self, Behind};
 use crate::request::{last_asked, Kind, Request, CALL};
@@ -891,6 +892,7 @@ pub fn answer(r: &Request, out: &mut Vec<u8>) {
         Kind::Write => write(n, &p[0], out),
         Kind::Rewrite => rewritten(list(&p[0]), n[0], out),
         Kind::Padded => padded(&p[0], n[0], out),
+        Kind::Name => names::answer(&p[0], &p[1], out),
         Kind::Flags => {
             let f = Flags::from_bits_truncate(n[0] as u8);
             out.push(f.to_u8());

@@ -1,6 +1,7 @@
 //! Prints requests for `crates/replay` with rubble's answers, a line for each: first the request, then its answer. From each suite the first
-//! requests that show a refusal, a type, a builder, a kind of record, a call's answer or what stands behind an area's records are taken.
+//! requests that show a refusal, a type, a builder, a kind of record, a call's answer, what stands behind an area's records or where a name lies are taken.
 use compare::made::{self, Share};
+use compare::names;
 use compare::ours::{pattern, BEHIND};
 use compare::padding::{self, Behind};
 use compare::request::{Kind, Request, CALL};
@@ -180,6 +181,24 @@ fn padded(r: &Request) -> Vec<Line> {
     line('z', (number, behind(&r.parts[0])), &[&[room as u8], &r.parts[0]], text)
 }
 
+/// A player's name: where it lies, and its octets there. The number of the advertisement's octets is one octet.
+fn name(r: &Request) -> Vec<Line> {
+    let [advertisement, reply] = &r.parts[..] else { panic!("a name is sought in two areas") };
+    if advertisement.len() > 255 {
+        return Vec::new();
+    }
+    let a = rubble(r);
+    let (start, end) = (word(&a, 2) as usize, (word(&a, 2) + word(&a, 10)) as usize);
+    let text = match (a[0], a[1]) {
+        (0, 1) => format!(" reply at {start} to {end}{}", octets(&reply[start..end])),
+        (0, _) => format!(" advertisement at {start} to {end}{}", octets(&advertisement[start..end])),
+        (n, _) => format!(" refused {n}"),
+    };
+    let search = names::search(advertisement, reply);
+    let shows = (search.end.class() as u8, (search.malformed > 0) as u8);
+    line('l', shows, &[&[advertisement.len() as u8], advertisement, reply], text)
+}
+
 fn scan(r: &Request) -> Vec<Line> {
     if r.numbers[0] == 1 || r.numbers[1] != 0 || r.parts[1].len() != 2 {
         return Vec::new();
@@ -247,6 +266,7 @@ fn lines(r: &Request) -> Vec<Line> {
             line('r', (number, 0), &[&[r.numbers[0] as u8], &r.parts[0]], text)
         }
         Kind::Padded if r.numbers[0] as usize <= ROOM => padded(r),
+        Kind::Name => name(r),
         Kind::Write => write(r),
         Kind::Build => build(r),
         Kind::Map => map(r),
@@ -290,6 +310,21 @@ fn main() {
     made::packets(&share, 60_000, &mut |r| each(r, 24));
     made::areas(&share, 30, &mut |r| each(r, 24));
     padding::made::areas(&share, 3, &mut |r| each(r, 18));
+    // So far apart that the first few have names of many forms.
+    let mut turn = 0u64;
+    names::made::places(&share, 8, &mut |r| {
+        turn += 1;
+        if turn % 1231 == 1 {
+            each(r, 12)
+        }
+    });
+    names::made::characters(&share, 1, &mut |r| {
+        turn += 1;
+        if turn % 61 == 1 {
+            each(r, 18)
+        }
+    });
+    names::made::refusals(&share, 2, &mut |r| each(r, 24));
     made::writers(&share, 2, &mut |r| each(r, 6));
     made::scans(&share, 2_000, &mut |r| each(r, 24));
     made::lists(&share, 8_000, &mut |r| each(r, 30));

@@ -1,4 +1,4 @@
-//! Octets, UUIDs, headers and PDUs read and written at a position, and filters.
+//! Octets, UUIDs, headers and PDUs read and written at a position, filters, and a player's name.
 use super::{array, got, lent, packet, sizes, Got, In, Out, Packet};
 use crate::request::{Kind, Request};
 
@@ -16,6 +16,14 @@ struct Octets<const N: usize> {
     number: u8,
     octets: [u8; N],
     next: usize,
+}
+
+#[repr(C)]
+struct NameSaid {
+    number: u8,
+    in_reply: bool,
+    start: usize,
+    len: usize,
 }
 
 extern "C" {
@@ -54,6 +62,7 @@ extern "C" {
     fn board_should_scan(scan: bool, list: In, list_len: usize, octets: *const [u8; 6], random: bool) -> Got;
     fn board_discoverable_flags() -> u8;
     fn board_broadcast_flags() -> u8;
+    fn board_name(advertisement: In, advertisement_len: usize, reply: In, reply_len: usize) -> NameSaid;
 }
 
 fn octets<const N: usize>(read: Octets<N>, out: &mut Vec<u8>) {
@@ -123,6 +132,12 @@ fn write_uuid(n: &[u64], full: [u8; 16], out: &mut Vec<u8>) {
     });
 }
 
+fn name(advertisement: &[u8], reply: &[u8], out: &mut Vec<u8>) {
+    let said = unsafe { board_name(advertisement.as_ptr(), advertisement.len(), reply.as_ptr(), reply.len()) };
+    out.extend([said.number, said.in_reply as u8]);
+    sizes([said.start, said.len], out);
+}
+
 pub fn answer(r: &Request, out: &mut Vec<u8>) {
     let n = &r.numbers;
     let p = &r.parts;
@@ -146,6 +161,7 @@ pub fn answer(r: &Request, out: &mut Vec<u8>) {
             Kind::MayScan => got(board_may_scan(n[0] == 1, n[1] == 1, s, len, &array(&p[1]), n[2] == 1), out),
             Kind::MayConnect => got(board_may_connect(n[0] == 1, n[1] == 1, s, len, &array(&p[1]), n[2] == 1), out),
             Kind::ShouldScan => got(board_should_scan(n[0] == 1, s, len, &array(&p[1]), n[1] == 1), out),
+            Kind::Name => name(&p[0], &p[1], out),
             Kind::NamedFlags => out.extend([board_discoverable_flags(), board_broadcast_flags()]),
             other => panic!("{other:?} is asked elsewhere"),
         }
