@@ -2,7 +2,7 @@
 use mathlib.Core.Bool.{Bool, false, cond}
 use mathlib.Core.List.{List, [], _∷_}
 use mathlib.Core.Path.{_≡_, sym, ap, _∙_}
-use Prim.Native.Nat.{ℕ, suc, _+_, _-_, _≤_}
+use Prim.Native.Nat.{ℕ, _+_, _-_, _≤_}
 use native.Mathlib.Omega.{arith}
 use lib.ListN.{length, getD, take, drop, length-take}
 use lib.Seq.{getD-take, getD-drop, drop-drop}
@@ -16,30 +16,18 @@ use Rattle.records.specs.Area.{cut, records, AcceptedFrom, readArea}
 use Rattle.records.specs.Padding.{readPadded}
 use Rattle.records.specs.Record.{first}
 use Rattle.records.specs.Types.{shortenedNameType, completeNameType}
-use Rattle.records.specs.declared.ad_structure.AdStructure.{AdStructure}
-use Rattle.records.specs.declared.ad_structure.Read.the-variants.{Record}
 use Rattle.records.specs.declared.area.PaddedArea.the-variants as padded
-use Rattle.records.proofs.Cuts.{here, Step, stepped}
-use Rattle.records.proofs.Fronts.{GoodAt, good-here}
+use Rattle.records.proofs.Cuts.{Step}
 use Rattle.records.proofs.Padded.{before, took}
 use Rattle.names.specs.Name.{isName, firstName, nameIn, inReply, inAdvertisement, chosen, afterReading, nameOf}
 use Rattle.names.specs.declared.Found.the-variants.{At, Nothing}
 use Rattle.names.specs.declared.NamePlace.the-variants.{InReply, InAdvertisement, Refused}
 
--- a record that is read has a length and a type
-pub two-more : (s : List ℕ) (at : ℕ) {a : AdStructure} {next : ℕ} → here s at ≡ Record a next → at + 2 ≤ next
-unfolding first
-two-more s at e =
-    let g : GoodAt s at = good-here s at e in
-    let size : length (first (drop at s)) ≡ suc (length (take (g .n) (g .rest))) = ap (λ (l : List ℕ). length (first l)) (g .cuts) in
-    omega (arith, stepped s at e .ends, g .good .whole, g .good .some)
-
--- it is the name, or the search goes on behind it
-pub goes-on : (s : List ℕ) (ty at : ℕ) {a : AdStructure} {next : ℕ} → here s at ≡ Record a next
+-- a record is the name, or the search goes on behind it
+pub goes-on : (s : List ℕ) (ty at : ℕ) {next : ℕ} → Step s at next
     → firstName ty (records (drop at s)) at ≡ cond (isName ty (part (next - at) s at)) (At (at + 2) (next - at - 2)) (firstName ty (records (drop next s)) next)
 unfolding firstName
-goes-on s ty at {a} {next} e =
-    let step : Step s at next = stepped s at e in
+goes-on s ty at {next} step =
     let long : length (first (drop at s)) ≡ next - at = omega (arith, step .ends) in
     rw (step .cuts, step .ends, long, step .octets)
 

@@ -7,9 +7,7 @@ ghost use Rattle.records.specs.Area.{AcceptedFrom};
 ghost use Rattle.names.specs.Name.{isName, nameIn, chosen, nameOf, handedFrom, handedOn, nameFrom, nameOctets};
 use octets::bytes::part_of;
 use octets::error::Error;
-use records::ad_structure::Read;
 use records::ad_structure::Type;
-use records::ad_structure::read_record;
 use records::area::PaddedArea;
 use records::area::read_padded_area;
 use utf8::is_utf8;
@@ -52,13 +50,14 @@ fn is_name(s: &[u8], at: usize, next: usize, ty: u8) -> bool
     is_utf8(&s[start..next])
 }
 
-// The first name of type `ty` in an area without padding.
+// The first name of type `ty` in an area without padding. It was read, so each length octet leads to the next record.
 fn name_in(s: &[u8], ty: u8) -> Found
     requires { ⌜ AcceptedFrom (now s) 0 ⌝ }
     ensures { λ r. ⌜ r ≡ nameIn ty (now (s .entry)) ⌝ }
 {
     let mut at = 0;
-    while let Read::Record(_, next) = read_record(s, at) {
+    while at < s.len() {
+        let next = at + 1 + s[at] as usize;
         if is_name(s, at, next, ty) {
             return Found::At {
                 start: at + 2,

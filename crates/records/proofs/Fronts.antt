@@ -44,33 +44,10 @@ good-parts ((n ∷ body) ∷ ps) r qs all =
     let later = good-parts ps r qs (all .1) in
     ((all .0, later .0), later .1)
 
--- where reading finds a record, a good one stands
-pub record GoodAt (s : List ℕ) (at : ℕ) : Type 0 where
-  pub n : ℕ
-  pub rest : List ℕ
-  pub cuts : drop at s ≡ n ∷ rest
-  pub good : Good n (take n rest)
-
-pub good-here : (s : List ℕ) (at : ℕ) {a : AdStructure} {next : ℕ} → here s at ≡ Record a next → GoodAt s at
-unfolding here recordRead first
-good-here s at {a} {next} e = go (drop at s) refl
-  where
-    go : (l : List ℕ) → drop at s ≡ l → GoodAt s at
-    go [] is = absurd (let none : End ≡ Record a next = ap (λ (l : List ℕ). recordRead (first l) at) (sym is) ∙ e in let z : _≡_ {A = ℕ} 0 1 = cc in omega arith)
-    go (n ∷ rest) is = record { n = n; rest = rest; cuts = is; good = subst (Class n rest) (ap (λ (l : List ℕ). recordRead (first l) at) (sym is) ∙ e) (class n rest at) }
-
 -- a record that is read behind good records is one more
 pub one-more : (s : List ℕ) (at : ℕ) {count : ℕ} {a : AdStructure} {next : ℕ} → here s at ≡ Record a next → Tiling (take at s) count → Tiling (take next s) (count + 1)
-unfolding first flatten
-one-more s at {count} {a} {next} e t =
-    let g : GoodAt s at = good-here s at e in
-    let r : List ℕ = g .n ∷ take (g .n) (g .rest) in
-    record {
-      pieces = t .pieces ++ (r ∷ []);
-      tile = flatten-append (t .pieces) (r ∷ []) ∙ ap₂ (λ (x y : List ℕ). x ++ y) (t .tile) (append-nil r ∙ ap first (sym (g .cuts))) ∙ up-to;
-      good = all-good-more (t .pieces) (g .n) (take (g .n) (g .rest)) (t .good) (g .good);
-      count = length-append (t .pieces) (r ∷ []) ∙ ap (λ (k : ℕ). k + 1) (t .count);
-    }
+unfolding here recordRead first flatten
+one-more s at {count} {a} {next} e t = go (drop at s) refl
   where
     step : Step s at next
     step = stepped s at e
@@ -80,6 +57,17 @@ one-more s at {count} {a} {next} e t =
     up-to =
         let far : at + (next - at) ≡ next = omega (arith, step .later) in
         ap (λ (l : List ℕ). take at s ++ l) (step .octets) ∙ sym (take-add at (next - at) s) ∙ ap (λ (k : ℕ). take k s) far
+
+    go : (l : List ℕ) → drop at s ≡ l → Tiling (take next s) (count + 1)
+    go [] is = absurd (let none : End ≡ Record a next = ap (λ (l : List ℕ). recordRead (first l) at) (sym is) ∙ e in let z : _≡_ {A = ℕ} 0 1 = cc in omega arith)
+    go (n ∷ rest) is =
+        let good : Good n (take n rest) = subst (Class n rest) (ap (λ (l : List ℕ). recordRead (first l) at) (sym is) ∙ e) (class n rest at) in
+        record {
+          pieces = t .pieces ++ ((n ∷ take n rest) ∷ []);
+          tile = flatten-append (t .pieces) ((n ∷ take n rest) ∷ []) ∙ ap₂ (λ (x y : List ℕ). x ++ y) (t .tile) (append-nil (n ∷ take n rest) ∙ ap first (sym is)) ∙ up-to;
+          good = all-good-more (t .pieces) n (take n rest) (t .good) good;
+          count = length-append (t .pieces) ((n ∷ take n rest) ∷ []) ∙ ap (λ (k : ℕ). k + 1) (t .count);
+        }
 
 -- none at the beginning
 pub none-yet : (s : List ℕ) → Tiling (take 0 s) 0

@@ -23,17 +23,17 @@ use Rattle.records.proofs.Rewritten.{clean-length, rewritten-step, rewr
 use Rattle.records.proofs.RoundTrip.{reads-clean, cleans, round-trip}
 
 -- the position behind the record at p
-abbrev next : List ℕ → ℕ → ℕ
+abbrev pub next : List ℕ → ℕ → ℕ
 next s p = p + 1 + getD s p 0
 
 -- where an accepted area goes on, there is a good record, and the area goes on behind it
-record Whole (s : List ℕ) (p : ℕ) : Type 0 where
-  good : Good (getD s p 0) (take (getD s p 0) (drop (p + 1) s))
-  step : Step s p (next s p)
-  read : ReadAt s p
-  onward : AcceptedFrom s (next s p)
+pub record Whole (s : List ℕ) (p : ℕ) : Type 0 where
+  pub good : Good (getD s p 0) (take (getD s p 0) (drop (p + 1) s))
+  pub step : Step s p (next s p)
+  pub read : ReadAt s p
+  pub onward : AcceptedFrom s (next s p)
 
-whole-at : (s : List ℕ) (p : ℕ) → AcceptedFrom s p → p < length s → Whole s p
+pub whole-at : (s : List ℕ) (p : ℕ) → AcceptedFrom s p → p < length s → Whole s p
 unfolding here first counting
 whole-at s p from inside = go (here s p) refl
   where
