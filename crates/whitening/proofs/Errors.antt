@@ -32,16 +32,17 @@ crcStart-length start = length-reverse (bits 24 start) ∙ bits-length 24 start
 
 -- ---- a register that takes in its own bits
 
+pub xor-none : (x : Bool) → xor x false ≡ x
+unfolding xor
+xor-none true = refl
+xor-none false = refl
+
 added-none : (taps xs : List Bool) → length xs ≡ length taps → added false taps xs ≡ xs
 unfolding added xor
 added-none [] [] e = refl
 added-none [] (x ∷ xs) e = absurd (omega arith)
 added-none (t ∷ taps) [] e = refl
-added-none (t ∷ taps) (x ∷ xs) e = ap₂ _∷_ (same-bit x) (added-none taps xs (omega arith))
-  where
-    same-bit : (x : Bool) → xor x false ≡ x
-    same-bit true = refl
-    same-bit false = refl
+added-none (t ∷ taps) (x ∷ xs) e = ap₂ _∷_ (xor-none x) (added-none taps xs (omega arith))
 
 xor-same : (x : Bool) → xor x x ≡ false
 unfolding xor

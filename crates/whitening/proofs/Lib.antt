@@ -2,6 +2,7 @@ pub mod Octets
 pub mod Bits
 pub mod Registers
 pub mod Steps
+pub mod Each
 pub mod Rows
 pub mod Adding
 pub mod Twice
@@ -12,6 +13,7 @@ pub mod Heard
 pub mod Numbers
 pub mod Dividing
 pub mod Recurring
+pub mod Cycle
 pub mod Starts
 pub mod Polynomials
 pub mod Examples

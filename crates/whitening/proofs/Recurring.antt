@@ -8,12 +8,7 @@ use lib.ListN.{drop, replicate}
 use Rattle.whitening.specs.Bits.{bits, added, shifted}
 use Rattle.whitening.specs.Laws.{sum, Recurs}
 use Rattle.whitening.specs.Whitening.{whiteningTaps, registerOn, leaving}
-use Rattle.whitening.proofs.Errors.{xor-back}
-
-xor-none : (x : Bool) → xor x false ≡ x
-unfolding xor
-xor-none true = refl
-xor-none false = refl
+use Rattle.whitening.proofs.Errors.{xor-back, xor-none}
 
 -- one shift: positions 6 to 0 of what is then held
 shift : (a b c d e f g : Bool) → shifted whiteningTaps a (b ∷ c ∷ d ∷ e ∷ f ∷ g ∷ []) ≡ b ∷ c ∷ xor d a ∷ e ∷ f ∷ g ∷ a ∷ []

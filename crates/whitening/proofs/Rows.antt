@@ -1,24 +1,36 @@
--- The table holds the whitening octets of channel 0, then of channel 1, up to 39: one computed test over all of its entries. Assumes nothing.
-use mathlib.Core.Path.{_≡_, refl, sym, ap, ap₂, _∙_}
+-- From a channel's place on the cycle holds the channel's whitening octets: one computed test over all 1,680 of them. Assumes nothing.
+use mathlib.Core.Path.{_≡_, refl, ap, ap₂, _∙_}
 use mathlib.Core.Bool.{Bool, xor}
-use mathlib.Core.List.{List, [], _∷_, _++_}
-use Prim.Native.Nat.{ℕ, zero, suc, _+_, _-_, _*_, _≤_, _<_}
+use mathlib.Core.List.{List, [], _∷_}
+use Prim.Native.Nat.{ℕ, zero, suc, _+_, _-_, _≤_, _<_}
 use native.Mathlib.Omega.{arith}
+use borrow.Author.Tests.{ltb-true}
 use lib.Bits.{bitXor, xor-zero-l}
-use lib.ListN.{length, getD, take, drop, replicate, List·getD-append}
-use lib.Seq.{drop-at, drop-drop, getD-drop, take-append-le, take-length}
+use lib.Dec.{ltb}
+use lib.ListN.{length, getD, take, drop, replicate}
+use Rattle.channels.specs.Count.{count}
+use Rattle.channels.proofs.Counting.{count-all}
 use Rattle.whitening.specs.Bits.{bits, number, octetsOf, added}
-use Rattle.whitening.specs.Whitening.{leaving, whitening, plus, whitened}
-use Rattle.whitening.proofs.Octets.{table}
+use Rattle.whitening.specs.Whitening.{registerOn, leaving, whitening, plus, whitened}
+use Rattle.whitening.proofs.Each.{values, each}
+use Rattle.whitening.proofs.Octets.{cycle, places}
 
--- the octets of n channels from one on
-unfoldable pub rows : ℕ → ℕ → List ℕ
-rows zero channel = []
-rows (suc n) channel = whitening channel ++ rows n (suc channel)
+abbrev pub placeOf : ℕ → ℕ
+placeOf channel = getD places channel 0
 
-pub table-is : table ≡ rows 40 0
-unfolding table rows whitening leaving bits number octetsOf added xor
-table-is = refl
+pub part-is : (channel : ℕ) → channel < 40 → take 42 (drop (placeOf channel) cycle) ≡ whitening channel
+unfolding cycle places values whitening leaving bits number octetsOf added xor
+part-is = each (λ (c : ℕ). take 42 (drop (placeOf c) cycle)) whitening 40 refl
+
+-- the cycle itself: the octets that leave the register of channel 4, in 1,232 bits
+pub kept : cycle ≡ octetsOf 154 (leaving 1232 (registerOn 4))
+unfolding cycle leaving bits number octetsOf added xor
+kept = refl
+
+-- none is cut
+pub place-small : (channel : ℕ) → channel < 40 → placeOf channel < 113
+unfolding places count
+place-small channel h = ltb-true (placeOf channel) 113 (count-all (λ (c : ℕ). ltb (placeOf c) 113) 40 refl channel h)
 
 pub octetsOf-length : (n : ℕ) (bs : List Bool) → length (octetsOf n bs) ≡ n
 unfolding octetsOf
@@ -28,39 +40,6 @@ octetsOf-length (suc n) bs = ap suc (octetsOf-length n (drop 8 bs))
 pub whitening-length : (channel : ℕ) → length (whitening channel) ≡ 42
 unfolding whitening
 whitening-length channel = octetsOf-length 42 _
-
-drop-rows : (k n channel : ℕ) → drop (42 * k) (rows (k + n) channel) ≡ rows n (k + channel)
-unfolding rows
-drop-rows zero n channel =
-    let e : 0 + n ≡ n = omega arith in
-    let f : 0 + channel ≡ channel = omega arith in
-    rw (e, f)
-drop-rows (suc k) n channel =
-    let e : 42 * suc k ≡ 42 + 42 * k = omega arith in
-    let f : suc k + n ≡ suc (k + n) = omega arith in
-    let g : k + suc channel ≡ suc k + channel = omega arith in
-    ap₂ (λ (a b : ℕ). drop a (rows b channel)) e f
-    ∙ sym (drop-drop (42 * k) 42 (whitening channel ++ rows (k + n) (suc channel)))
-    ∙ ap (drop (42 * k)) (drop-at (whitening channel) (rows (k + n) (suc channel)) 42 (whitening-length channel))
-    ∙ drop-rows k n (suc channel)
-    ∙ ap (rows n) g
-
-pub table-row : (channel : ℕ) → channel ≤ 39 → drop (42 * channel) table ≡ whitening channel ++ rows (39 - channel) (suc channel)
-unfolding rows
-table-row channel h =
-    let e : 40 ≡ channel + suc (39 - channel) = omega arith in
-    let f : channel + 0 ≡ channel = omega arith in
-    ap (drop (42 * channel)) table-is
-    ∙ ap (λ (n : ℕ). drop (42 * channel) (rows n 0)) e
-    ∙ drop-rows channel (suc (39 - channel)) 0
-    ∙ ap (rows (suc (39 - channel))) f
-
--- each of the 1,680 entries
-pub table-entry : (channel i : ℕ) → channel ≤ 39 → i < 42 → getD table (42 * channel + i) 0 ≡ getD (whitening channel) i 0
-table-entry channel i h l =
-    sym (getD-drop (42 * channel) table i 0)
-    ∙ ap (λ (s : List ℕ). getD s i 0) (table-row channel h)
-    ∙ List·getD-append (whitening channel) (rows (39 - channel) (suc channel)) 0 i (omega (arith, whitening-length channel))
 
 -- what is longer is cut
 pub plus-cut : (packet octets : List ℕ) → plus packet (take (length packet) octets) ≡ plus packet octets
@@ -76,13 +55,11 @@ plus-zeros zero (y ∷ octets) e = absurd (omega arith)
 plus-zeros (suc n) [] e = absurd (omega arith)
 plus-zeros (suc n) (y ∷ octets) e = ap₂ _∷_ (xor-zero-l y) (plus-zeros n octets (omega arith))
 
--- a row of the table is a channel's
-pub row-is : (channel : ℕ) → channel ≤ 39 → plus (replicate 42 0) (take (42 * channel + 42 - 42 * channel) (drop (42 * channel) table)) ≡ whitening channel
+-- a part of the cycle is a channel's
+pub row-is : (channel : ℕ) → channel ≤ 39 → plus (replicate 42 0) (take (placeOf channel + 42 - placeOf channel) (drop (placeOf channel) cycle)) ≡ whitening channel
 row-is channel h =
-    let e : 42 * channel + 42 - 42 * channel ≡ 42 = omega arith in
-    let fits : 42 ≤ length (whitening channel) = omega (arith, whitening-length channel) in
-    let all : take 42 (whitening channel) ≡ whitening channel = ap (λ (n : ℕ). take n (whitening channel)) (sym (whitening-length channel)) ∙ take-length (whitening channel) in
-    rw (e, table-row channel h, take-append-le 42 (whitening channel), all) (plus-zeros 42 (whitening channel) (whitening-length channel))
+    let e : placeOf channel + 42 - placeOf channel ≡ 42 = omega arith in
+    rw (e, part-is channel (omega arith)) (plus-zeros 42 (whitening channel) (whitening-length channel))
 
 -- its front is what a packet is whitened with
 pub plus-row : (channel : ℕ) (packet row : List ℕ) → row ≡ whitening channel → plus packet (take (length packet) row) ≡ whitened channel packet

@@ -163,12 +163,11 @@ pub register-after-octet : (r d : ℕ) → r < 2 ^ 24 → d < 256
 register-after-octet r d h l =
     let y = bitXor r d in
     let x = y % 256 in
-    let at-once = reached-is 8 r d h in
     let is =
     eight r d l
     ∙ ap (bitXor (y / 256)) (fed-is x (mod-lt y (omega arith)))
     ∙ sym (xor-assoc (y / 256) (1024 * x) (bitXor (64 * pair x) (bitXor (4096 * pair x) (32768 * pair x)))) in
-    record { same = ap (bits 24) (sym is) ∙ at-once .same; small = subst (λ (n : ℕ). n < 2 ^ 24) is (at-once .small) }
+    subst (λ (n : ℕ). Register n (crcAfter (bits 24 r) (bits 8 d))) is (reached-is 8 r d h)
 
 pub pair-small : (y : ℕ) → bitXor (y % 256) (2 * (y % 256)) < 512
 pair-small y = xor-lt 9 (y % 256) (2 * (y % 256)) (omega arith) (omega arith)
@@ -208,8 +207,7 @@ single i l = eqb-true (reached 24 (1 * 2 ^ i) 0) (outOf (backOf (1 * 2 ^ i))) (c
 
 pub register-after-three : (r d : ℕ) → r < 2 ^ 24 → d < 2 ^ 24 → Register (outOf (backOf (bitXor r d))) (crcAfter (bits 24 r) (bits 24 d))
 register-after-three r d h l =
-    let at-once = reached-is 24 r d h in
     let is =
     into 24 r d l
     ∙ agree (λ (x : ℕ). reached 24 x 0) (λ (x : ℕ). outOf (backOf x)) (linear 24) (one-of outOf backOf out-linear back-linear) 24 single (bitXor r d) (xor-lt 24 r d h l) in
-    record { same = ap (bits 24) (sym is) ∙ at-once .same; small = subst (λ (n : ℕ). n < 2 ^ 24) is (at-once .small) }
+    subst (λ (n : ℕ). Register n (crcAfter (bits 24 r) (bits 24 d))) is (reached-is 24 r d h)

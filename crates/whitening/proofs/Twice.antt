@@ -87,7 +87,7 @@ added-length k (t ∷ taps) (x ∷ xs) e = ap suc (added-length k taps xs (omega
 pub shifted-length : (taps : List Bool) (k : Bool) (rest : List Bool) → suc (length rest) ≡ length taps → length (shifted taps k rest) ≡ length taps
 shifted-length taps k rest e = added-length k taps (rest ++ false ∷ []) (simp length-append (omega arith))
 
-leaving-length : (n : ℕ) (register : List Bool) → length register ≡ 7 → length (leaving n register) ≡ n
+pub leaving-length : (n : ℕ) (register : List Bool) → length register ≡ 7 → length (leaving n register) ≡ n
 unfolding leaving
 leaving-length zero register e = refl
 leaving-length (suc n) [] e = absurd (omega arith)

@@ -2,7 +2,8 @@
 use crate::crc::CRC_PRESET;
 use crate::crc::after_octets;
 use crate::crc::register_at;
-use crate::table::WHITENING;
+use crate::table::CYCLE;
+use crate::table::PLACES;
 use octets::error::Error;
 ghost use mathlib.Core.Path.{_≡_};
 ghost use Prim.Native.Nat.{_≤_};
@@ -55,15 +56,15 @@ fn add(packet: &mut [u8], octets: &[u8])
     }
 }
 
-// The whitening octets of a channel. The table is laid out wherever it is named, so it is named here alone.
+// The whitening octets of a channel. The cycle is laid out wherever it is named, so it is named here alone.
 fn row(channel: u8) -> [u8; 42]
     requires { ⌜ channel ≤ 39 ⌝ }
     ensures { λ r. ⌜ r ≡ whitening channel ⌝ }
 {
-    let from = 42 * (channel as usize);
+    let from = PLACES[channel as usize] as usize;
     let to = from + 42;
     let mut octets = [0u8; 42];
-    add(&mut octets, &WHITENING[from..to]);
+    add(&mut octets, &CYCLE[from..to]);
     octets
 }
 

@@ -1,0 +1,152 @@
+-- All channels follow one cycle of 127 bits from different places (document 02, Note 5): `OneCycle`, proved as `one-cycle`. It speaks of the definitions alone, and knows nothing of the code. Assumes nothing.
+--
+--   cycle           == the 127 bits, from where channel 0 begins
+--   Follows channel == a place from which the bits that leave the channel's register are the cycle's, round and round
+--   OneCycle        == every channel has such a place, and no two have the same
+use mathlib.Core.Path.{_≡_, refl, sym, ap, ap₂, _∙_}
+use mathlib.Core.Bool.{Bool, true, false, xor}
+use mathlib.Core.List.{List, [], _∷_, _++_}
+use Prim.Native.Nat.{ℕ, zero, suc, _+_, _*_, _/_, _%_, _≤_, _<_}
+use native.Mathlib.Nat.{mod-lt}
+use native.Mathlib.Omega.{arith}
+use borrow.Author.Tests.{ltb-true}
+use lib.Dec.{ltb}
+use lib.ListN.{length, getD, take, replicate}
+use lib.Seq.{ext-getD, take-at}
+use Rattle.channels.specs.Count.{count}
+use Rattle.channels.proofs.Counting.{count-all}
+use Rattle.whitening.specs.Bits.{bits, number, added, shifted}
+use Rattle.whitening.specs.Laws.{sum}
+use Rattle.whitening.specs.Whitening.{whiteningTaps, registerOn, leaving}
+use Rattle.whitening.proofs.Bits.{bits-length, number-bits}
+use Rattle.whitening.proofs.Each.{values, each}
+use Rattle.whitening.proofs.Recurring.{recurs}
+use Rattle.whitening.proofs.Twice.{leaving-length}
+
+abbrev pub period : ℕ
+period = 127
+
+abbrev pub cycle : List Bool
+cycle = leaving period (registerOn 0)
+
+-- of any number of bits, the 336 of a packet among them
+pub record Follows (channel : ℕ) : Type 0 where
+  pub place : ℕ
+  pub within : place < period
+  pub bit : (n i : ℕ) → i < n → getD (leaving n (registerOn channel)) i false ≡ getD cycle ((place + i) % period) false
+
+pub record OneCycle : Type 0 where
+  pub size : length cycle ≡ 127
+  pub follows : (channel : ℕ) → channel ≤ 39 → Follows channel
+  pub different : (c d : ℕ) → c ≤ 39 → d ≤ 39 → (f : Follows c) (g : Follows d) → f .place ≡ g .place → c ≡ d
+
+-- ---- the register after n shifts
+
+unfoldable after : ℕ → List Bool → List Bool
+after zero register = register
+after (suc n) [] = []
+after (suc n) (out ∷ rest) = after n (shifted whiteningTaps out rest)
+
+after-none : (n : ℕ) → after n [] ≡ []
+unfolding after
+after-none zero = refl
+after-none (suc n) = refl
+
+after-add : (k n : ℕ) (register : List Bool) → after (k + n) register ≡ after n (after k register)
+unfolding after
+after-add zero n register = let e : 0 + n ≡ n = omega arith in rw e
+after-add (suc k) n [] = after-none (suc k + n) ∙ sym (after-none n)
+after-add (suc k) n (out ∷ rest) =
+    let e : suc k + n ≡ suc (k + n) = omega arith in
+    ap (λ (m : ℕ). after m (out ∷ rest)) e ∙ after-add k n (shifted whiteningTaps out rest)
+
+-- its highest position is what leaves next
+next-bit : (n i : ℕ) (register : List Bool) → i < n → getD (leaving n register) i false ≡ getD (after i register) 0 false
+unfolding after leaving
+next-bit zero i register h = absurd (omega arith)
+next-bit (suc n) zero [] h = refl
+next-bit (suc n) (suc i) [] h = refl
+next-bit (suc n) zero (out ∷ rest) h = refl
+next-bit (suc n) (suc i) (out ∷ rest) h = next-bit n i (shifted whiteningTaps out rest) (omega arith)
+
+-- ---- round and round
+
+comes-round : after period (registerOn 0) ≡ registerOn 0
+unfolding after added bits xor
+comes-round = refl
+
+rounds : (k : ℕ) → after (period * k) (registerOn 0) ≡ registerOn 0
+unfolding after
+rounds zero = refl
+rounds (suc k) =
+    let e : period * suc k ≡ period + period * k = omega arith in
+    ap (λ (m : ℕ). after m (registerOn 0)) e
+    ∙ after-add period (period * k) (registerOn 0)
+    ∙ ap (after (period * k)) comes-round
+    ∙ rounds k
+
+in-round : (n : ℕ) → after n (registerOn 0) ≡ after (n % period) (registerOn 0)
+in-round n =
+    let e : n ≡ period * (n / period) + n % period = omega arith in
+    ap (λ (m : ℕ). after m (registerOn 0)) e
+    ∙ after-add (period * (n / period)) (n % period) (registerOn 0)
+    ∙ ap (after (n % period)) (rounds (n / period))
+
+-- ---- the place of each channel
+
+unfoldable places : List ℕ
+places =
+    0 ∷ 119 ∷ 50 ∷ 41 ∷ 7 ∷ 103 ∷ 72 ∷ 31 ∷ 123 ∷ 96 ∷ 88 ∷ 83 ∷ 10 ∷ 13 ∷ 55 ∷ 19 ∷ 67 ∷ 92 ∷ 65 ∷ 111
+    ∷ 52 ∷ 74 ∷ 90 ∷ 57 ∷ 115 ∷ 45 ∷ 63 ∷ 24 ∷ 16 ∷ 106 ∷ 109 ∷ 77 ∷ 97 ∷ 84 ∷ 14 ∷ 20 ∷ 120 ∷ 42 ∷ 104 ∷ 32 ∷ []
+
+abbrev placeOf : ℕ → ℕ
+placeOf channel = getD places channel 0
+
+reached : (channel : ℕ) → channel < 40 → after (placeOf channel) (registerOn 0) ≡ registerOn channel
+unfolding places values after added bits xor
+reached = each (λ (c : ℕ). after (placeOf c) (registerOn 0)) registerOn 40 refl
+
+place-small : (channel : ℕ) → channel < 40 → placeOf channel < period
+unfolding places count
+place-small channel h = ltb-true (placeOf channel) period (count-all (λ (c : ℕ). ltb (placeOf c) period) 40 refl channel h)
+
+follows : (channel : ℕ) → channel ≤ 39 → Follows channel
+follows channel h =
+    let p = placeOf channel in
+    record {
+      place = p;
+      within = place-small channel (omega arith);
+      bit = λ n i l.
+          next-bit n i (registerOn channel) l
+          ∙ ap (λ (r : List Bool). getD (after i r) 0 false) (sym (reached channel (omega arith)))
+          ∙ ap (λ (r : List Bool). getD r 0 false) (sym (after-add p i (registerOn 0)) ∙ in-round (p + i))
+          ∙ sym (next-bit period ((p + i) % period) (registerOn 0) (mod-lt (p + i) (omega arith)));
+    }
+
+-- ---- different places
+
+leaving-on : (n channel : ℕ) → length (leaving n (registerOn channel)) ≡ n
+unfolding bits
+leaving-on n channel = leaving-length n (registerOn channel) refl
+
+-- the first seven bits give the register, and the register the channel
+different : (c d : ℕ) → c ≤ 39 → d ≤ 39 → (f : Follows c) (g : Follows d) → f .place ≡ g .place → c ≡ d
+different c d h l f g e = sym (index c (omega arith)) ∙ ap (λ (r : List Bool). number (take 6 r)) registers ∙ index d (omega arith)
+  where
+    index : (x : ℕ) → x < 64 → number (take 6 (registerOn x)) ≡ x
+    index x s = ap number (take-at (bits 6 x) (true ∷ []) 6 (bits-length 6 x)) ∙ number-bits 6 x s
+
+    leave : (n : ℕ) → leaving n (registerOn c) ≡ leaving n (registerOn d)
+    leave n =
+        ext-getD false (leaving n (registerOn c)) (leaving n (registerOn d)) (leaving-on n c ∙ sym (leaving-on n d)) (λ i b.
+        let inside : i < n = omega (arith, leaving-on n c) in
+        f .bit n i inside ∙ ap (λ (p : ℕ). getD cycle ((p + i) % period) false) e ∙ sym (g .bit n i inside))
+
+    registers : registerOn c ≡ registerOn d
+    registers =
+        sym (recurs c .first)
+        ∙ ap₂ (λ (xs ys : List Bool). sum xs (replicate 3 false ++ ys)) (leave 7) (leave 4)
+        ∙ recurs d .first
+
+pub one-cycle : OneCycle
+one-cycle = record { size = leaving-on period 0; follows = follows; different = different }
