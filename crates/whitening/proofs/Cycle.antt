@@ -40,12 +40,18 @@ pub record OneCycle : Type 0 where
   pub follows : (channel : ℕ) → channel ≤ 39 → Follows channel
   pub different : (c d : ℕ) → c ≤ 39 → d ≤ 39 → (f : Follows c) (g : Follows d) → f .place ≡ g .place → c ≡ d
 
--- ---- the register after n shifts
+-- ---- the register after n shifts. What leaves is looked at in each, which makes the tests below quick.
 
 unfoldable after : ℕ → List Bool → List Bool
 after zero register = register
 after (suc n) [] = []
-after (suc n) (out ∷ rest) = after n (shifted whiteningTaps out rest)
+after (suc n) (true ∷ rest) = after n (shifted whiteningTaps true rest)
+after (suc n) (false ∷ rest) = after n (shifted whiteningTaps false rest)
+
+after-one : (n : ℕ) (out : Bool) (rest : List Bool) → after (suc n) (out ∷ rest) ≡ after n (shifted whiteningTaps out rest)
+unfolding after
+after-one n true rest = refl
+after-one n false rest = refl
 
 after-none : (n : ℕ) → after n [] ≡ []
 unfolding after
@@ -58,7 +64,10 @@ after-add zero n register = let e : 0 + n ≡ n = omega arith in rw e
 after-add (suc k) n [] = after-none (suc k + n) ∙ sym (after-none n)
 after-add (suc k) n (out ∷ rest) =
     let e : suc k + n ≡ suc (k + n) = omega arith in
-    ap (λ (m : ℕ). after m (out ∷ rest)) e ∙ after-add k n (shifted whiteningTaps out rest)
+    ap (λ (m : ℕ). after m (out ∷ rest)) e
+    ∙ after-one (k + n) out rest
+    ∙ after-add k n (shifted whiteningTaps out rest)
+    ∙ sym (ap (after n) (after-one k out rest))
 
 -- its highest position is what leaves next
 next-bit : (n i : ℕ) (register : List Bool) → i < n → getD (leaving n register) i false ≡ getD (after i register) 0 false
@@ -67,7 +76,8 @@ next-bit zero i register h = absurd (omega arith)
 next-bit (suc n) zero [] h = refl
 next-bit (suc n) (suc i) [] h = refl
 next-bit (suc n) zero (out ∷ rest) h = refl
-next-bit (suc n) (suc i) (out ∷ rest) h = next-bit n i (shifted whiteningTaps out rest) (omega arith)
+next-bit (suc n) (suc i) (out ∷ rest) h =
+    next-bit n i (shifted whiteningTaps out rest) (omega arith) ∙ sym (ap (λ (r : List Bool). getD r 0 false) (after-one i out rest))
 
 -- ---- round and round
 
