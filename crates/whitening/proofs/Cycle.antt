@@ -2,26 +2,25 @@
 --
 --   cycle           == the 127 bits, from where channel 0 begins
 --   Follows channel == a place from which the bits that leave the channel's register are the cycle's, round and round
---   OneCycle        == every channel has such a place, and no two have the same
+--   OneCycle        == every channel has such a place, one only, and no two have the same
 use mathlib.Core.Path.{_≡_, refl, sym, ap, ap₂, _∙_}
 use mathlib.Core.Bool.{Bool, true, false, xor}
 use mathlib.Core.List.{List, [], _∷_, _++_}
-use Prim.Native.Nat.{ℕ, zero, suc, _+_, _*_, _/_, _%_, _≤_, _<_}
+use Prim.Native.Nat.{ℕ, zero, suc, _+_, _-_, _*_, _/_, _%_, _^_, _≤_, _<_}
 use native.Mathlib.Nat.{mod-lt}
 use native.Mathlib.Omega.{arith}
-use borrow.Author.Tests.{ltb-true}
+use borrow.Author.Tests.{ltb-true, ltb-false}
 use lib.Dec.{ltb}
-use lib.ListN.{length, getD, take, replicate}
-use lib.Seq.{ext-getD, take-at}
-use Rattle.channels.specs.Count.{count}
-use Rattle.channels.proofs.Counting.{count-all}
+use lib.ListN.{length, getD, replicate}
+use lib.Seq.{ext-getD}
+use Rattle.channels.specs.Count.{bit, count}
 use Rattle.whitening.specs.Bits.{bits, number, added, shifted}
 use Rattle.whitening.specs.Laws.{sum}
 use Rattle.whitening.specs.Whitening.{whiteningTaps, registerOn, leaving}
-use Rattle.whitening.proofs.Bits.{bits-length, number-bits}
-use Rattle.whitening.proofs.Each.{values, each}
+use Rattle.whitening.proofs.Values.{values, values-all, values-small}
 use Rattle.whitening.proofs.Recurring.{recurs}
-use Rattle.whitening.proofs.Twice.{leaving-length}
+use Rattle.whitening.proofs.Starts.{starts}
+use Rattle.whitening.proofs.Twice.{leaving-on}
 
 abbrev pub period : ℕ
 period = 127
@@ -39,6 +38,8 @@ pub record OneCycle : Type 0 where
   pub size : length cycle ≡ 127
   pub follows : (channel : ℕ) → channel ≤ 39 → Follows channel
   pub different : (c d : ℕ) → c ≤ 39 → d ≤ 39 → (f : Follows c) (g : Follows d) → f .place ≡ g .place → c ≡ d
+  -- one only, so that no shorter cycle would do
+  pub alone : (c : ℕ) (f g : Follows c) → f .place ≡ g .place
 
 -- ---- the register after n shifts. What leaves is looked at in each, which makes the tests below quick.
 
@@ -104,28 +105,28 @@ in-round n =
 
 -- ---- the place of each channel
 
-unfoldable places : List ℕ
-places =
+unfoldable bitPlaces : List ℕ
+bitPlaces =
     0 ∷ 119 ∷ 50 ∷ 41 ∷ 7 ∷ 103 ∷ 72 ∷ 31 ∷ 123 ∷ 96 ∷ 88 ∷ 83 ∷ 10 ∷ 13 ∷ 55 ∷ 19 ∷ 67 ∷ 92 ∷ 65 ∷ 111
     ∷ 52 ∷ 74 ∷ 90 ∷ 57 ∷ 115 ∷ 45 ∷ 63 ∷ 24 ∷ 16 ∷ 106 ∷ 109 ∷ 77 ∷ 97 ∷ 84 ∷ 14 ∷ 20 ∷ 120 ∷ 42 ∷ 104 ∷ 32 ∷ []
 
-abbrev placeOf : ℕ → ℕ
-placeOf channel = getD places channel 0
+abbrev bitPlaceOf : ℕ → ℕ
+bitPlaceOf channel = getD bitPlaces channel 0
 
-reached : (channel : ℕ) → channel < 40 → after (placeOf channel) (registerOn 0) ≡ registerOn channel
-unfolding places values after added bits xor
-reached = each (λ (c : ℕ). after (placeOf c) (registerOn 0)) registerOn 40 refl
+reached : (channel : ℕ) → channel < 40 → after (bitPlaceOf channel) (registerOn 0) ≡ registerOn channel
+unfolding bitPlaces values after added bits xor
+reached = values-all (λ (c : ℕ). after (bitPlaceOf c) (registerOn 0)) registerOn 40 refl
 
-place-small : (channel : ℕ) → channel < 40 → placeOf channel < period
-unfolding places count
-place-small channel h = ltb-true (placeOf channel) period (count-all (λ (c : ℕ). ltb (placeOf c) period) 40 refl channel h)
+bit-place-small : (channel : ℕ) → channel < 40 → bitPlaceOf channel < period
+unfolding bitPlaces count
+bit-place-small = values-small bitPlaceOf period 40 refl
 
 follows : (channel : ℕ) → channel ≤ 39 → Follows channel
 follows channel h =
-    let p = placeOf channel in
+    let p = bitPlaceOf channel in
     record {
       place = p;
-      within = place-small channel (omega arith);
+      within = bit-place-small channel (omega arith);
       bit = λ n i l.
           next-bit n i (registerOn channel) l
           ∙ ap (λ (r : List Bool). getD (after i r) 0 false) (sym (reached channel (omega arith)))
@@ -135,17 +136,10 @@ follows channel h =
 
 -- ---- different places
 
-leaving-on : (n channel : ℕ) → length (leaving n (registerOn channel)) ≡ n
-unfolding bits
-leaving-on n channel = leaving-length n (registerOn channel) refl
-
 -- the first seven bits give the register, and the register the channel
 different : (c d : ℕ) → c ≤ 39 → d ≤ 39 → (f : Follows c) (g : Follows d) → f .place ≡ g .place → c ≡ d
-different c d h l f g e = sym (index c (omega arith)) ∙ ap (λ (r : List Bool). number (take 6 r)) registers ∙ index d (omega arith)
+different c d h l f g e = omega (arith, starts .number-is c, starts .number-is d, ap number registers)
   where
-    index : (x : ℕ) → x < 64 → number (take 6 (registerOn x)) ≡ x
-    index x s = ap number (take-at (bits 6 x) (true ∷ []) 6 (bits-length 6 x)) ∙ number-bits 6 x s
-
     leave : (n : ℕ) → leaving n (registerOn c) ≡ leaving n (registerOn d)
     leave n =
         ext-getD false (leaving n (registerOn c)) (leaving n (registerOn d)) (leaving-on n c ∙ sym (leaving-on n d)) (λ i b.
@@ -158,5 +152,50 @@ different c d h l f g e = sym (index c (omega arith)) ∙ ap (λ (r : List Bool)
         ∙ ap₂ (λ (xs ys : List Bool). sum xs (replicate 3 false ++ ys)) (leave 7) (leave 4)
         ∙ recurs d .first
 
+-- ---- one place. Of two, the cycle would be the same as many bits later as they are apart; 127 being a prime, also one bit later, and all its bits would be alike.
+
+abbrev at : ℕ → Bool
+at i = getD cycle (i % period) false
+
+-- suc k bits later, suc k ^ 125 times, is one bit later
+inverse : (k : ℕ) → k < 126 → suc k ^ 125 * suc k % period ≡ 1
+unfolding values
+inverse = values-all (λ (k : ℕ). suc k ^ 125 * suc k % period) (λ (k : ℕ). 1) 126 refl
+
+module _ (c : ℕ) (f g : Follows c) (d : ℕ) (apart : f .place + d ≡ g .place) where
+  later : (x : ℕ) → f .place ≤ x → at x ≡ at (x + d)
+  later x h =
+      let i = x - f .place in
+      let here : x ≡ f .place + i = omega arith in
+      let there : g .place + i ≡ x + d = omega arith in
+      ap at here ∙ sym (f .bit (suc i) i (omega arith)) ∙ g .bit (suc i) i (omega arith) ∙ ap at there
+
+  often : (k x : ℕ) → f .place ≤ x → at x ≡ at (x + k * d)
+  often zero x h = let e : x ≡ x + 0 * d = omega arith in ap at e
+  often (suc k) x h =
+      let e : x + d + k * d ≡ x + suc k * d = omega arith in
+      later x h ∙ often k (x + d) (omega arith) ∙ ap at e
+
+not-two : (c : ℕ) (f g : Follows c) (k : ℕ) → f .place + suc k ≡ g .place → ⊥
+unfolding leaving bits added xor
+not-two c f g k apart =
+    let one : suc k ^ 125 * suc k % period ≡ 1 = inverse k (omega (arith, g .within)) in
+    let next : (x : ℕ) → f .place ≤ x → at x ≡ at (x + 1) = λ x h.
+    let e : (x + suc k ^ 125 * suc k) % period ≡ (x + 1) % period = omega arith in
+    often c f g (suc k) apart (suc k ^ 125) x h ∙ ap (λ (i : ℕ). getD cycle i false) e in
+    let from : f .place ≤ 127 = omega (arith, f .within) in
+    let alike : at 127 ≡ at 133 =
+    next 127 from ∙ next 128 (omega arith) ∙ next 129 (omega arith) ∙ next 130 (omega arith) ∙ next 131 (omega arith) ∙ next 132 (omega arith) in
+    let z : _≡_ {A = ℕ} 0 1 = ap bit alike in
+    absurd (omega arith)
+
+alone : (c : ℕ) (f g : Follows c) → f .place ≡ g .place
+alone c f g = go (ltb (f .place) (g .place)) refl (ltb (g .place) (f .place)) refl
+  where
+    go : (a : Bool) → ltb (f .place) (g .place) ≡ a → (b : Bool) → ltb (g .place) (f .place) ≡ b → f .place ≡ g .place
+    go true e b h = absurd (not-two c f g (g .place - f .place - 1) (omega (arith, ltb-true (f .place) (g .place) e)))
+    go false e true h = absurd (not-two c g f (f .place - g .place - 1) (omega (arith, ltb-true (g .place) (f .place) h)))
+    go false e false h = omega (arith, ltb-false (f .place) (g .place) e, ltb-false (g .place) (f .place) h)
+
 pub one-cycle : OneCycle
-one-cycle = record { size = leaving-on period 0; follows = follows; different = different }
+one-cycle = record { size = leaving-on period 0; follows = follows; different = different; alone = alone }

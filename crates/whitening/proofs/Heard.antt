@@ -2,10 +2,9 @@
 use mathlib.Core.Path.{_≡_, refl, sym, ap, ap₂, _∙_}
 use mathlib.Core.Bool.{Bool, true, false, xor}
 use mathlib.Core.List.{List, [], _∷_, _++_}
-use Prim.Native.Nat.{ℕ, suc, _+_, _*_, _≤_, _<_}
+use Prim.Native.Nat.{ℕ, suc, _+_, _≤_, _<_}
 use native.Mathlib.Omega.{arith}
 use lib.ListN.{length, getD, drop, length-append}
-use Rattle.octets.specs.declared.error.Error.the-variants.{Eof, InvalidLength, NoSuchIndex}
 use Rattle.whitening.specs.Bits.{heard}
 use Rattle.whitening.specs.Crc.{crcOctets, crcGood}
 use Rattle.whitening.specs.Laws.{sum, Hears}
@@ -16,7 +15,7 @@ use Rattle.whitening.specs.declared.packet.Whitened.the-variants as w
 use Rattle.whitening.specs.declared.packet.Flag.the-variants as flag
 use Rattle.whitening.proofs.Errors.{crcOctets-length, own-good, checks, heard-length, xor-cancel}
 use Rattle.whitening.proofs.Limits.{allowed-done, allowed-is}
-use Rattle.whitening.proofs.Twice.{whitening-bits, whitened-length, adds, twice}
+use Rattle.whitening.proofs.Twice.{leaving-on, whitened-length, adds, twice}
 
 flag-good : (answer : Whitened) (good : Bool) → flagged answer good ≡ flag.Is true → (answer ≡ w.Done) × (good ≡ true)
 flag-good w.Done good e = (refl, cc)
@@ -62,7 +61,7 @@ hears channel start = record { told = told; own = own; no-other = no-other; one-
         let bs = leaving 336 (registerOn channel) in
         let most = allowed-done channel (length p) (good-p .0) .most in
         let place : length before < length bs =
-        omega (arith, heard-length p, simp length-append at (ap length e), whitening-bits channel) in
+        omega (arith, heard-length p, simp length-append at (ap length e), leaving-on 336 channel) in
         xor-cancel b d (getD bs (length before) false)
         (checks (startOn channel start) .one-bit (whitened channel p) (whitened channel q)
         (sum before bs)

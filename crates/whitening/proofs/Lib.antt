@@ -2,7 +2,7 @@ pub mod Octets
 pub mod Bits
 pub mod Registers
 pub mod Steps
-pub mod Each
+pub mod Values
 pub mod Rows
 pub mod Adding
 pub mod Twice
@@ -14,6 +14,7 @@ pub mod Numbers
 pub mod Dividing
 pub mod Recurring
 pub mod Cycle
+pub mod Kept
 pub mod Starts
 pub mod Polynomials
 pub mod Examples

@@ -4,15 +4,12 @@ use mathlib.Core.Bool.{Bool, xor}
 use mathlib.Core.List.{List, [], _∷_}
 use Prim.Native.Nat.{ℕ, zero, suc, _+_, _-_, _≤_, _<_}
 use native.Mathlib.Omega.{arith}
-use borrow.Author.Tests.{ltb-true}
 use lib.Bits.{bitXor, xor-zero-l}
-use lib.Dec.{ltb}
 use lib.ListN.{length, getD, take, drop, replicate}
 use Rattle.channels.specs.Count.{count}
-use Rattle.channels.proofs.Counting.{count-all}
 use Rattle.whitening.specs.Bits.{bits, number, octetsOf, added}
-use Rattle.whitening.specs.Whitening.{registerOn, leaving, whitening, plus, whitened}
-use Rattle.whitening.proofs.Each.{values, each}
+use Rattle.whitening.specs.Whitening.{leaving, whitening, plus, whitened}
+use Rattle.whitening.proofs.Values.{values, values-all, values-small}
 use Rattle.whitening.proofs.Octets.{cycle, places}
 
 abbrev pub placeOf : ℕ → ℕ
@@ -20,17 +17,12 @@ placeOf channel = getD places channel 0
 
 pub part-is : (channel : ℕ) → channel < 40 → take 42 (drop (placeOf channel) cycle) ≡ whitening channel
 unfolding cycle places values whitening leaving bits number octetsOf added xor
-part-is = each (λ (c : ℕ). take 42 (drop (placeOf c) cycle)) whitening 40 refl
-
--- the cycle itself: the octets that leave the register of channel 4, in 1,232 bits
-pub kept : cycle ≡ octetsOf 154 (leaving 1232 (registerOn 4))
-unfolding cycle leaving bits number octetsOf added xor
-kept = refl
+part-is = values-all (λ (c : ℕ). take 42 (drop (placeOf c) cycle)) whitening 40 refl
 
 -- none is cut
 pub place-small : (channel : ℕ) → channel < 40 → placeOf channel < 113
 unfolding places count
-place-small channel h = ltb-true (placeOf channel) 113 (count-all (λ (c : ℕ). ltb (placeOf c) 113) 40 refl channel h)
+place-small = values-small placeOf 113 40 refl
 
 pub octetsOf-length : (n : ℕ) (bs : List Bool) → length (octetsOf n bs) ≡ n
 unfolding octetsOf

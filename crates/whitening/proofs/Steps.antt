@@ -5,16 +5,15 @@ use mathlib.Core.Bool.{Bool, true, false}
 use Prim.Native.Nat.{ℕ, zero, suc, _+_, _-_, _*_, _/_, _%_, _^_, _<_, _≤_}
 use native.Mathlib.Nat.{mod-lt, pow-suc, add-zero, div-add-mod'}
 use native.Mathlib.Omega.{arith}
-use lib.Dec.{eqb, ltb}
+use lib.Dec.{ltb}
 use lib.Pow.{pow-pos}
 use lib.Bits.{bitXor, xor-shr, xor-mod, xor-zero-r, xor-comm, xor-self, xor-add-and, xor-lt, xor-block, xor-shifted, shifted-half, shifted-even}
-use borrow.Author.Tests.{eqb-true, ltb-true, ltb-false}
-use Rattle.channels.specs.Count.{count}
-use Rattle.channels.proofs.Counting.{count-all}
+use borrow.Author.Tests.{ltb-true, ltb-false}
 use Rattle.whitening.specs.Bits.{bits}
 use Rattle.whitening.specs.Crc.{crcAfter}
 use Rattle.whitening.specs.Number.{Register}
 use Rattle.whitening.proofs.Bits.{below-two, xor-assoc}
+use Rattle.whitening.proofs.Values.{values, values-all}
 use Rattle.whitening.proofs.Registers.{crcNumber, register-after-bit, register-turn}
 
 -- ---- sums modulo 2
@@ -143,8 +142,8 @@ abbrev fed : ℕ → ℕ
 fed x = bitXor (1024 * x) (bitXor (64 * pair x) (bitXor (4096 * pair x) (32768 * pair x)))
 
 fed-is : (x : ℕ) → x < 256 → reached 8 x 0 ≡ fed x
-unfolding reached count
-fed-is x l = eqb-true (reached 8 x 0) (fed x) (count-all (λ x. eqb (reached 8 x 0) (fed x)) 256 refl x l)
+unfolding reached values
+fed-is = values-all (λ (x : ℕ). reached 8 x 0) fed 256 refl
 
 eight : (r d : ℕ) → d < 256 → reached 8 r d ≡ bitXor (bitXor r d / 256) (reached 8 (bitXor r d % 256) 0)
 eight r d h =
@@ -202,8 +201,8 @@ out-linear =
     (of-sum (down 6) (λ (x : ℕ). bitXor (down 9 x) (down 10 x)) (down-linear 6) (of-sum (down 9) (down 10) (down-linear 9) (down-linear 10))))
 
 single : (i : ℕ) → i < 24 → reached 24 (1 * 2 ^ i) 0 ≡ outOf (backOf (1 * 2 ^ i))
-unfolding reached count
-single i l = eqb-true (reached 24 (1 * 2 ^ i) 0) (outOf (backOf (1 * 2 ^ i))) (count-all (λ i. eqb (reached 24 (1 * 2 ^ i) 0) (outOf (backOf (1 * 2 ^ i)))) 24 refl i l)
+unfolding reached values
+single = values-all (λ (i : ℕ). reached 24 (1 * 2 ^ i) 0) (λ (i : ℕ). outOf (backOf (1 * 2 ^ i))) 24 refl
 
 pub register-after-three : (r d : ℕ) → r < 2 ^ 24 → d < 2 ^ 24 → Register (outOf (backOf (bitXor r d))) (crcAfter (bits 24 r) (bits 24 d))
 register-after-three r d h l =

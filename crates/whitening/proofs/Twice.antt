@@ -2,8 +2,8 @@
 use mathlib.Core.Path.{_≡_, refl, sym, ap, ap₂, _∙_}
 use mathlib.Core.Bool.{Bool, false, xor}
 use mathlib.Core.List.{List, [], _∷_, _++_, append-assoc}
-use Prim.Native.Nat.{ℕ, zero, suc, _+_, _*_, _/_, _%_, _≤_, _<_}
-use native.Mathlib.Nat.{mod-lt, div-add-mod'}
+use Prim.Native.Nat.{ℕ, zero, suc, _*_, _/_, _%_, _≤_, _<_}
+use native.Mathlib.Nat.{mod-lt}
 use native.Mathlib.Omega.{arith}
 use lib.Dec.{eqb}
 use lib.Bits.{bitXor, xor-shr, xor-mod, xor-self, xor-zero-r, xor-lt}
@@ -87,14 +87,14 @@ added-length k (t ∷ taps) (x ∷ xs) e = ap suc (added-length k taps xs (omega
 pub shifted-length : (taps : List Bool) (k : Bool) (rest : List Bool) → suc (length rest) ≡ length taps → length (shifted taps k rest) ≡ length taps
 shifted-length taps k rest e = added-length k taps (rest ++ false ∷ []) (simp length-append (omega arith))
 
-pub leaving-length : (n : ℕ) (register : List Bool) → length register ≡ 7 → length (leaving n register) ≡ n
+leaving-length : (n : ℕ) (register : List Bool) → length register ≡ 7 → length (leaving n register) ≡ n
 unfolding leaving
 leaving-length zero register e = refl
 leaving-length (suc n) [] e = absurd (omega arith)
 leaving-length (suc n) (out ∷ rest) e = ap suc (leaving-length n (shifted whiteningTaps out rest) (shifted-length whiteningTaps out rest e))
 
-pub whitening-bits : (channel : ℕ) → length (leaving 336 (registerOn channel)) ≡ 336
-whitening-bits channel = leaving-length 336 (registerOn channel) (simp (length-append, bits-length))
+pub leaving-on : (n channel : ℕ) → length (leaving n (registerOn channel)) ≡ n
+leaving-on n channel = leaving-length n (registerOn channel) (simp (length-append, bits-length))
 
 plus-length : (xs ys : List ℕ) → length xs ≤ length ys → length (plus xs ys) ≡ length xs
 unfolding plus
@@ -132,7 +132,7 @@ whitened-octets channel packet o = plus-octets packet (whitening channel) o (oct
 pub adds : (channel : ℕ) (packet : List ℕ) → heard (whitened channel packet) ≡ sum (heard packet) (leaving 336 (registerOn channel))
 unfolding whitened whitening
 adds channel packet =
-    heard-plus packet (whitening channel) ∙ ap (sum (heard packet)) (heard-octetsOf 42 (leaving 336 (registerOn channel)) (whitening-bits channel))
+    heard-plus packet (whitening channel) ∙ ap (sum (heard packet)) (heard-octetsOf 42 (leaving 336 (registerOn channel)) (leaving-on 336 channel))
 
 pub twice : (channel : ℕ) (packet : List ℕ) → length packet ≤ 42 → whitened channel (whitened channel packet) ≡ packet
 unfolding whitened
