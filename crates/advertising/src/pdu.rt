@@ -446,7 +446,7 @@ impl ConnectRequestData {
 }
 
 // The connection parameters of a whole connect request.
-fn read_request(payload: &[u8]) -> ConnectRequestData
+pub(crate) fn read_request(payload: &[u8]) -> ConnectRequestData
     requires { ⌜ 34 ≤ length (now payload) ⌝ }
     ensures { λ r. ⌜ r ≡ requestOf (now (payload .entry)) ⌝ }
 {

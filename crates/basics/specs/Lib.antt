@@ -4,5 +4,6 @@ pub mod Filters
 pub mod Leaves
 pub mod Names
 pub mod Reads
+pub mod Settings
 pub mod Uuids
 pub mod Writes

@@ -7,7 +7,7 @@ use lib.Dec.{eqb}
 use Rattle.octets.specs.Error.{numberOf}
 use Rattle.octets.specs.Time.{later}
 use Rattle.octets.specs.declared.error.Error.{Error}
-use Rattle.octets.specs.declared.error.Error.the-variants.{Eof, InvalidLength, InvalidValue, ShortHeader, WrongMode, EmptyMap, PayloadLength, NoSuchChannel, RecordLength, NoSuchIndex, NoName}
+use Rattle.octets.specs.declared.error.Error.the-variants.{Eof, InvalidLength, InvalidValue, ShortHeader, WrongMode, EmptyMap, PayloadLength, NoSuchChannel, RecordLength, NoSuchIndex, NoName, OutOfRange}
 use Rattle.radio.specs.Trace.{firstOf}
 
 pub first-event : (end offset size : ℕ) → later (later end (later (later offset size) 1250)) 500 ≡ later end (offset + size + 1750)
@@ -26,6 +26,7 @@ no-zero NoSuchChannel = refl
 no-zero RecordLength = refl
 no-zero NoSuchIndex = refl
 no-zero NoName = refl
+no-zero OutOfRange = refl
 
 pub first-number : (e : Error) (m : ℕ) → firstOf (numberOf e) m ≡ numberOf e
 first-number Eof m = refl
@@ -39,3 +40,4 @@ first-number NoSuchChannel m = refl
 first-number RecordLength m = refl
 first-number NoSuchIndex m = refl
 first-number NoName m = refl
+first-number OutOfRange m = refl

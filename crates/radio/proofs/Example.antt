@@ -10,12 +10,13 @@ use Rattle.addresses.specs.Address.{sameOctets, sameAddress}
 use Rattle.addresses.specs.Header.{pduType}
 use Rattle.advertising.specs.Pdu.{requestOf, directed, connectRequest, byType, decodeBy}
 use Rattle.advertising.specs.PduBuf.{bufOf, afterReading, withRecords}
+use Rattle.advertising.specs.Settings.{inRanges, takenOf}
 use Rattle.radio.specs.Calls.{isFor, connectsTo, addressed, hops, startOf, startAfter, tickOf, tickAfter, packetOf, packetAfter, eventOf}
 use Rattle.radio.specs.Laws.{Example, Titled, Limits}
 use Rattle.radio.specs.Trace.{trace}
 
 pub example : Example
-unfolding flatten count placed mapped marked marks channelAt cleared cut reads areaOf readArea rewritten sameOctets sameAddress pduType requestOf connectRequest byType decodeBy bufOf afterReading withRecords isFor connectsTo addressed hops startOf startAfter tickOf tickAfter packetOf eventOf trace named flagsRead uuidsRead dataRead upTo recordRead first withFirst clean
+unfolding flatten count placed mapped marked marks channelAt cleared cut reads areaOf readArea rewritten sameOctets sameAddress pduType requestOf connectRequest byType decodeBy bufOf afterReading withRecords takenOf inRanges isFor connectsTo addressed hops startOf startAfter tickOf tickAfter packetOf eventOf trace named flagsRead uuidsRead dataRead upTo recordRead first withFirst clean
 example = record { answers = refl; channel-1 = refl; channel-3 = refl; octets = refl }
 
 pub titled : Titled
@@ -23,5 +24,5 @@ unfolding flatten cut reads areaOf readArea rewritten sameOctets sameAddress pdu
 titled = record { answers = refl; octets = refl }
 
 pub limits : Limits
-unfolding flatten count placed mapped marked marks channelAt cleared cut reads areaOf readArea rewritten sameOctets sameAddress pduType requestOf directed connectRequest byType decodeBy bufOf afterReading withRecords isFor connectsTo addressed hops startOf startAfter tickOf tickAfter packetOf packetAfter eventOf trace named flagsRead uuidsRead dataRead upTo recordRead first withFirst clean
+unfolding flatten count placed mapped marked marks channelAt cleared cut reads areaOf readArea rewritten sameOctets sameAddress pduType requestOf directed connectRequest byType decodeBy bufOf afterReading withRecords takenOf inRanges isFor connectsTo addressed hops startOf startAfter tickOf tickAfter packetOf packetAfter eventOf trace named flagsRead uuidsRead dataRead upTo recordRead first withFirst clean
 limits = record { answers = refl; octets = refl; longest = refl }

@@ -29,11 +29,13 @@ use Rattle.advertising.specs.Pdu.{decodeOf}
 use Rattle.advertising.specs.PduBuf.{scanResponsePdu, payloadOf, payloadTo}
 use Rattle.advertising.specs.declared.pdu.ConnectRequestData.{ConnectRequestData}
 use Rattle.advertising.specs.declared.pdu.Decoded.{Decoded}
+use Rattle.advertising.specs.Settings.{takenOf}
 use Rattle.advertising.specs.declared.pdu.Outcome.{Outcome}
+use Rattle.advertising.specs.declared.settings.ConnectionSettings.{ConnectionSettings}
 use Rattle.advertising.specs.declared.pdu.Outcome.the-variants as outcome
 use Rattle.advertising.specs.declared.pdu_buf.Built.{Built}
 use Rattle.advertising.specs.declared.pdu_buf.PduBuf.{PduBuf}
-use Rattle.radio.specs.Calls.{isAdvertising, isConnected, isFor, refusal, sent, beginning, discoverable, started, listens, responds, connectedAt, connectsTo, addressed, setTo, scanDataOf, hoppedTo, hops, startOf, tickOf, packetOf, eventOf}
+use Rattle.radio.specs.Calls.{isAdvertising, isConnected, isFor, refusal, sent, beginning, discoverable, started, listens, responds, settled, connectsTo, addressed, setTo, scanDataOf, hoppedTo, hops, startOf, tickOf, packetOf, eventOf}
 use Rattle.radio.specs.Demand.{numberIn, replyHeader, replyOctets, ReplyOf}
 use Rattle.radio.specs.Laws.{Judged, Bare, Setting}
 use Rattle.radio.specs.Trace.{replySize}
@@ -98,14 +100,14 @@ module _ (d : Device) where
   respond-keeps (written.To next) = refl
   respond-keeps (written.Refused e) = refl
 
-  connect-keeps : (end : Instant) (l : ConnectRequestData) (h : Hop) → Kept (connectedAt d end l h)
-  connect-keeps end l (hop.To u c) = refl
-  connect-keeps end l (hop.Refused e) = refl
+  connect-keeps : (end : Instant) (l : ConnectRequestData) (s : ConnectionSettings) (o : Outcome) → Kept (settled d end l s o)
+  connect-keeps end l s outcome.Accepted = refl
+  connect-keeps end l s (outcome.Refused e) = refl
 
   addressed-keeps : (end : Instant) (l : ConnectRequestData) (tx : List ℕ) (ty : PduType) → Kept (addressed d end l tx ty)
   unfolding addressed connectsTo
   addressed-keeps end l tx ScanReq = respond-keeps (payloadTo (d .«scan_response») tx)
-  addressed-keeps end l tx ConnectReq = connect-keeps end l (hopped (l .chm) 0 (l .hop))
+  addressed-keeps end l tx ConnectReq = connect-keeps end l (takenOf l .settings) (takenOf l .outcome)
   addressed-keeps end l tx AdvDirectInd = refl
   addressed-keeps end l tx AdvInd = refl
   addressed-keeps end l tx AdvNonconnInd = refl

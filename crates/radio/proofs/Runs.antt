@@ -27,6 +27,7 @@ use Rattle.addresses.specs.declared.header.Header.{Header}
 use Rattle.addresses.specs.declared.header.PduType.the-variants.{AdvInd}
 use Rattle.advertising.specs.Pdu.{requestOf}
 use Rattle.advertising.specs.PduBuf.{headerFor, flagsRecord, payloadOf}
+use Rattle.advertising.specs.Settings.{RangesAt}
 use Rattle.advertising.specs.declared.pdu_buf.PduBuf.{PduBuf}
 use Rattle.radio.specs.Calls.{instant, isAdvertising, advanced, advertised, beginning}
 use Rattle.radio.specs.Demand.{numberIn, isFirstEvent, isReply, Each, Tick, Ticks, ListeningFrom, RepliesAt, Events}
@@ -135,7 +136,7 @@ module _ (own : DeviceAddress) (time : Instant) (interval : ℕ) (records : List
         ap advanced at,
       )
   tick-moves k at (replying end header payload crcGood tx m asked n ok wrote) = at
-  tick-moves k at (begins end header payload crcGood tx u channel m e ok some there low q) = at
+  tick-moves k at (begins end header payload crcGood tx u channel m e ok ranges there low q) = at
   tick-moves k at (hopping u channel m there low ok) = at
   tick-moves k at stops = at
   tick-moves k at (sets s p ok m) = at
@@ -177,7 +178,7 @@ ticks-from {scan} {d} (starts time interval records tx pdu ok made wrote) sound 
     )
 ticks-from (ticks tx m ok wrote) sound a cs = tt
 ticks-from (replying end header payload crcGood tx m asked k ok wrote) sound a cs = tt
-ticks-from (begins end header payload crcGood tx u channel m e ok some there low q) sound a cs = tt
+ticks-from (begins end header payload crcGood tx u channel m e ok ranges there low q) sound a cs = tt
 ticks-from (hopping u channel m there low ok) sound a cs = tt
 ticks-from stops sound a cs = tt
 ticks-from (sets records pdu ok made) sound a cs = tt
@@ -221,7 +222,7 @@ module _ (x : AdvertisingChannel) where
   hear-moves k at (starts time interval records tx pdu ok made wrote) = rw ok tt
   hear-moves k at (ticks tx m ok wrote) = rw ok tt
   hear-moves k {scan} {d} {c} {r} at (replying end header payload crcGood tx m asked n ok wrote) = (hears-on k scan d c r at refl, at)
-  hear-moves k {scan} {d} {c} {r} at (begins end header payload crcGood tx u channel m e ok some there low q) = (hears-on k scan d c r at refl, at)
+  hear-moves k {scan} {d} {c} {r} at (begins end header payload crcGood tx u channel m e ok ranges there low q) = (hears-on k scan d c r at refl, at)
   hear-moves k at (hopping u channel m there low ok) = at
   hear-moves k at stops = at
   hear-moves k at (sets records pdu ok made) = at
@@ -236,7 +237,7 @@ sent-there : {scan : List ℕ} {d : Device} {c : Call} {r : Called} → Happens 
 sent-there (starts time interval records tx pdu ok made wrote) header x next is = cc
 sent-there (ticks tx m ok wrote) header x next is = cc
 sent-there (replying end header payload crcGood tx m asked k ok wrote) h x next is = absurd (false≢true (ap isSent is))
-sent-there (begins end header payload crcGood tx u channel m e ok some there low q) h x next is = absurd (false≢true (ap isSent is))
+sent-there (begins end header payload crcGood tx u channel m e ok ranges there low q) h x next is = absurd (false≢true (ap isSent is))
 sent-there (hopping u channel m there low ok) header x next is = absurd (false≢true (ap isSent is))
 sent-there stops header x next is = absurd (false≢true (ap isSent is))
 sent-there (sets records pdu ok made) header x next is = absurd (false≢true (ap isSent is))
@@ -251,7 +252,10 @@ listening-from {scan} {c = c} {r = r} h sound cs header x next is = hear-run x (
 clash : {m : Mode} → m ≡ Advertising → m ≡ Connected → ⊥
 clash p q = let z : _≡_ {A = ℕ} 0 1 = cc in omega arith
 
-module _ (p : List ℕ) (some : 0 < marks (mapIn p)) where
+module _ (p : List ℕ) (ranges : RangesAt 12 p) where
+  some : 0 < marks (mapIn p)
+  some = omega (arith, ranges .two-channels)
+
   abbrev pub channelOf : ℕ → ℕ
   channelOf k = eventChannel (mapIn p) (hopIn p) k
 
@@ -283,7 +287,7 @@ module _ (p : List ℕ) (some : 0 < marks (mapIn p)) where
   event-moves k at (starts time interval records tx pdu ok made wrote) = rw ok tt
   event-moves k at (ticks tx m ok wrote) = absurd (clash m (at .0))
   event-moves k at (replying end header payload crcGood tx m asked n ok wrote) = absurd (clash m (at .0))
-  event-moves k at (begins end header payload crcGood tx u channel m e ok some there low q) = absurd (clash m (at .0))
+  event-moves k at (begins end header payload crcGood tx u channel m e ok ranges there low q) = absurd (clash m (at .0))
   event-moves k at (hopping u channel m there low ok) =
       let is = event-is k u channel (rw (at .1) at there) in
       rw ok (is .0, (m, λ i. record { «channel_map» = at .1 i .«channel_map»; hop = at .1 i .hop; «unmapped_channel» = is .1 i }))
@@ -299,8 +303,9 @@ module _ (p : List ℕ) (some : 0 < marks (mapIn p)) where
   events-of es each =
       record {
         by-hop = each;
-        each-share = λ low high k fits i below.
-            follows-times eventOn channelOf es each (channelAt (mapIn p) i) k 37 fits ∙ fair (mapIn p) (hopIn p) k i low high below;
+        each-share = λ k fits i below.
+            follows-times eventOn channelOf es each (channelAt (mapIn p) i) k 37 fits
+            ∙ fair (mapIn p) (hopIn p) k i (omega (arith, ranges .hop-least)) (omega (arith, ranges .hop-most)) below;
       }
 
 -- the payload that a packet call is handed
@@ -314,13 +319,13 @@ payloadIn (setScanData records) = []
 
 pub events-from : {scan : List ℕ} {d : Device} {c : Call} {r : Called} → Happens scan d c r → Sound (scanAfter scan c) (r .device) → isFirstEvent (r .answer) ≡ true
     → (cs : List Call) → Events (payloadIn c) (entryOf scan d c r ∷ gather eventRole (traced (scanAfter scan c) (r .device) cs))
-unfolding requestOf unmappedBefore
+unfolding unmappedBefore
 events-from (starts time interval records tx pdu ok made wrote) sound a cs = absurd (false≢true a)
 events-from (ticks tx m ok wrote) sound a cs = absurd (false≢true a)
 events-from (replying end header payload crcGood tx m asked k ok wrote) sound a cs = absurd (false≢true a)
-events-from {scan} (begins end header payload crcGood tx u channel m e ok some there low q) sound a cs =
-    let is = event-is payload some 0 u channel there in
-    events-of payload some _ (is .0, event-run payload some scan _ cs sound 1 (refl, λ i. record { «channel_map» = fromRaw (mapIn payload); hop = hopIn payload; «unmapped_channel» = is .1 i }))
+events-from {scan} (begins end header payload crcGood tx u channel m e ok ranges there low q) sound a cs =
+    let is = event-is payload ranges 0 u channel there in
+    events-of payload ranges _ (is .0, event-run payload ranges scan _ cs sound 1 (refl, λ i. record { «channel_map» = fromRaw (mapIn payload); hop = hopIn payload; «unmapped_channel» = is .1 i }))
 events-from (hopping u channel m there low ok) sound a cs = absurd (false≢true a)
 events-from stops sound a cs = absurd (false≢true a)
 events-from (sets records pdu ok made) sound a cs = absurd (false≢true a)
@@ -333,7 +338,7 @@ unfolding connects
 begins-at (starts time interval records tx pdu ok made wrote) = simp and-false
 begins-at (ticks tx m ok wrote) = simp and-false
 begins-at (replying end header payload crcGood tx m asked k ok wrote) = rw (m, k)
-begins-at (begins end header payload crcGood tx u channel m e ok some there low q) = rw (m, e)
+begins-at (begins end header payload crcGood tx u channel m e ok ranges there low q) = rw (m, e)
 begins-at (hopping u channel m there low ok) = simp and-false
 begins-at stops = simp and-false
 begins-at (sets records pdu ok made) = simp and-false
@@ -364,7 +369,7 @@ replies-at {scan} {d} sound (replying end header payload crcGood tx m asked k ok
           };
       elsewhere = λ e. absurd (false≢true (sym e ∙ there));
     }
-replies-at {scan} {d} {c} {r} sound (begins end header payload crcGood tx u channel m e ok some there low q) after = quietly scan d c r after refl q
+replies-at {scan} {d} {c} {r} sound (begins end header payload crcGood tx u channel m e ok ranges there low q) after = quietly scan d c r after refl q
 replies-at {scan} {d} {c} {r} sound (hopping u channel m there low ok) after = quietly scan d c r after refl (plain scan d c refl)
 replies-at {scan} {d} {c} {r} sound stops after = quietly scan d c r after refl (plain scan d c refl)
 replies-at {scan} {d} {c} {r} sound (sets records pdu ok made) after = quietly scan d c r after refl (plain scan d c refl)
@@ -374,7 +379,7 @@ pub stops-at : {scan : List ℕ} {d : Device} {c : Call} {r : Called} → Happen
 stops-at (starts time interval records tx pdu ok made wrote) is = absurd (false≢true (ap isStop is))
 stops-at (ticks tx m ok wrote) is = absurd (false≢true (ap isStop is))
 stops-at (replying end header payload crcGood tx m asked k ok wrote) is = absurd (false≢true (ap isStop is))
-stops-at (begins end header payload crcGood tx u channel m e ok some there low q) is = absurd (false≢true (ap isStop is))
+stops-at (begins end header payload crcGood tx u channel m e ok ranges there low q) is = absurd (false≢true (ap isStop is))
 stops-at (hopping u channel m there low ok) is = absurd (false≢true (ap isStop is))
 stops-at stops is = refl
 stops-at (sets records pdu ok made) is = absurd (false≢true (ap isStop is))
@@ -384,7 +389,7 @@ pub sets-at : {scan : List ℕ} {d : Device} {c : Call} {r : Called} → Happens
 sets-at (starts time interval records tx pdu ok made wrote) is a = absurd (false≢true is)
 sets-at (ticks tx m ok wrote) is a = absurd (false≢true is)
 sets-at (replying end header payload crcGood tx m asked k ok wrote) is a = absurd (false≢true is)
-sets-at (begins end header payload crcGood tx u channel m e ok some there low q) is a = absurd (false≢true is)
+sets-at (begins end header payload crcGood tx u channel m e ok ranges there low q) is a = absurd (false≢true is)
 sets-at (hopping u channel m there low ok) is a = absurd (false≢true is)
 sets-at stops is a = absurd (false≢true is)
 sets-at (sets records pdu ok made) is a = refl
@@ -395,7 +400,7 @@ unfolding refusedBy
 refused-at (starts time interval records tx pdu ok made wrote) = sym ok
 refused-at (ticks tx m ok wrote) = sym ok
 refused-at (replying end header payload crcGood tx m asked k ok wrote) = sym ok
-refused-at (begins end header payload crcGood tx u channel m e ok some there low q) = sym ok
+refused-at (begins end header payload crcGood tx u channel m e ok ranges there low q) = sym ok
 refused-at (hopping u channel m there low ok) = sym ok
 refused-at stops = refl
 refused-at (sets records pdu ok made) = sym ok

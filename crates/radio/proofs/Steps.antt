@@ -1,7 +1,7 @@
 -- What a call can do to a device: each call is of one of eight kinds (`happens`). Assumes nothing.
 use mathlib.Core.Bool.{Bool, true, false, cond, _&&_, and-false, false≢true}
 use mathlib.Core.List.{List, [], _∷_, _++_, append-nil}
-use mathlib.Core.Path.{_≡_, refl, sym, ap, _∙_}
+use mathlib.Core.Path.{_≡_, refl, sym, ap, subst, _∙_}
 use Prim.Native.Nat.{ℕ, _+_, _%_, _≤_, _<_}
 use native.Mathlib.Nat.{mod-lt, zero-add}
 use native.Mathlib.Omega.{arith}
@@ -11,7 +11,7 @@ use borrow.Author.Tests.{le-ltb, le-leb, lt-leb, ne-eqb, eq-eqb, ltb-true, ltb-f
 use Rattle.octets.proofs.Places.{enough, too-few}
 use Rattle.octets.specs.Error.{numberOf}
 use Rattle.octets.specs.declared.error.Error.{Error}
-use Rattle.octets.specs.declared.error.Error.the-variants.{Eof, WrongMode, EmptyMap}
+use Rattle.octets.specs.declared.error.Error.the-variants.{Eof, WrongMode, EmptyMap, OutOfRange}
 use Rattle.octets.specs.declared.time.Instant.{Instant}
 use Rattle.channels.specs.Hop.{mapped, next, hopped}
 use Rattle.channels.specs.Map.{fromRaw, marks}
@@ -30,14 +30,17 @@ use Rattle.addresses.specs.declared.header.PduType.{PduType}
 use Rattle.addresses.specs.declared.header.PduType.the-variants.{AdvInd, AdvDirectInd, AdvNonconnInd, AdvScanInd, ScanReq, ScanRsp, ConnectReq, Unknown}
 use Rattle.advertising.proofs.Builders.{builders}
 use Rattle.advertising.proofs.Building.{building}
+use Rattle.advertising.proofs.Ranges.{tests, settles}
 use Rattle.advertising.specs.Laws.{ReadsBack}
 use Rattle.advertising.specs.Pdu.{requestOf, decodeOf}
 use Rattle.advertising.specs.PduBuf.{headerFor, flagsRecord, scanResponsePdu, payloadOf, payloadTo}
+use Rattle.advertising.specs.Settings.{takenOf, settingsAt, RangesAt}
+use Rattle.advertising.specs.declared.settings.Taken.{Taken}
 use Rattle.advertising.specs.declared.pdu.Pdu.{Pdu}
 use Rattle.advertising.specs.declared.pdu_buf.PduBuf.{PduBuf}
-use Rattle.radio.specs.Calls.{isAdvertising, isConnected, isScanRequest, refusal, advertised, sent, beginning, isFor, listens, responds, repliesWith, repliedIf, connectedAt, hoppedTo, connectsTo, addressed, hops, startOf, startAfter, tickOf, tickAfter, packetOf, packetAfter, scanDataOf, eventOf, stopOf}
+use Rattle.radio.specs.Calls.{isAdvertising, isConnected, isScanRequest, refusal, advertised, sent, beginning, isFor, listens, responds, repliesWith, repliedIf, connectedAt, settled, hoppedTo, connectsTo, addressed, hops, startOf, startAfter, tickOf, tickAfter, packetOf, packetAfter, scanDataOf, eventOf, stopOf}
 use Rattle.radio.specs.Demand.{numberIn, isFirstEvent, isReply, ReplyOf}
-use Rattle.radio.specs.Trace.{Call, start, tick, packet, event, stop, setScanData, callOf, octetsOf, isConnectRequest, requested, asks, scans, mapIn, hopIn, connects, scansWith, replySize, Reading, startNumber, scanDataNumber, refusedBy, readOn, passes, tickRole, eventRole, hearRole}
+use Rattle.radio.specs.Trace.{Call, start, tick, packet, event, stop, setScanData, callOf, octetsOf, isConnectRequest, requested, asks, scans, mapIn, hopIn, inRangesIn, connects, scansWith, replySize, Reading, startNumber, scanDataNumber, refusedBy, readOn, passes, tickRole, eventRole, hearRole}
 use Rattle.radio.specs.declared.link.Answer.{Answer}
 use Rattle.radio.specs.declared.link.Answer.the-variants.{Refused, Sent, Listen, Respond, FirstEvent, NextEvent, Stopped, ScanDataSet}
 use Rattle.radio.specs.declared.link.Called.{Called}
@@ -182,9 +185,9 @@ pub data Happens (scan : List ℕ) (d : Device) : Call → Called → Type 0 whe
       → Happens scan d (packet end header payload crcGood tx) (record { answer = Respond (d .«scan_response» .header) (d .adv .channel); device = d })
   begins : (end : Instant) (header : Header) (payload : List ℕ) (crcGood : Bool) (tx : List ℕ) (u : ℕ) (channel : DataChannel) → d .mode ≡ Advertising
       → connects (d .«dev_addr») (packet end header payload crcGood tx) ≡ true → number scan d (packet end header payload crcGood tx) ≡ 0
-      → 0 < marks (mapIn payload) → hopped (fromRaw (mapIn payload)) 0 (hopIn payload) ≡ hop.To u channel → u ≤ 36
+      → RangesAt 12 payload → hopped (fromRaw (mapIn payload)) 0 (hopIn payload) ≡ hop.To u channel → u ≤ 36
       → Quiet scan d (packet end header payload crcGood tx)
-      → Happens scan d (packet end header payload crcGood tx) (connectedAt d end (requestOf payload) (hop.To u channel))
+      → Happens scan d (packet end header payload crcGood tx) (connectedAt d end (requestOf payload) (settingsAt 12 payload) u channel)
   hopping : (u : ℕ) (channel : DataChannel) → d .mode ≡ Connected → hopped (d .conn .«channel_map») (d .conn .«unmapped_channel») (d .conn .hop) ≡ hop.To u channel
       → u ≤ 36 → number scan d event ≡ 0 → Happens scan d event (hoppedTo d (hop.To u channel))
   stops : Happens scan d stop (stopOf d)
@@ -192,7 +195,7 @@ pub data Happens (scan : List ℕ) (d : Device) : Call → Called → Type 0 whe
   stays : (c : Call) {answer : Answer} → Stays scan d c answer → Happens scan d c (record { answer = answer; device = d })
 
 -- a hop over a map that marks a channel
-hop-there : (map : ChannelMap) (u h : ℕ) → u ≤ 36 → 0 < map .«num_used_channels»
+pub hop-there : (map : ChannelMap) (u h : ℕ) → u ≤ 36 → 0 < map .«num_used_channels»
     → hopped map u h ≡ hop.To (next u h) (record { index = mapped (map .raw) (map .«num_used_channels») (next u h) })
 hop-there map u h low some = rw (le-ltb 36 u low, ne-eqb (map .«num_used_channels») 0 (omega arith))
 
@@ -392,17 +395,29 @@ module _ (scan : List ℕ) (d : Device) (sound : Sound scan d) where
     bad-asks : (is : PduType → Bool) → crcGood ≡ false → requested is own crcGood header payload ≡ false
     bad-asks is crc = requested-is own header payload is crcGood ∙ rw crc
 
-    begun : d .mode ≡ Advertising → asks own crcGood header payload ≡ true → scans own crcGood header payload ≡ false → (some : Bool) → ltb 0 (marks (mapIn payload)) ≡ some
+    -- what taking the settings comes to
+    settling : (t : Taken) → t ≡ takenOf (requestOf payload) → Happens scan d this (settled d end (requestOf payload) (t .settings) (t .outcome))
         → Happens scan d this (connectsTo d end (requestOf payload))
-    unfolding connectsTo requestOf connects refusedBy
-    begun m a no-scan true s =
+    unfolding connectsTo
+    settling t is h = subst (λ (t : Taken). Happens scan d this (settled d end (requestOf payload) (t .settings) (t .outcome))) is h
+
+    -- a connect request, by the channels that it marks and the ranges of its settings
+    begun : d .mode ≡ Advertising → asks own crcGood header payload ≡ true → scans own crcGood header payload ≡ false → (some : Bool) → ltb 0 (marks (mapIn payload)) ≡ some
+        → (within : Bool) → inRangesIn payload ≡ within → Happens scan d this (connectsTo d end (requestOf payload))
+    unfolding connects refusedBy
+    begun m a no-scan true s true w =
         let n : 0 < marks (mapIn payload) = ltb-true 0 (marks (mapIn payload)) s in
+        let ranges : RangesAt 12 payload = tests _ _ _ _ _ _ _ .0 w in
         let there = hop-there (fromRaw (mapIn payload)) 0 (hopIn payload) (omega arith) n in
-        rw there
-        (begins end header payload crcGood tx _ _ m (rw (a, s)) (rw (m, no-scan, a, ne-eqb (marks (mapIn payload)) 0 (omega arith))) n there (next-low 0 (hopIn payload)) (unscanned no-scan))
-    begun m a no-scan false s =
+        settling _ (sym (settles payload .complete ranges))
+        (begins end header payload crcGood tx _ _ m (rw (a, s, w)) (rw (m, no-scan, a, ne-eqb (marks (mapIn payload)) 0 (omega arith), w)) ranges there (next-low 0 (hopIn payload)) (unscanned no-scan))
+    begun m a no-scan true s false w =
+        let n : 0 < marks (mapIn payload) = ltb-true 0 (marks (mapIn payload)) s in
+        settling _ (sym (settles payload .outside n (λ ranges. false≢true (sym w ∙ tests _ _ _ _ _ _ _ .1 ranges))))
+        (refused this OutOfRange (rw (m, no-scan, a, ne-eqb (marks (mapIn payload)) 0 (omega arith), w)) (rw (s, a, w) (simp and-false)) refl (unscanned no-scan))
+    begun m a no-scan false s within w =
         let n : marks (mapIn payload) ≡ 0 = omega (arith, ltb-false 0 (marks (mapIn payload)) s) in
-        rw (eq-eqb (marks (mapIn payload)) 0 n)
+        settling _ (sym (settles payload .empty n))
         (refused this EmptyMap (rw (m, no-scan, a, eq-eqb (marks (mapIn payload)) 0 n)) (rw (s, a) (simp and-false)) refl (unscanned no-scan))
 
     -- a scan request, by the room that there is
@@ -444,7 +459,7 @@ module _ (scan : List ℕ) (d : Device) (sound : Sound scan d) where
     packet-happens Advertising m true c false o ty t = listened (λ is. foreign-asks is o) m
     packet-happens Advertising m true c true o ConnectReq t =
         let is : isConnectRequest (pdu .ty) ≡ true = rw t in
-        rw (known header payload .request is) (begun m (asking isConnectRequest c o is) (other-asks isScanRequest ConnectReq t refl) (ltb 0 (marks (mapIn payload))) refl)
+        rw (known header payload .request is) (begun m (asking isConnectRequest c o is) (other-asks isScanRequest ConnectReq t refl) (ltb 0 (marks (mapIn payload))) refl (inRangesIn payload) refl)
     packet-happens Advertising m true c true o ScanReq t =
         let is : isScanRequest (pdu .ty) ≡ true = rw t in
         scanned m (asking isScanRequest c o is) (other-asks isConnectRequest ScanReq t refl) (ltb (length tx) (replySize scan)) refl
@@ -470,18 +485,17 @@ pub address-kept : {scan : List ℕ} {d : Device} {c : Call} {r : Called} → Ha
 address-kept (starts time interval records tx pdu ok made wrote) = refl
 address-kept (ticks tx m ok wrote) = refl
 address-kept (replies end header payload crcGood tx m asked k ok wrote) = refl
-address-kept (begins end header payload crcGood tx u channel m e ok some there low q) = refl
+address-kept (begins end header payload crcGood tx u channel m e ok ranges there low q) = refl
 address-kept (hopping u channel m there low ok) = refl
 address-kept stops = refl
 address-kept (sets records pdu ok made) = refl
 address-kept (stays c s) = refl
 
 pub live-kept : {scan : List ℕ} {d : Device} {c : Call} {r : Called} → (d .mode ≡ Connected → Live (d .conn)) → Happens scan d c r → r .device .mode ≡ Connected → Live (r .device .conn)
-unfolding requestOf
 live-kept live (starts time interval records tx pdu ok made wrote) m = absurd (let z : _≡_ {A = ℕ} 0 1 = cc in omega arith)
 live-kept live (ticks tx m ok wrote) c = absurd (let z : _≡_ {A = ℕ} 0 1 = cc in omega arith)
 live-kept live (replies end header payload crcGood tx m asked k ok wrote) c = live c
-live-kept live (begins end header payload crcGood tx u channel m e ok some there low q) c = record { low = low; some = some }
+live-kept live (begins end header payload crcGood tx u channel m e ok ranges there low q) c = record { low = low; some = omega (arith, ranges .two-channels) }
 live-kept live (hopping u channel m there low ok) c = record { low = low; some = live m .some }
 live-kept live stops c = absurd (let z : _≡_ {A = ℕ} 0 1 = cc in omega arith)
 live-kept live (sets records pdu ok made) c = live c
@@ -493,7 +507,7 @@ pub reply-kept : {scan : List ℕ} {d : Device} {c : Call} {r : Called} → Repl
 reply-kept reply (starts time interval records tx pdu ok made wrote) = reply
 reply-kept reply (ticks tx m ok wrote) = reply
 reply-kept reply (replies end header payload crcGood tx m asked k ok wrote) = reply
-reply-kept reply (begins end header payload crcGood tx u channel m e ok some there low q) = reply
+reply-kept reply (begins end header payload crcGood tx u channel m e ok ranges there low q) = reply
 reply-kept reply (hopping u channel m there low ok) = reply
 reply-kept reply stops = reply
 reply-kept reply (sets records pdu ok made) = rw ok made
@@ -509,7 +523,7 @@ unfolding readOn
 reads-on (starts time interval records tx pdu ok made wrote) = rw (ok, made .size)
 reads-on (ticks tx m ok wrote) = rw (ok, m)
 reads-on (replies end header payload crcGood tx m asked k ok wrote) = rw (m, k)
-reads-on (begins end header payload crcGood tx u channel m e ok some there low q) = rw (m, e)
+reads-on (begins end header payload crcGood tx u channel m e ok ranges there low q) = rw (m, e)
 reads-on (hopping u channel m there low ok) = refl
 reads-on stops = refl
 reads-on (sets records pdu ok made) = rw ok

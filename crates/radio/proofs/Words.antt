@@ -14,13 +14,14 @@ use Rattle.octets.specs.Bytes.{part, le, has}
 use Rattle.octets.specs.Error.{numberOf}
 use Rattle.octets.specs.Time.{later}
 use Rattle.octets.specs.declared.error.Error.{Error}
-use Rattle.octets.specs.declared.error.Error.the-variants.{Eof, InvalidLength, EmptyMap, WrongMode}
+use Rattle.octets.specs.declared.error.Error.the-variants.{Eof, InvalidLength, EmptyMap, WrongMode, OutOfRange}
 use Rattle.octets.specs.declared.time.Instant.{Instant}
 use Rattle.channels.proofs.Events.{run}
-use Rattle.channels.specs.Hop.{unmapped, eventChannel, unmappedBefore, hopped}
+use Rattle.channels.specs.Hop.{mapped, next, eventChannel, unmappedBefore, hopped}
 use Rattle.channels.specs.Map.{marks, fromRaw}
 use Rattle.channels.specs.declared.connection.Hop.{Hop}
 use Rattle.channels.specs.declared.connection.Hop.the-variants as hop
+use Rattle.channels.specs.declared.phy.DataChannel.{DataChannel}
 use Rattle.records.proofs.Padded.{differs}
 use Rattle.records.specs.Area.{readArea, rewritten}
 use Rattle.records.specs.declared.area.Area.{Area}
@@ -36,15 +37,19 @@ use Rattle.addresses.specs.declared.header.PduType.the-variants.{AdvInd, AdvDir
 use Rattle.advertising.proofs.Accepting.{is-accepted}
 use Rattle.advertising.proofs.Builders.{writing}
 use Rattle.advertising.proofs.Building.{building}
+use Rattle.advertising.proofs.Ranges.{tests, settles}
 use Rattle.advertising.specs.Laws.{ReadsBack}
 use Rattle.advertising.specs.Pdu.{requestOf, hasReceiver, decodeOf, wellFormed}
 use Rattle.advertising.specs.PduBuf.{flagsRecord, scanResponsePdu, payloadOf, payloadTo, payloadAfter}
+use Rattle.advertising.specs.Settings.{takenOf, settingsAt, RangesAt}
 use Rattle.advertising.specs.declared.pdu.ConnectRequestData.{ConnectRequestData}
 use Rattle.advertising.specs.declared.pdu.Outcome.{Outcome}
 use Rattle.advertising.specs.declared.pdu.Outcome.the-variants as outcome
 use Rattle.advertising.specs.declared.pdu_buf.Built.{Built}
 use Rattle.advertising.specs.declared.pdu_buf.PduBuf.{PduBuf}
-use Rattle.radio.specs.Calls.{instant, isAdvertising, isConnected, isScanRequest, refusal, sent, beginning, discoverable, started, startedAfter, isFor, listens, responds, repliedIf, heard, connectedAt, connectsTo, addressed, setTo, hoppedTo, hops, startOf, startAfter, tickOf, tickAfter, packetOf, packetAfter, eventOf, stopOf}
+use Rattle.advertising.specs.declared.settings.ConnectionSettings.{ConnectionSettings}
+use Rattle.advertising.specs.declared.settings.Taken.{Taken}
+use Rattle.radio.specs.Calls.{instant, firstEventAt, isAdvertising, isConnected, isScanRequest, refusal, sent, beginning, discoverable, started, startedAfter, isFor, listens, responds, repliedIf, heard, begun, settled, connectsTo, addressed, setTo, hoppedTo, hops, startOf, startAfter, tickOf, tickAfter, packetOf, packetAfter, eventOf, stopOf}
 use Rattle.radio.specs.Demand.{numberIn, replyHeader, replyOctets, ReplyOf}
 use Rattle.radio.specs.Laws.{ForBoard, Scans, Requests, Words, Modes, Refusing, Transmits, BadStart, Hearing}
 use Rattle.radio.specs.Trace.{Call, start, tick, packet, event, stop, setScanData, callOf, isConnectRequest, forBoard, requested, scans, mapIn, hopIn, connects, replySize, Strikable}
@@ -58,6 +63,7 @@ use Rattle.radio.specs.declared.link.Mode.the-variants.{Standby, Adverti
 use Rattle.radio.proofs.Packets.{Known, known, requested-is}
 use Rattle.radio.proofs.Replies.{reply-size}
 use Rattle.radio.proofs.Answers.{no-zero}
+use Rattle.radio.proofs.Steps.{hop-there}
 use Rattle.radio.proofs.Demand.{not-ours}
 
 -- the types with a second address, by their codes
@@ -165,13 +171,14 @@ module _ (own : DeviceAddress) (h : Header) (p : List ℕ) where
   request end crcGood tx e =
       let parts = both-true _ _ e in
       let r = asked isConnectRequest 5 type-5 crcGood (parts .0) in
-      record { crc = r .crc; good = r .good; type = r .type; second = r .second; some = ltb-true 0 (marks (mapIn p)) (parts .1) }
+      let rest = both-true _ _ (parts .1) in
+      record { crc = r .crc; good = r .good; type = r .type; second = r .second; some = ltb-true 0 (marks (mapIn p)) (rest .0); ranges = tests _ _ _ _ _ _ _ .0 (rest .1) }
 
   request-if : (end : Instant) (crcGood : Bool) (tx : List ℕ) → Requests own h p crcGood → connects own (packet end h p crcGood tx) ≡ true
   unfolding connects
   request-if end crcGood tx r =
       let asks-one = asked-if isConnectRequest 5 ConnectReq (codes .code-5) refl (inr (inr refl)) crcGood (record { crc = r .crc; good = r .good; type = r .type; second = r .second }) in
-      rw (asks-one, lt-ltb 0 (marks (mapIn p)) (r .some))
+      rw (asks-one, lt-ltb 0 (marks (mapIn p)) (r .some), tests _ _ _ _ _ _ _ .1 (r .ranges))
 
   pub words : Words own h p
   words =
@@ -230,9 +237,9 @@ module _ (d : Device) where
   tick-refused tx true is = sent-refused (d .adv) tx (has (length (payloadOf (d .adv .pdu))) tx 0) refl is
   tick-refused tx false is = (refl, refl)
 
-  connect-refused : (end : Instant) (l : ConnectRequestData) (h : Hop) {e : Error} → connectedAt d end l h .answer ≡ Refused e → connectedAt d end l h .device ≡ d
-  connect-refused end l (hop.To u c) is = no-refusal (connectedAt d end l (hop.To u c) .answer) refl is
-  connect-refused end l (hop.Refused x) is = refl
+  connect-refused : (end : Instant) (l : ConnectRequestData) (s : ConnectionSettings) (o : Outcome) {e : Error} → settled d end l s o .answer ≡ Refused e → settled d end l s o .device ≡ d
+  connect-refused end l s outcome.Accepted is = no-refusal (begun d end l s .answer) refl is
+  connect-refused end l s (outcome.Refused x) is = refl
 
   respond-refused : (tx : List ℕ) (fits : Bool) {e : Error} → has (length (payloadOf (d .«scan_response»))) tx 0 ≡ fits → responds d (payloadTo (d .«scan_response») tx) .answer ≡ Refused e
       → (responds d (payloadTo (d .«scan_response») tx) .device ≡ d) × (payloadAfter (d .«scan_response») tx ≡ tx)
@@ -242,7 +249,7 @@ module _ (d : Device) where
   addressed-refused : (end : Instant) (l : ConnectRequestData) (tx : List ℕ) (ty : PduType) {e : Error} → addressed d end l tx ty .answer ≡ Refused e
       → (addressed d end l tx ty .device ≡ d) × (repliedIf (isScanRequest ty) d tx ≡ tx)
   unfolding addressed connectsTo
-  addressed-refused end l tx ConnectReq is = (connect-refused end l (hopped (l .chm) 0 (l .hop)) is, refl)
+  addressed-refused end l tx ConnectReq is = (connect-refused end l (takenOf l .settings) (takenOf l .outcome) is, refl)
   addressed-refused end l tx ScanReq is = respond-refused tx (has (length (payloadOf (d .«scan_response»))) tx 0) refl is
   addressed-refused end l tx AdvDirectInd is = (refl, refl)
   addressed-refused end l tx AdvInd is = (refl, refl)
@@ -440,29 +447,40 @@ module _ (d : Device) (end : Instant) (h : Header) (p : List ℕ) (crcGood : Boo
     five-bits = omega arith
 
     -- the first hop of a request is event 0
-    first-hop : 1 ≤ marks (mapIn p) → hopped (fromRaw (mapIn p)) 0 (hopIn p) ≡ hop.To (unmapped (hopIn p) 1) (record { index = eventChannel (mapIn p) (hopIn p) 0 })
+    first-hop : 1 ≤ marks (mapIn p) → begun d end (requestOf p) (settingsAt 12 p) .answer
+        ≡ FirstEvent (record { index = eventChannel (mapIn p) (hopIn p) 0 }) (firstEventAt end (requestOf p)) (requestOf p .«access_address») (requestOf p .«crc_init»)
     unfolding unmappedBefore
-    first-hop some = run (mapIn p) (hopIn p) 0 some ∙ ap (λ (x : ℕ). hop.To (unmapped x 1) (record { index = eventChannel (mapIn p) x 0 })) five-bits
+    first-hop some =
+        let same = sym (hop-there (fromRaw (mapIn p)) 0 (hopIn p) (omega arith) some) ∙ run (mapIn p) (hopIn p) 0 some in
+        let channel : DataChannel = record { index = mapped (fromRaw (mapIn p) .raw) (marks (mapIn p)) (next 0 (hopIn p)) } in
+        let is : channel ≡ record { index = eventChannel (mapIn p) (hopIn p % 32) 0 } = cc in
+        ap (λ (x : DataChannel). FirstEvent x (firstEventAt end (requestOf p)) (requestOf p .«access_address») (requestOf p .«crc_init»))
+        (is ∙ ap (λ (x : ℕ). record { index = eventChannel (mapIn p) x 0 }) five-bits)
+
+    -- a connect request to this device, whose settings are taken or not
+    settling : crcGood ≡ true → ForBoard own h p → bits 0 4 h ≡ 5 → (t : Taken) → takenOf (requestOf p) ≡ t
+        → packetOf d end h p crcGood tx ≡ settled d end (requestOf p) (t .settings) (t .outcome)
+    unfolding addressed connectsTo
+    settling crc ours five t is =
+        let asked-one : decodeOf h p .pdu .ty ≡ ConnectReq = typed ours ConnectReq (ap pduType five ∙ codes .code-5) in
+        taken crc ours ConnectReq asked-one
+        ∙ (ap (λ (l : ConnectRequestData). connectsTo d end l) (known h p .request (ap isConnectRequest asked-one))
+        ∙ ap (λ (t : Taken). settled d end (requestOf p) (t .settings) (t .outcome)) is)
 
     requested-first : Requests own h p crcGood
         → packetOf d end h p crcGood tx .answer
         ≡ FirstEvent (record { index = eventChannel (part 5 p 28) (le (part 1 p 33) % 32) 0 })
         (instant (later (end .0) (le (part 2 p 20) * 1250 + le (part 1 p 19) * 1250 + 1750))) (le (part 4 p 12)) (le (part 3 p 16))
-    unfolding addressed connectsTo requestOf
+    unfolding requestOf
     requested-first r =
         let ours : ForBoard own h p = record { good = r .good; type = inr (inr (r .type)); second = r .second } in
-        let is : decodeOf h p .pdu .ty ≡ ConnectReq = typed ours ConnectReq (ap pduType (r .type) ∙ codes .code-5) in
-        ap (λ (x : Called). x .answer) (taken (r .crc) ours ConnectReq is)
-        ∙ (ap (λ (l : ConnectRequestData). connectsTo d end l .answer) (known h p .request (ap isConnectRequest is))
-        ∙ ap (λ (x : Hop). connectedAt d end (requestOf p) x .answer) (first-hop (r .some)))
+        ap (λ (x : Called). x .answer) (settling (r .crc) ours (r .type) _ (settles p .complete (r .ranges))) ∙ first-hop (r .some)
 
     requested-empty : crcGood ≡ true → ForBoard own h p → bits 0 4 h ≡ 5 → marks (part 5 p 28) ≡ 0 → packetOf d end h p crcGood tx ≡ refusal d EmptyMap
-    unfolding addressed connectsTo requestOf
-    requested-empty crc ours five zero-marks =
-        let is : decodeOf h p .pdu .ty ≡ ConnectReq = typed ours ConnectReq (ap pduType five ∙ codes .code-5) in
-        taken crc ours ConnectReq is
-        ∙ (ap (λ (l : ConnectRequestData). connectsTo d end l) (known h p .request (ap isConnectRequest is))
-        ∙ rw (eq-eqb (marks (mapIn p)) 0 zero-marks))
+    requested-empty crc ours five zero-marks = settling crc ours five _ (settles p .empty zero-marks)
+
+    requested-outside : crcGood ≡ true → ForBoard own h p → bits 0 4 h ≡ 5 → 1 ≤ marks (part 5 p 28) → (RangesAt 12 p → ⊥) → packetOf d end h p crcGood tx ≡ refusal d OutOfRange
+    requested-outside crc ours five some out = settling crc ours five _ (settles p .outside some out)
 
   off : isAdvertising (d .mode) ≡ false → packetOf d end h p crcGood tx ≡ refusal d WrongMode
   unfolding packetOf
@@ -478,6 +496,7 @@ module _ (d : Device) (end : Instant) (h : Header) (p : List ℕ) (crcGood : Boo
         no-room = λ s six reply on r. no-room on s six reply r;
         request = requested-first;
         empty = requested-empty;
+        outside = requested-outside;
         off = off;
         unwritten = unwritten;
       }

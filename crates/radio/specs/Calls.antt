@@ -12,7 +12,8 @@
 --   listens d                 == the device keeps listening
 --   responds d w              == a scan request whose reply was written to the transmit buffer, or not
 --   repliedIf asked d tx      == the transmit buffer with the reply's payload at its front, where that was asked for and there is room
---   connectsTo d end l        == the connection that a request asks for, at its first event
+--   connectedAt, begun d end l s == the connection that a request asks for, with the settings s, at its first event
+--   connectsTo d end l        == the same where the settings are taken, or their refusal
 --   addressed d end l tx ty   == a packet of type ty that is for this device
 --   heard d end pdu tx        == a CRC-good packet
 --   repliesWith d pdu         == the device with another reply; setTo d pdu o: where the builder took the data
@@ -28,11 +29,12 @@ use Rattle.octets.specs.declared.bytes.Written.the-variants as written
 use Rattle.octets.specs.declared.error.Error.{Error}
 use Rattle.octets.specs.declared.error.Error.the-variants.{WrongMode}
 use Rattle.octets.specs.declared.time.Instant.{Instant}
-use Rattle.channels.specs.Hop.{hopped}
+use Rattle.channels.specs.Hop.{mapped, next, hopped}
 use Rattle.channels.specs.Map.{fromRaw}
 use Rattle.channels.specs.Phy.{firstChannel, cycled}
 use Rattle.channels.specs.declared.connection.Hop.{Hop}
 use Rattle.channels.specs.declared.connection.Hop.the-variants as hop
+use Rattle.channels.specs.declared.phy.DataChannel.{DataChannel}
 use Rattle.addresses.specs.Address.{sameAddress}
 use Rattle.addresses.specs.declared.device_address.DeviceAddress.{DeviceAddress}
 use Rattle.addresses.specs.declared.header.Header.{Header}
@@ -40,12 +42,14 @@ use Rattle.addresses.specs.declared.header.PduType.{PduType}
 use Rattle.addresses.specs.declared.header.PduType.the-variants.{AdvInd, AdvDirectInd, AdvNonconnInd, AdvScanInd, ScanReq, ScanRsp, ConnectReq, Unknown}
 use Rattle.advertising.specs.Pdu.{hasReceiver, decodeOf}
 use Rattle.advertising.specs.PduBuf.{emptyBuf, builtOf, flagsRecord, scanResponsePdu, payloadTo, payloadAfter}
+use Rattle.advertising.specs.Settings.{takenOf}
 use Rattle.advertising.specs.declared.pdu.ConnectRequestData.{ConnectRequestData}
 use Rattle.advertising.specs.declared.pdu.Outcome.{Outcome}
 use Rattle.advertising.specs.declared.pdu.Outcome.the-variants as outcome
 use Rattle.advertising.specs.declared.pdu.Pdu.{Pdu}
 use Rattle.advertising.specs.declared.pdu_buf.Built.{Built}
 use Rattle.advertising.specs.declared.pdu_buf.PduBuf.{PduBuf}
+use Rattle.advertising.specs.declared.settings.ConnectionSettings.{ConnectionSettings}
 use Rattle.radio.specs.declared.link.Advertisement.{Advertisement}
 use Rattle.radio.specs.declared.link.Answer.the-variants.{Refused, Sent, Listen, Respond, FirstEvent, NextEvent, Stopped, ScanDataSet}
 use Rattle.radio.specs.declared.link.Called.{Called}
@@ -146,17 +150,24 @@ repliedIf asked d tx = cond asked (payloadAfter (d .«scan_response») tx) tx
 abbrev pub firstEventAt : Instant → ConnectRequestData → Instant
 firstEventAt end l = instant (later (end .0) (l .«win_offset» + l .«win_size» + 1750))
 
-abbrev pub connectedAt : Device → Instant → ConnectRequestData → Hop → Called
-connectedAt d end l (hop.To unmapped channel) =
+abbrev pub connectedAt : Device → Instant → ConnectRequestData → ConnectionSettings → ℕ → DataChannel → Called
+connectedAt d end l s unmapped channel =
     record {
       answer = FirstEvent channel (firstEventAt end l) (l .«access_address») (l .«crc_init»);
-      device = record { mode = Connected; «dev_addr» = d .«dev_addr»; «scan_response» = d .«scan_response»; adv = d .adv; conn = record { «channel_map» = l .chm; hop = l .hop; «unmapped_channel» = unmapped } };
+      device = record { mode = Connected; «dev_addr» = d .«dev_addr»; «scan_response» = d .«scan_response»; adv = d .adv; conn = record { «channel_map» = s .chm; hop = s .hop; «unmapped_channel» = unmapped } };
     }
-connectedAt d end l (hop.Refused e) = refusal d e
 
 -- "Each event adds hop modulo 37, starting at 0 before the first"
+abbrev pub begun : Device → Instant → ConnectRequestData → ConnectionSettings → Called
+begun d end l s = connectedAt d end l s (next 0 (s .hop)) (record { index = mapped (s .chm .raw) (s .chm .«num_used_channels») (next 0 (s .hop)) })
+
+abbrev pub settled : Device → Instant → ConnectRequestData → ConnectionSettings → Outcome → Called
+settled d end l s outcome.Accepted = begun d end l s
+settled d end l s (outcome.Refused e) = refusal d e
+
+-- document 02, Note 6: "taking the settings out of it is what refuses"
 unfoldable pub connectsTo : Device → Instant → ConnectRequestData → Called
-connectsTo d end l = connectedAt d end l (hopped (l .chm) 0 (l .hop))
+connectsTo d end l = settled d end l (takenOf l .settings) (takenOf l .outcome)
 
 abbrev pub isScanRequest : PduType → Bool
 isScanRequest ScanReq = true

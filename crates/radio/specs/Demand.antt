@@ -110,8 +110,8 @@ pub record Ticks (own : DeviceAddress) (time : Instant) (interval : ℕ) (record
 pub record Events (p : List ℕ) (entries : List Entry) : Type 0 where
   -- each channel is the one that the hop gives for the request's hop and map
   pub by-hop : Each (λ k e. eventOn (e .result .answer) ≡ eventChannel (mapIn p) (hopIn p) k) 0 entries
-  -- with hop 1 to 31, any 37 consecutive ones, from event k on, use the marked channel at place i 1 + u times
-  pub each-share : 1 ≤ hopIn p → hopIn p ≤ 31 → (k : ℕ) → k + 37 ≤ length entries → (i : ℕ)
+  -- any 37 consecutive ones, from event k on, use the marked channel at place i 1 + u times
+  pub each-share : (k : ℕ) → k + 37 ≤ length entries → (i : ℕ)
       → let n : ℕ = marks (mapIn p) in
       let u : ℕ = count (λ c. not (marked (mapIn p) c) && eqb (c % n) i) 37 in
       i < n → times (channelAt (mapIn p) i) k 37 (channelsBy eventOn entries) ≡ 1 + u
@@ -194,10 +194,10 @@ pub record Demand3 (own : DeviceAddress) (calls : List Call) : Type 0 where
   -- "A new call sets record octets for the reply": where the table, which asks no mode of it, does not refuse them
   pub sets : AtEach SetsAt (trace own calls)
   -- "A connection begins exactly when an advertising board is handed a CRC-good, well-formed connect request to its own address, kind included, marking
-  -- n ≥ 1 channels; that request's call gives its first event."
+  -- n ≥ 1 channels; that request's call gives its first event." Note 6: "exactly on a request that demand 3 names and that is within these ranges"
   pub begins : AtEach (BeginsAt own) (trace own calls)
-  -- "With hop 1 to 31, any 37 consecutive events of it use the marked channel at place i (from 0) exactly 1 + u times, u counting unmarked channels with
-  -- index mod n = i."
+  -- "any 37 consecutive events of it use the marked channel at place i (from 0) exactly 1 + u times, u counting unmarked channels with index mod n = i."
+  -- Note 6: "The channel counts then need no condition on hop."
   pub events : AtEach EventsFrom (trace own calls)
   -- "Stop is accepted in every mode and leads to standby."
   pub stops : AtEach StopsAt (trace own calls)

@@ -21,7 +21,7 @@ use lib.ListN.{length, take, drop, replicate}
 use Rattle.octets.specs.Bytes.{part, le}
 use Rattle.octets.specs.Time.{later}
 use Rattle.octets.specs.declared.error.Error.{Error}
-use Rattle.octets.specs.declared.error.Error.the-variants.{Eof, InvalidLength, WrongMode, EmptyMap}
+use Rattle.octets.specs.declared.error.Error.the-variants.{Eof, InvalidLength, WrongMode, EmptyMap, OutOfRange}
 use Rattle.octets.specs.declared.time.Instant.{Instant}
 use Rattle.channels.specs.Hop.{eventChannel}
 use Rattle.channels.specs.Map.{marks}
@@ -37,6 +37,7 @@ use Rattle.addresses.specs.declared.header.Header.{Header}
 use Rattle.addresses.specs.declared.header.PduType.the-variants.{ScanRsp}
 use Rattle.advertising.specs.Pdu.{decodeOf, wellFormed}
 use Rattle.advertising.specs.PduBuf.{flagsRecord, payloadOf}
+use Rattle.advertising.specs.Settings.{RangesAt}
 use Rattle.advertising.specs.declared.pdu.Outcome.the-variants as outcome
 use Rattle.radio.specs.Calls.{isAdvertising, isConnected, instant, fresh, packetOf, packetAfter}
 use Rattle.radio.specs.Demand.{numberIn, replyHeader, replyOctets, ReplyOf}
@@ -53,13 +54,14 @@ pub record ForBoard (own : DeviceAddress) (h : Header) (p : List ℕ) : Type 0 w
   pub type : (bits 0 4 h ≡ 1) ⊎ ((bits 0 4 h ≡ 3) ⊎ (bits 0 4 h ≡ 5))
   pub second : addressOf (part 6 p 6) (kindOf (rxAdd h)) ≡ own
 
--- a CRC-good, well-formed packet of type 5 whose second address is `own`, which marks a channel in octets 28 to 32
+-- a CRC-good, well-formed packet of type 5 whose second address is `own`, which marks a channel in octets 28 to 32, and whose settings, from octet 12 on, are in range
 pub record Requests (own : DeviceAddress) (h : Header) (p : List ℕ) (crcGood : Bool) : Type 0 where
   pub crc : crcGood ≡ true
   pub good : wellFormed h p ≡ true
   pub type : bits 0 4 h ≡ 5
   pub second : addressOf (part 6 p 6) (kindOf (rxAdd h)) ≡ own
   pub some : 1 ≤ marks (part 5 p 28)
+  pub ranges : RangesAt 12 p
 
 -- a CRC-good, well-formed packet of type 3 whose second address is `own`
 pub record Scans (own : DeviceAddress) (h : Header) (p : List ℕ) (crcGood : Bool) : Type 0 where
@@ -153,7 +155,8 @@ pub record Setting (d : Device) : Type 0 where
 -- What a packet comes to. A device that does not advertise refuses it with 5. To one that does, bad, malformed or foreign ones, and type 1 sent to us, keep
 -- listening; a scan request to us gets the reply with the scan data s, whichever the device has, and where the transmit buffer has no room for it is 1;
 -- a connect request to us gives event 0, at packet end + window offset + window size + 1,750 µs, with access address and CRC start, by the request's own
--- octets, and where it marks no channel is 6. Only a scan request to us changes the transmit buffer.
+-- octets, where it marks no channel is 6, and where it marks one and has a setting outside its range is 12. Only a scan request to us changes the transmit
+-- buffer.
 pub record Hearing (d : Device) (end : Instant) (h : Header) (p : List ℕ) (crcGood : Bool) (tx : List ℕ) : Type 0 where
   pub off : isAdvertising (d .mode) ≡ false → packetOf d end h p crcGood tx ≡ record { answer = Refused WrongMode; device = d }
   pub bad : d .mode ≡ Advertising → Strikable (d .«dev_addr») (packet end h p crcGood tx)
@@ -172,6 +175,8 @@ pub record Hearing (d : Device) (end : Instant) (h : Header) (p : List ℕ) (crc
       (instant (later (end .0) (le (part 2 p 20) * 1250 + le (part 1 p 19) * 1250 + 1750))) (le (part 4 p 12)) (le (part 3 p 16))
   pub empty : d .mode ≡ Advertising → crcGood ≡ true → ForBoard (d .«dev_addr») h p → bits 0 4 h ≡ 5 → marks (part 5 p 28) ≡ 0
       → packetOf d end h p crcGood tx ≡ record { answer = Refused EmptyMap; device = d }
+  pub outside : d .mode ≡ Advertising → crcGood ≡ true → ForBoard (d .«dev_addr») h p → bits 0 4 h ≡ 5 → 1 ≤ marks (part 5 p 28) → (RangesAt 12 p → ⊥)
+      → packetOf d end h p crcGood tx ≡ record { answer = Refused OutOfRange; device = d }
   pub unwritten : (Scans (d .«dev_addr») h p crcGood → ⊥) → packetAfter d h p crcGood tx ≡ tx
 
 -- A list of calls: a start at 4294967290 with an interval of 100, a tick, a connect request at 1000 with window size 2, window offset 3, map
@@ -278,13 +283,17 @@ pub record Titled : Type 0 where
 -- A list of calls of a board with a public address, on both sides of each limit: in standby a tick, an event, a scan request; starts with 29 and 28 octets of
 -- records, the second with a transmit buffer of 36 and of 37, and a tick with 36; the bare reply with a buffer of 7 octets, 6 and 5; a scan request that is
 -- CRC-bad, to another address, to the random one, and type 1 to us; while advertising scan data of 31 octets, of 32, and of 32 that end in a bad record; the
--- reply with a buffer of 36 and 37; connect requests without a channel and with two; while connected a scan request, a tick, a bad start, an event, and no
--- scan data; after a start the bare reply.
+-- reply with a buffer of 36 and 37; connect requests without a channel, the second with hop 17, with one, with two and hop 4 and 17, and with two and hop 5; while
+-- connected a scan request, a tick, a bad start, an event, and no scan data; after a start the bare reply.
 abbrev pub manufacturer : ℕ → List ℕ
 manufacturer n = (1 + n) ∷ 0xFF ∷ replicate n 0x2A
 
 abbrev pub askedPublic : ℕ → Call
 askedPublic n = sentTo 0x0C03 0x06 true n
+
+-- the connect request with another map, and hop
+abbrev pub requesting : List ℕ → Call
+requesting mapAndHop = packet (instant 1000) (headerOf 0x2205) (take 28 request ++ mapAndHop) true []
 
 abbrev pub limitsTrace : List Entry
 limitsTrace =
@@ -308,8 +317,12 @@ limitsTrace =
     ∷ setScanData (manufacturer 29 ++ (0x00 ∷ []))
     ∷ askedPublic 36
     ∷ askedPublic 37
-    ∷ packet (instant 1000) (headerOf 0x2205) (take 28 request ++ (0x00 ∷ 0x00 ∷ 0x00 ∷ 0x00 ∷ 0xE0 ∷ 0x05 ∷ [])) true []
-    ∷ packet (instant 1000) (headerOf 0x2205) request true []
+    ∷ requesting (0x00 ∷ 0x00 ∷ 0x00 ∷ 0x00 ∷ 0xE0 ∷ 0x05 ∷ [])
+    ∷ requesting (0x00 ∷ 0x00 ∷ 0x00 ∷ 0x00 ∷ 0xE0 ∷ 0x11 ∷ [])
+    ∷ requesting (0x02 ∷ 0x00 ∷ 0x00 ∷ 0x00 ∷ 0xE0 ∷ 0x05 ∷ [])
+    ∷ requesting (0x0A ∷ 0x00 ∷ 0x00 ∷ 0x00 ∷ 0x00 ∷ 0x04 ∷ [])
+    ∷ requesting (0x0A ∷ 0x00 ∷ 0x00 ∷ 0x00 ∷ 0x00 ∷ 0x11 ∷ [])
+    ∷ requesting (drop 28 request)
     ∷ askedPublic 37
     ∷ tick (replicate 37 0)
     ∷ start (instant 0) 100 (0x00 ∷ []) (replicate 9 0)
@@ -342,6 +355,10 @@ pub record Limits : Type 0 where
       ∷ Refused Eof
       ∷ Respond (headerOf 0x2504) Channel38
       ∷ Refused EmptyMap
+      ∷ Refused EmptyMap
+      ∷ Refused OutOfRange
+      ∷ Refused OutOfRange
+      ∷ Refused OutOfRange
       ∷ FirstEvent (record { index = 3 }) (instant 9000) 0x8E89BED6 0x123456
       ∷ Refused WrongMode
       ∷ Refused WrongMode

@@ -4,7 +4,8 @@
 --   requested is own crcGood h p == a CRC-good, well-formed packet to the address `own`, of a type that `is` says
 --   asks, scans own crcGood h p  == such a connect request, such a scan request
 --   mapIn p, hopIn p          == the map and the hop of a connect request
---   connects own c            == the call hands over such a connect request, which marks n ≥ 1 channels
+--   inRangesIn p              == its settings are within the Core's ranges
+--   connects own c            == the call hands over such a connect request, which marks n ≥ 1 channels and is within the ranges
 --   scansWith n own c         == the call hands over such a scan request, and a transmit buffer of n octets or more
 --   Reading                   == what the list says of the calls so far
 --   refusedBy own l c         == the number of the row of the table that refuses a call; 0 where none does
@@ -38,6 +39,7 @@ use Rattle.addresses.specs.declared.header.Header.{Header}
 use Rattle.addresses.specs.declared.header.PduType.{PduType}
 use Rattle.addresses.specs.declared.header.PduType.the-variants.{AdvInd, AdvDirectInd, AdvNonconnInd, AdvScanInd, ScanReq, ScanRsp, ConnectReq, Unknown}
 use Rattle.advertising.specs.Pdu.{fieldAt, connectFigure, decodeOf, wellFormed}
+use Rattle.advertising.specs.Settings.{isWithin, settingsAt}
 use Rattle.radio.specs.Calls.{fresh, isAdvertising, isConnected, isScanRequest, isFor, startOf, startAfter, tickOf, tickAfter, packetOf, packetAfter, scanDataOf, eventOf, stopOf}
 use Rattle.radio.specs.declared.link.Answer.{Answer}
 use Rattle.radio.specs.declared.link.Answer.the-variants.{Refused, Sent, Listen, Respond, FirstEvent, NextEvent, Stopped, ScanDataSet}
@@ -104,10 +106,14 @@ mapIn p = fieldAt connectFigure 9 p
 abbrev pub hopIn : List ℕ → ℕ
 hopIn p = le (fieldAt connectFigure 10 p) % 32
 
+-- LLData begins behind the two addresses
+abbrev pub inRangesIn : List ℕ → Bool
+inRangesIn p = isWithin (settingsAt 12 p)
+
 unfoldable pub connects : DeviceAddress → Call → Bool
 connects own (start time interval records tx) = false
 connects own (tick tx) = false
-connects own (packet end header payload crcGood tx) = asks own crcGood header payload && ltb 0 (marks (mapIn payload))
+connects own (packet end header payload crcGood tx) = asks own crcGood header payload && (ltb 0 (marks (mapIn payload)) && inRangesIn payload)
 connects own event = false
 connects own stop = false
 connects own (setScanData records) = false
@@ -161,7 +167,8 @@ refusedBy own l (tick tx) = firstOf (when (not (isAdvertising (l .mode))) 5) (wh
 refusedBy own l (packet end header payload crcGood tx) =
     firstOf (when (not (isAdvertising (l .mode))) 5)
     (firstOf (when (scans own crcGood header payload && ltb (length tx) (replySize (l .scanData))) 1)
-    (when (asks own crcGood header payload && eqb (marks (mapIn payload)) 0) 6))
+    (firstOf (when (asks own crcGood header payload && eqb (marks (mapIn payload)) 0) 6)
+    (when (asks own crcGood header payload && not (inRangesIn payload)) 12)))
 refusedBy own l event = when (not (isConnected (l .mode))) 5
 refusedBy own l stop = 0
 refusedBy own l (setScanData records) = scanDataNumber records

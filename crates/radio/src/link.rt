@@ -1,8 +1,9 @@
 // The link layer: a device in standby, advertising or connected. It goes into each call by value and comes back beside the answer.
 ghost use mathlib.Core.Path.{_≡_};
 ghost use Rattle.advertising.specs.PduBuf.{payloadTo, payloadAfter};
+ghost use Rattle.advertising.specs.Settings.{Within};
 ghost use mathlib.Core.Bool.{_&&_};
-ghost use Rattle.radio.specs.Calls.{fresh, isAdvertising, isConnected, isScanRequest, refusal, listens, responds, repliesWith, repliedIf, connectsTo, addressed, advertised, sent, isFor, heard, hops, startOf, startAfter, tickOf, tickAfter, packetOf, packetAfter, scanDataOf, eventOf, stopOf};
+ghost use Rattle.radio.specs.Calls.{fresh, isAdvertising, isConnected, isScanRequest, refusal, listens, responds, repliesWith, repliedIf, connectsTo, addressed, advertised, sent, isFor, heard, hops, startOf, startAfter, tickOf, tickAfter, packetOf, packetAfter, scanDataOf, eventOf, stopOf, begun};
 use addresses::device_address::DeviceAddress;
 use addresses::header::Header;
 use addresses::header::PduType;
@@ -10,6 +11,7 @@ use advertising::pdu::ConnectRequestData;
 use advertising::pdu::Outcome;
 use advertising::pdu::Pdu;
 use advertising::pdu_buf::PduBuf;
+use advertising::settings::ConnectionSettings;
 use channels::channel_map::ChannelMap;
 use channels::connection::Hop;
 use channels::connection::hop_channel;
@@ -371,12 +373,31 @@ impl Device {
         }
     }
 
-    // Begins the connection that a request asks for, at its first event; rubble's `Connection::create`.
+    // Takes the settings of a connect request, and with them begins the connection that it asks for.
     fn connect(self, rx_end: Instant, lldata: ConnectRequestData) -> Called
         ensures { λ r. ⌜ r ≡ connectsTo self «rx_end» lldata ⌝ }
     {
-        let channel_map = lldata.channel_map();
-        let hop = lldata.hop();
+        let taken = ConnectionSettings::of(lldata);
+        let settings = taken.settings;
+        let outcome = taken.outcome;
+        match outcome {
+            Outcome::Accepted => self.begin(rx_end, lldata, settings),
+            Outcome::Refused(reason) => self.refused(reason),
+        }
+    }
+
+    // Begins a connection at its first event; rubble's `Connection::create`.
+    fn begin(
+        self,
+        rx_end: Instant,
+        lldata: ConnectRequestData,
+        settings: ConnectionSettings,
+    ) -> Called
+        requires { ⌜ Within settings ⌝ }
+        ensures { λ r. ⌜ r ≡ begun self «rx_end» lldata settings ⌝ }
+    {
+        let channel_map = settings.channel_map();
+        let hop = settings.hop();
         match hop_channel(channel_map, 0, hop) {
             Hop::To {
                 unmapped: unmapped_channel,
@@ -407,6 +428,7 @@ impl Device {
                     },
                 }
             }
+            // Not reached: the settings mark two channels.
             Hop::Refused(error) => self.refused(error),
         }
     }

@@ -47,9 +47,8 @@ fn is_request(letter: u8) -> bool {
         b'a'..=b'e' => true,
         b'g'..=b'i' => true,
         b'k'..=b'n' => true,
-        b'p' => true,
+        b'p'..=b't' => true,
         b'w'..=b'z' => true,
-        b'r'..=b't' => true,
         _ => false,
     }
 }
@@ -64,6 +63,7 @@ fn least(letter: u8) -> usize {
         b'h' | b'n' => 7,
         b'b' | b'k' | b'p' => 8,
         b's' => 9,
+        b'q' => 22,
         _ => 0,
     }
 }
@@ -75,6 +75,7 @@ fn most(letter: u8) -> usize {
         b'i' | b't' => 1,
         b'g' | b'm' => 5,
         b'h' | b'n' => 7,
+        b'q' => 22,
         _ => usize::MAX,
     }
 }

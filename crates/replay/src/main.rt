@@ -12,6 +12,7 @@
 //     i index                            a data channel: index, RF channel, frequency, start of whitening
 //     m octets 5                         a channel map
 //     h octets 5, unmapped, hop          a hop
+//     q octets 22                        the settings of a connect request, of the octets behind its addresses: window size and offset, interval, latency, timeout, map, hop
 //     n address 7                        a new device, for the calls that follow
 //     s time 4, interval 4, room, records    a start with a transmit buffer of `room` octets of FF
 //     t room                             a tick
@@ -52,6 +53,8 @@ use advertising::pdu::Outcome;
 use advertising::pdu::Pdu;
 use advertising::pdu_buf::Built;
 use advertising::pdu_buf::PduBuf;
+use advertising::settings::ConnectionSettings;
+use advertising::settings::Taken;
 use beacon::beacon::Beacon;
 use beacon::beacon::BeaconScanner;
 use beacon::beacon::Broadcast;
@@ -205,6 +208,33 @@ fn map_in(s: &[u8]) -> ChannelMap {
     ])
 }
 
+fn lldata_in(s: &[u8]) -> [u8; 22] {
+    [
+        octet(s, 0),
+        octet(s, 1),
+        octet(s, 2),
+        octet(s, 3),
+        octet(s, 4),
+        octet(s, 5),
+        octet(s, 6),
+        octet(s, 7),
+        octet(s, 8),
+        octet(s, 9),
+        octet(s, 10),
+        octet(s, 11),
+        octet(s, 12),
+        octet(s, 13),
+        octet(s, 14),
+        octet(s, 15),
+        octet(s, 16),
+        octet(s, 17),
+        octet(s, 18),
+        octet(s, 19),
+        octet(s, 20),
+        octet(s, 21),
+    ]
+}
+
 fn header_in(s: &[u8], at: usize) -> Header {
     match Header::parse(rest(s, at)) {
         HeaderMade::Header(header) => header,
@@ -340,6 +370,27 @@ fn request(out: &mut Page, at: usize, d: ConnectRequestData) -> usize {
     next = hex(out, next, d.crc_init() as u64, 6);
     next = timing(out, next, d);
     hops(out, next, d)
+}
+
+// The counts of settings, in the order of a request's fields.
+fn counted(out: &mut Page, at: usize, s: ConnectionSettings) -> usize {
+    let mut next = number(out, at, s.win_size() as u64);
+    next = number(out, next, s.win_offset() as u64);
+    next = number(out, next, s.interval() as u64);
+    next = number(out, next, s.slave_latency() as u64);
+    next = number(out, next, s.supervision_timeout() as u64);
+    let map = s.channel_map();
+    let raw = map.to_raw();
+    next = octets(out, next, &raw);
+    number(out, next, s.hop() as u64)
+}
+
+fn settings(out: &mut Page, at: usize, t: Taken) -> usize {
+    let outcome = t.outcome;
+    match outcome {
+        Outcome::Accepted => counted(out, at, t.settings),
+        Outcome::Refused(e) => refused(out, at, e),
+    }
 }
 
 // Behind the sender: a receiver, and a connect request's fields; or records.
@@ -616,6 +667,7 @@ fn work_out(out: &mut Page, at: usize, letter: u8, s: &[u8]) -> usize {
         b'i' => data_channel(out, at, s),
         b'l' => two_areas(out, at, octet(s, 0) as usize, rest(s, 1)),
         b'm' => map(out, at, s),
+        b'q' => settings(out, at, ConnectionSettings::from_octets(lldata_in(s))),
         _ => at,
     }
 }
