@@ -16,6 +16,9 @@ is c =
     let a = c .before .args in
     ap (λ (t : Taken). settled (a .self) (a .rx-end) (a .lldata) (t .settings) (t .outcome)) (sym (c .of .ensures .0))
 
+enum-known-outcome : tie.Need-enum-known-outcome
+enum-known-outcome c = search needs
+
 returns : tie.Need-returns
 returns c =
     let taken = c .before .before .before .before in
@@ -37,7 +40,7 @@ connect-spec =
     (λ c κs. search needs)
     (λ c. search needs)
     (λ c κs. search needs)
-    (λ c. search needs)
+    enum-known-outcome
     (λ c κs. search needs)
     returns
     returns-2)
