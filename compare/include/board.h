@@ -13,7 +13,7 @@
  *   3 an unknown PDU type, a name that is not UTF-8, a bad list      9 a record length above 255
  *   4 a header of under two octets                                  10 a channel index above 39
  *   5 the wrong mode                                                11 neither area has a name
- *   6 a channel map that marks no channel
+ *   6 a channel map that marks no channel                          12 a connection's setting outside its range
  * What has no meaning in an answer is 0, save two fields of BoardPacket. A call that is refused leaves its buffers as they were; board_call, as the
  * calls of its list left them.
  *
@@ -255,7 +255,7 @@ typedef struct BoardNameSaid {
  * shortened in the advertisement; of those the area's first that is UTF-8. A bad advertisement is refused first, then a bad reply, then where there is no name. */
 BoardNameSaid board_name(const uint8_t *advertisement, size_t advertisement_len, const uint8_t *reply, size_t reply_len);
 
-/* --- libbasics.a: UTF-8, UUIDs, instants, channels, maps, hops --- */
+/* --- libbasics.a: UTF-8, UUIDs, instants, channels, maps, hops, settings --- */
 
 /* Whether octets are UTF-8. */
 bool board_utf8(const uint8_t *s, size_t s_len);
@@ -302,6 +302,28 @@ BoardGot board_by_index(const uint8_t raw[5], uint8_t n);
 
 /* first: the next unmapped channel, second: the channel to use. Of `hop` the low five bits count. */
 BoardGot board_hop(const uint8_t raw[5], uint8_t unmapped, uint8_t hop);
+
+/* The settings of a connection, as the request counts them: interval, win_size and win_offset by 1,250 microseconds, timeout by 10 milliseconds, latency by
+ * events. map: as BoardMap has it, `channels` its marks. */
+typedef struct BoardSettingsSaid {
+    uint8_t number;
+    uint8_t hop;
+    uint8_t map[5];
+    uint8_t channels;
+    uint16_t interval;
+    uint16_t latency;
+    uint16_t timeout;
+    uint8_t win_size;
+    uint16_t win_offset;
+} BoardSettingsSaid;
+
+/* The settings in the 22 octets behind a connect request's two addresses. A map that marks no channel is 6, and is tested first. Otherwise 12, unless
+ *   hop          5 to 16                                 timeout      10 to 3,200, and 4 times it above (1 + latency) times interval
+ *   channels     2 and more                              win_size     1 to 8, and below interval
+ *   interval     6 to 3,200                              win_offset   up to interval
+ *   latency      up to 499
+ * board_decode reads a request with any settings; board_call begins a connection on these alone, and refuses a request with others in the same way. */
+BoardSettingsSaid board_settings(const uint8_t octets[22]);
 
 /* --- libbasics.a: octets at a position, which may lie past the end --- */
 

@@ -1,4 +1,4 @@
-/* Calls every function, so that each field of the header is held to a known answer: every.out, whose values are document 01's, of padding and names document
+/* Calls every function, so that each field of the header is held to a known answer: every.out, whose values are document 01's, of padding, names and settings document
  * 02's, and of the bit stream those on which other implementations agree. What the header says of `which`, kinds, refusals and lists that are cut is tried one by one. */
 #include "board.h"
 #include <stdio.h>
@@ -224,8 +224,8 @@ static void ran(const char *name, const uint8_t *calls, size_t calls_len, const 
     octets(first, 12), printf(","), octets(second, 12), printf("\n");
 }
 
-/* Every call, and one more, in each mode; octets 1 and 2 of a call; a connect request that marks no channel; lists and calls that are cut; a reply with
- * scan data, by both buffers. */
+/* Every call, and one more, in each mode; octets 1 and 2 of a call; a connect request that marks no channel, and one with hop 17, after which a tick follows; lists and
+ * calls that are cut; a reply with scan data, by both buffers. */
 static void device(void) {
     static const uint8_t name[] = {3, 9, 0x47, 0x6F};
     static uint8_t calls[2 * 272], call[272], scan[14] = {0x83, 0x0C};
@@ -245,6 +245,8 @@ static void device(void) {
     }
     call_of(call, 2, 232, 3, request, request + 2, 34), memset(call + 14 + 28, 0, 5);
     ran("unmarked", calls, 272, S(call));
+    call_of(call, 2, 232, 3, request, request + 2, 34), call[14 + 33] = 17;
+    ran("hop 17", calls, 272, S(call));
     call_of(call, 3, 0, 0, beacon, bits, 0);
     ran("271", calls, 271, S(call));
     ran("543", calls, 543, S(call));
@@ -260,6 +262,9 @@ static void device(void) {
     ran("reply", S(calls), S(call));
     call[2] = 1;
     ran("reply", S(calls), S(call));
+    call_of(calls, 0, 5, 30, beacon, records + 6, 3), call_of(calls + 272, 2, 232, 3, request, request + 2, 34), calls[272 + 14 + 33] = 17;
+    call_of(call, 1, 0, 0, beacon, bits, 0);
+    ran("tick", S(calls), S(call));
 }
 
 /* Every entry of a scanner, and one more, before and after a configure; the CRC; a list and an entry that are cut. */
@@ -326,6 +331,41 @@ static void names(void) {
     name("zero, reply", S(advertisement), S(zero));
     name("zero, cut", S(zero), reply, 8);
     name("cut, zero", advertisement, 7, S(zero));
+}
+
+static void settings(const char *name, const uint8_t s[22]) {
+    BoardSettingsSaid c = board_settings(s);
+    printf("%s board_settings %d %d", name, c.number, c.hop);
+    octets(c.map, 5);
+    printf(" %d %u %u %u %d %u\n", c.channels, c.interval, c.latency, c.timeout, c.win_size, c.win_offset);
+}
+
+/* Settings with one of them set, which begins at an octet. */
+static void set(const char *name, const uint8_t from[22], size_t at, size_t size, unsigned value) {
+    uint8_t s[22];
+    memcpy(s, from, 22), s[at] = (uint8_t)value;
+    if (size == 2)
+        s[at + 1] = (uint8_t)(value >> 8);
+    settings(name, s);
+}
+
+/* The settings of the request above; each at its least, and at its most beside an interval of 3,200, and from these one after the other across its limit; none at all. */
+static void ranges(void) {
+    static const uint8_t low[22] = {0, 0, 0, 0, 0, 0, 0, 1, 0, 0, 6, 0, 0, 0, 10, 0, 3, 0, 0, 0, 0, 5}, none[22];
+    static const uint8_t high[22] = {0, 0, 0, 0, 0, 0, 0, 8, 0x80, 0x0C, 0x80, 0x0C, 2, 0, 0x80, 0x0C, 0xFF, 0xFF, 0xFF, 0xFF, 0xFF, 0xF0};
+    static uint8_t long_sleep[22], all[22];
+    settings("request", request + 14), settings("low", low), settings("high", high), settings("none", none);
+    memset(all, 0xFF, 22), settings("FF", all);
+    set("hop 4", low, 21, 1, 4), set("hop 17", high, 21, 1, 17);
+    set("1 channel", low, 16, 1, 0x80), set("no channel", low, 16, 1, 0);
+    set("interval 5", low, 10, 2, 5), set("interval 3199", high, 10, 2, 3199), set("interval 3201", high, 10, 2, 3201);
+    set("latency 3", high, 12, 2, 3);
+    memcpy(long_sleep, low, 22), long_sleep[14] = 0x80, long_sleep[15] = 0x0C;
+    set("latency 499", long_sleep, 12, 2, 499), set("latency 500", long_sleep, 12, 2, 500);
+    set("timeout 9", low, 14, 2, 9), set("timeout 3201", high, 14, 2, 3201);
+    set("40 above 39", low, 10, 2, 39), set("40 above 40", low, 10, 2, 40);
+    set("size 0", low, 7, 1, 0), set("size 5", low, 7, 1, 5), set("size 6", low, 7, 1, 6), set("size 9", high, 7, 1, 9);
+    set("offset 6", low, 8, 2, 6), set("offset 7", low, 8, 2, 7), set("offset 3201", high, 8, 2, 3201);
 }
 
 /* A call for each refusal's number, and what it leaves. */
@@ -409,6 +449,6 @@ int main(void) {
     memset(out, 0xFF, sizeof out);
     leaves(), packets(), areas(), positions(), air();
     memset(out, 0xFF, sizeof out);
-    builders(), writes(), device(), scanner(), padding(), names(), refusals(), stream();
+    builders(), writes(), device(), scanner(), padding(), names(), ranges(), refusals(), stream();
     return 0;
 }

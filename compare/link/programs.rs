@@ -297,7 +297,7 @@ fn replay_answers(t: &mut Tried, requests: &[u8]) {
     let as_recorded = t.run("replay", requests);
     let ran = t.run("replay", &requests.to_ascii_lowercase());
     t.say("replay: the recorded requests in lower case", ran.0 == as_recorded.0 && lines_of(&ran.0) == lines_of(requests), &ran);
-    let bad = "d 42 0g\nq\nd 4\ni\ni 00 00\ne\r\nd42\n\n# 4g\nh 0a 00 00 00 00 00 05";
+    let bad = "d 42 0g\nf\nd 4\ni\ni 00 00\ne\r\nd42\n\n# 4g\nh 0a 00 00 00 00 00 05";
     let answers = "request 1: an octet that is no number\nrequest 2: no such request\nrequest 3: an octet of one digit\nrequest 4: too few octets\n\
         request 5: too many octets\nrequest 6: a carriage return\nrequest 7: no space behind its letter\n\n#\nh 5 3\n";
     let ran = t.run("replay", bad.as_bytes());

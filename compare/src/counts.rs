@@ -1,10 +1,10 @@
 //! What was compared: comparisons and refusals by kind, lengths of payloads, near misses, padded areas, searches for a name, replies, connections and events of
-//! lists, CRC flags.
-use crate::inputs::marks_any;
+//! lists, settings outside the ranges, CRC flags.
 use crate::names;
 use crate::ours::BEHIND;
 use crate::padding::{self, Behind};
 use crate::request::{Kind, Request, CALL, KINDS};
+use crate::settings::{self, Settings, RANGES};
 
 /// Classes of lengths, each from its first to before the next one's.
 const CLASSES: [(&str, usize); 9] = [
@@ -18,7 +18,7 @@ const GROUPS: [&str; 6] = [
 ];
 const SCANNER: usize = 4;
 
-const DEVICE_OFF: [&str; 6] = ["a bit of the address", "RxAdd", "the CRC", "the length", "the type", "an empty map"];
+const DEVICE_OFF: [&str; 7] = ["a bit of the address", "RxAdd", "the CRC", "the length", "the type", "an empty map", "a setting"];
 const SCANNER_OFF: [&str; 5] = ["the type", "the CRC", "the length", "the entry's kind", "a bit of the entry"];
 
 /// The kinds that read as the hub does. What they answer where a zero length stands at a record's place is judged by Note 3: of beacons those that have
@@ -43,12 +43,19 @@ const SETS: [&str; 4] = ["refused with 1", "refused with 2", "accepted", "accept
 const CONNECTIONS: [(&str, usize); 4] = [("none", 0), ("1", 1), ("2", 2), ("3 or more", 3)];
 const EVENTS: [(&str, usize); 5] = [("none", 0), ("1-9", 1), ("10-99", 10), ("100-300", 100), ("more", 301)];
 
+/// How many events a connection has to have, so that its list counts as a long one.
+const LONG: usize = 101;
+
+/// Where settings are met: taken alone, and in connect requests that a device judges.
+const SETTINGS: [(Kind, &str); 2] = [(Kind::Settings, "settings taken alone"), (Kind::Calls, "connect requests to a device that advertises")];
+const JUDGED: [&str; 4] = ["within the ranges", "of these with a setting at a limit", "refused with 6", "refused with 12"];
+
 const LIVED: [(&str, usize); 4] = [("none", 0), ("1-9", 1), ("10-99", 10), ("100-400", 100)];
 
 const FLAGS: [&str; 4] = ["good on 0 to 36", "bad", "good on 37 to 39", "bad"];
 
 /// Numbers that an answer has: 0, and those of refusals.
-const NUMBERS: usize = 12;
+const NUMBERS: usize = 13;
 
 /// The octets of an answer of two numbers, of a record, of a call before both buffers, and of a scanner.
 const GOT: usize = 17;
@@ -72,6 +79,12 @@ pub struct Counts {
     sets: [u64; SETS.len()],
     connections: [u64; CONNECTIONS.len()],
     events: [u64; EVENTS.len()],
+    /// Lists that have a connection of more than 100 events, and those with a request that is refused with 12.
+    long: u64,
+    refused: u64,
+    judged: [[u64; JUDGED.len()]; SETTINGS.len()],
+    /// Those refused with 12 that are outside one range alone.
+    outside: [[u64; RANGES.len()]; SETTINGS.len()],
     scanner_packets: [u64; LIVED.len()],
     scanner_updates: [u64; LIVED.len()],
     flags: [u64; FLAGS.len()],
@@ -97,6 +110,10 @@ impl Default for Counts {
             sets: [0; SETS.len()],
             connections: [0; CONNECTIONS.len()],
             events: [0; EVENTS.len()],
+            long: 0,
+            refused: 0,
+            judged: [[0; JUDGED.len()]; SETTINGS.len()],
+            outside: [[0; RANGES.len()]; SETTINGS.len()],
             scanner_packets: [0; LIVED.len()],
             scanner_updates: [0; LIVED.len()],
             flags: [0; FLAGS.len()],
@@ -148,6 +165,7 @@ impl Counts {
             }
             Kind::Padded => self.count_zeros(0, &r.parts[0], answer[0] == 0),
             Kind::Name => self.count_name(&r.parts[0], &r.parts[1]),
+            Kind::Settings => self.count_settings(0, &settings::read(&r.parts[0]), answer[0]),
             Kind::Whiten | Kind::CrcFlag => self.count_stream(r, answer),
             _ => {}
         }
@@ -212,6 +230,24 @@ impl Counts {
         }
     }
 
+    /// Counts settings that were answered with the number.
+    fn count_settings(&mut self, met: usize, settings: &Settings, number: u8) {
+        let judged = &mut self.judged[met];
+        match number {
+            0 => {
+                judged[0] += 1;
+                judged[1] += settings.at_a_limit() as u64;
+            }
+            6 => judged[2] += 1,
+            _ => {
+                judged[3] += 1;
+                if let Some(one) = only(&settings.outside()) {
+                    self.outside[met][one] += 1;
+                }
+            }
+        }
+    }
+
     fn count_stream(&mut self, r: &Request, answer: &[u8]) {
         let channel = r.numbers[0] as usize;
         self.heard_on[channel % 256] += 1;
@@ -224,10 +260,18 @@ impl Counts {
     fn count_list(&mut self, r: &Request, answer: &[u8]) -> u64 {
         let size = CALL_ANSWER + (r.numbers[1] + r.numbers[2]) as usize + 2 * BEHIND;
         let (mut connections, mut events) = (0, 0);
+        // Events of the connection, of the longest one, and whether a request is refused with 12.
+        let (mut its_events, mut longest, mut refused) = (0, 0, false);
         for (c, a) in r.parts[1].chunks_exact(CALL).zip(answer.chunks_exact(size)) {
             self.answers[Kind::Calls as usize][a[0] as usize % NUMBERS] += 1;
             connections += (a[1] == 4) as usize;
             events += (a[1] == 5) as usize;
+            its_events = if a[1] == 4 { 0 } else { its_events + (a[1] == 5) as usize };
+            longest = longest.max(its_events);
+            refused |= a[0] == 12;
+            if a[1] == 4 || matches!(a[0], 6 | 12) {
+                self.count_settings(1, &settings::of(&c[14..]), a[0]);
+            }
             match (c[0], a[0], a[1]) {
                 (2, 0, 3) => self.replies[class(&REPLIES, a[6] as usize % 64)] += 1,
                 (2, 1, _) => self.no_room += 1,
@@ -247,6 +291,8 @@ impl Counts {
         }
         self.connections[class(&CONNECTIONS, connections)] += 1;
         self.events[class(&EVENTS, events)] += 1;
+        self.long += (longest >= LONG) as u64;
+        self.refused += refused as u64;
         (answer.len() / size) as u64
     }
 
@@ -262,8 +308,16 @@ impl Counts {
         if n < 12 || bits > 1 {
             return;
         }
-        let empty = ty == 5 && n >= 34 && !marks_any(&p[28..33]);
-        let off = [bits == 1, c[12] >> 7 != random, c[1] != 1, c[13] as usize % 64 != n, !matches!(ty, 3 | 5), empty];
+        let settings = if ty == 5 && n >= 34 { settings::of(p).number() } else { 0 };
+        let off = [
+            bits == 1,
+            c[12] >> 7 != random,
+            c[1] != 1,
+            c[13] as usize % 64 != n,
+            !matches!(ty, 3 | 5),
+            settings == 6,
+            settings == 12,
+        ];
         if let Some(one) = only(&off) {
             self.device_off[one] += 1;
         }
@@ -333,6 +387,10 @@ impl Counts {
         add(&mut self.sets, &more.sets);
         add(&mut self.connections, &more.connections);
         add(&mut self.events, &more.events);
+        self.long += more.long;
+        self.refused += more.refused;
+        self.judged.iter_mut().zip(&more.judged).for_each(|(sum, n)| add(sum, n));
+        self.outside.iter_mut().zip(&more.outside).for_each(|(sum, n)| add(sum, n));
         add(&mut self.scanner_packets, &more.scanner_packets);
         add(&mut self.scanner_updates, &more.scanner_updates);
         add(&mut self.flags, &more.flags);
@@ -362,11 +420,26 @@ impl Counts {
         lacks.map(|(what, _)| *what)
     }
 
+    /// What settings were met in, and an answer or a range that there was not.
+    pub fn without_settings(&self) -> Option<(&'static str, &'static str)> {
+        let of_kind = |met: usize| {
+            let mut all = JUDGED.iter().zip(&self.judged[met]).chain(RANGES.iter().zip(&self.outside[met]));
+            all.find(|(_, n)| **n == 0).map(|(what, _)| (SETTINGS[met].1, *what))
+        };
+        (0..SETTINGS.len()).filter(|met| self.of(SETTINGS[*met].0) > 0).find_map(of_kind)
+    }
+
+    /// Lists that have a connection of more than 100 events.
+    pub fn long(&self) -> u64 {
+        self.long
+    }
+
     pub fn print(&self) {
         self.print_shares();
         self.print_padding();
         print_row("searches for a name by their end", &names::ENDS, &self.names);
         print_row("those without a bad area that met", &SEARCHED, &self.searched);
+        self.print_settings();
         self.print_kinds();
     }
 
@@ -407,6 +480,18 @@ impl Counts {
             println!("{judged} answers judged by Note 3's rule for a zero length, {taken} of them accepted or reported");
         }
         print_row("padded areas refused with 2 by what reads strictly", &STRICT, &self.strict);
+    }
+
+    fn print_settings(&self) {
+        for ((_, name), (judged, outside)) in SETTINGS.iter().zip(self.judged.iter().zip(&self.outside)) {
+            print_row(name, &JUDGED, judged);
+            print_row("  those refused with 12 that are outside one range alone", &RANGES, outside);
+        }
+        if self.of(Kind::Calls) > 0 {
+            let calls = self.answers[Kind::Calls as usize][12];
+            println!("{calls} calls of {} lists judged by Note 6's rule: 12", self.refused);
+            println!("{} lists have a connection of more than 100 events", self.long);
+        }
     }
 
     fn print_kinds(&self) {

@@ -1,7 +1,8 @@
 //! Lists of calls on a device.
-use crate::inputs::{area, count, damage, length, likely_count, map, marks_any, neighbour, pad, payload, write_over};
+use crate::inputs::{area, count, damage, length, likely_count, map, neighbour, pad, payload, write_over};
 use crate::request::{Kind, Request, CALL};
 use crate::rng::Rng;
+use crate::settings::{self, made};
 
 const START: u8 = 0;
 const TICK: u8 = 1;
@@ -59,8 +60,9 @@ impl<'a> List<'a> {
         let n = packet.payload.len();
         let mut c = [0; CALL];
         c[..4].copy_from_slice(&[kind, packet.crc_ok as u8, second as u8, n as u8]);
-        for octet in &mut c[4..12] {
-            *octet = if self.rng.bit() == 0 { self.rng.octet() } else { self.rng.pick(&[0, 0xFF]) };
+        let (any, choice) = (self.rng.next(), self.rng.next());
+        for (at, octet) in c[4..12].iter_mut().enumerate() {
+            *octet = [any.to_le_bytes()[at], any.to_le_bytes()[at], 0, 0xFF][choice as usize >> (2 * at) & 3];
         }
         c[12..14].copy_from_slice(&packet.header);
         c[14..14 + n].copy_from_slice(&packet.payload);
@@ -120,12 +122,15 @@ impl<'a> List<'a> {
         self.start_with(records, second);
     }
 
-    /// A request to the device, with n octets that its header counts.
+    /// A request to the device, with n octets that its header counts. A connect request's settings are within the ranges.
     fn request_to_us(&mut self, ty: u8, n: usize) -> Packet {
         let mut p = payload(self.rng, ty, n);
         write_over(&mut p, 6, &self.own);
         if ty == CONNECT_REQ {
-            write_over(&mut p, 28, &good_map(self.rng));
+            write_over(&mut p, settings::START, &made::within(self.rng));
+            if self.rng.bit() == 0 {
+                write_over(&mut p, 28, &good_map(self.rng));
+            }
         }
         let header = [ty | (self.rng.octet() & 0x70) | self.random << 7, count(self.rng, n)];
         Packet { header, payload: p, crc_ok: true }
@@ -142,7 +147,7 @@ impl<'a> List<'a> {
     fn near_miss(&mut self) -> Packet {
         let ty = self.rng.pick(&[1, SCAN_REQ, SCAN_REQ, CONNECT_REQ, CONNECT_REQ, CONNECT_REQ]);
         let mut p = self.good_request(ty);
-        let wrong = if ty == CONNECT_REQ { 12 } else { 9 };
+        let wrong = if ty == CONNECT_REQ { 16 } else { 9 };
         match self.rng.below(wrong) {
             0 => p.payload[6 + self.rng.below(6)] ^= 1 << self.rng.below(8),
             1 => p.header[0] ^= 0x80,
@@ -163,9 +168,25 @@ impl<'a> List<'a> {
             9 => p.payload[28..33].fill(0),
             10 => p.payload[28..33].copy_from_slice(&[0, 0, 0, 0, self.rng.pick(&[0x20, 0x40, 0x80, 0xE0])]),
             // The hop is five bits; those above are the clock's accuracy.
-            _ => p.payload[33] |= self.rng.pick(&[0x20, 0x40, 0x80, 0xE0]),
+            11 => p.payload[33] |= self.rng.pick(&[0x20, 0x40, 0x80, 0xE0]),
+            12 | 13 => self.leave_ranges(&mut p),
+            // No channel, and another setting off: 6 comes before 12.
+            14 => {
+                self.leave_ranges(&mut p);
+                p.payload[28..32].fill(0);
+                p.payload[32] &= 0xE0;
+            }
+            _ => {
+                let any = self.rng.octets(settings::OCTETS);
+                write_over(&mut p.payload, settings::START, &any);
+            }
         }
         p
+    }
+
+    /// Puts a setting of a connect request outside its range.
+    fn leave_ranges(&mut self, p: &mut Packet) {
+        write_over(&mut p.payload, settings::START, &made::outside(self.rng));
     }
 
     /// A packet of any type and length, mostly to the device.
@@ -181,13 +202,22 @@ impl<'a> List<'a> {
             let other = self.rng.octets(6);
             write_over(&mut p.payload, 6, &other);
         }
+        if ty == CONNECT_REQ && self.rng.one_in(6) {
+            self.leave_ranges(&mut p);
+        }
         p.crc_ok = !self.rng.one_in(8);
         p
     }
 
     fn packet(&mut self) {
         let p = match self.rng.below(8) {
-            0 | 1 => self.good_request(CONNECT_REQ),
+            0 | 1 => {
+                let mut p = self.good_request(CONNECT_REQ);
+                if self.rng.one_in(6) {
+                    self.leave_ranges(&mut p);
+                }
+                p
+            }
             2 | 3 => self.good_request(SCAN_REQ),
             4 | 5 => self.near_miss(),
             _ => self.any_packet(),
@@ -219,13 +249,10 @@ impl<'a> List<'a> {
         }
     }
 
-    /// From a start over a few ticks and packets to a connection, and its events, refused calls among them.
-    fn connection(&mut self, events: usize) {
-        if self.rng.bit() == 0 {
-            self.set();
-        }
+    /// From a start over a few ticks and packets, fewer than so many, to a connection.
+    fn connect(&mut self, few: usize) {
         self.start();
-        for _ in 0..self.rng.below(6) {
+        for _ in 0..self.rng.below(few) {
             if self.mode == ADVERTISING && self.rng.bit() == 0 {
                 self.packet();
             } else if self.mode == ADVERTISING {
@@ -237,12 +264,25 @@ impl<'a> List<'a> {
             self.push(PACKET, false, &p);
             self.mode = CONNECTED;
         }
-        for _ in 0..events {
-            if self.rng.one_in(24) {
+    }
+
+    /// Events of a connection; before one of so many comes a call that is refused.
+    fn events(&mut self, count: usize, refused: usize) {
+        for _ in 0..count {
+            if self.rng.one_in(refused) {
                 self.refused_call();
             }
             self.plain(EVENT);
         }
+    }
+
+    /// A connection and its events, refused calls among them.
+    fn connection(&mut self, events: usize) {
+        if self.rng.bit() == 0 {
+            self.set();
+        }
+        self.connect(6);
+        self.events(events, 24);
         // The next start ends the connection where no stop does.
         if self.rng.bit() == 0 {
             self.plain(STOP);
@@ -250,17 +290,21 @@ impl<'a> List<'a> {
     }
 }
 
-/// A map that marks a channel.
+/// A map that marks two channels or more.
 fn good_map(rng: &mut Rng) -> [u8; 5] {
     loop {
-        let map = map(rng);
-        if marks_any(&map) {
+        let mut map = map(rng);
+        if rng.one_in(4) {
+            map[rng.below(5)] |= 1 << rng.below(5);
+        }
+        let marks = map.iter().map(|octet| octet.count_ones()).sum::<u32>() - (map[4] & 0xE0).count_ones();
+        if marks >= 2 {
             return map;
         }
     }
 }
 
-/// Whether an advertising device takes the packet as a connect request.
+/// Whether an advertising device takes the packet as a connect request, and begins a connection.
 fn connects(p: &Packet, own: &[u8], random: u8) -> bool {
     p.crc_ok
         && p.header[0] % 16 == CONNECT_REQ
@@ -268,7 +312,7 @@ fn connects(p: &Packet, own: &[u8], random: u8) -> bool {
         && p.header[1] as usize % 64 == p.payload.len()
         && p.payload.len() >= 34
         && p.payload[6..12] == *own
-        && marks_any(&p.payload[28..33])
+        && settings::of(&p.payload).number() == 0
 }
 
 /// Up to 24 calls, with buffers that are often too small.
@@ -295,4 +339,17 @@ pub fn long(rng: &mut Rng) -> Request {
     let first = 37 + list.rng.below(4);
     let second = list.rng.below(38);
     list.request(first, second)
+}
+
+/// One connection of more than 100 events, with few calls before it and few refused ones among them, so that many of these can be made.
+pub fn connected(rng: &mut Rng) -> Request {
+    let mut list = List::new(rng);
+    if list.rng.one_in(16) {
+        list.set();
+    }
+    list.connect(3);
+    let more = if list.rng.one_in(8) { list.rng.below(8) } else { 0 };
+    list.events(101 + more, 256);
+    let second = if list.rng.bit() == 0 { 0 } else { 37 };
+    list.request(37, second)
 }

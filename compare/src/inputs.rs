@@ -114,11 +114,6 @@ pub fn map(rng: &mut Rng) -> [u8; 5] {
     map
 }
 
-/// Whether a map marks a channel: the top three bits of its last octet mark none.
-pub fn marks_any(map: &[u8]) -> bool {
-    map[..4].iter().any(|octet| *octet != 0) || map[4] & 0x1F != 0
-}
-
 /// Lengths around which a type, a header or an octet's count changes what it says.
 const LIMITS: [usize; 28] = [
     0, 1, 5, 6, 7, 8, 9, 11, 12, 13, 14, 33, 34, 35, 37, 38, 62, 63, 64, 65, 70, 98, 127, 128, 191, 192, 254, 255,

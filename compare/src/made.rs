@@ -216,6 +216,14 @@ pub fn long_lists(share: &Share, count: u64, each: Each) {
     }
 }
 
+/// Lists with one connection of more than 100 events.
+pub fn connections(share: &Share, count: u64, each: Each) {
+    let mut rng = share.rng(37);
+    for _ in 0..count.div_ceil(share.shares) {
+        each(&device::connected(&mut rng));
+    }
+}
+
 /// Each filter asked by itself for a packet's sender.
 pub fn filters(rng: &mut Rng, h: &Heard, each: Each) {
     let (random, sender) = (h.random(), h.sender());

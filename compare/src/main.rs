@@ -1,10 +1,10 @@
-//! Compares the translation with rubble, its bit stream with `stream`, the hub's reading with `padding` and a player's name with `names`; `usage.txt` says how
-//! it is called and how it ends.
+//! Compares the translation with rubble, its bit stream with `stream`, the hub's reading with `padding`, a player's name with `names` and a connect request's settings
+//! with `settings`; `usage.txt` says how it is called and how it ends.
 use compare::counts::Counts;
 use compare::made::{self, Each, Share};
 use compare::request::{brief, hex, line, Kind, Request, CALL};
 use compare::shrink::smallest;
-use compare::{names, ours, padding, stream, theirs, wide};
+use compare::{names, ours, padding, settings, stream, theirs, wide};
 use std::io::IsTerminal;
 use std::panic::{catch_unwind, AssertUnwindSafe};
 use std::process::exit;
@@ -14,10 +14,13 @@ use std::time::{Duration, Instant};
 
 const USAGE: &str = include_str!("usage.txt");
 
+/// Lists of the part `connections`: each has a connection of more than 100 events.
+const CONNECTIONS: u64 = 1_000_000;
+
 type Suite = (&'static str, fn(&Share, Each));
 
 /// The parts by their names, with the number of requests that each makes.
-const SUITES: [Suite; 16] = [
+const SUITES: [Suite; 18] = [
     ("headers", |s, e| made::all_headers(s, e)),
     ("packets", |s, e| made::packets(s, 8_000_000, e)),
     ("few-octets", |s, e| made::small_areas(s, e)),
@@ -43,11 +46,20 @@ const SUITES: [Suite; 16] = [
         wide::writers(s, 400, e);
     }),
     ("maps", |s, e| made::maps(s, 40, e)),
+    ("settings", |s, e| {
+        settings::made::limits(s, 100, e);
+        settings::made::counts(s, 4, e);
+        settings::made::products(s, 100_000, e);
+        settings::made::maps(s, 8, e);
+        settings::made::off(s, 20, e);
+        settings::made::any(s, 1_000_000, e);
+    }),
     ("lists", |s, e| {
         made::lists(s, 450_000, e);
         wide::lists(s, 50_000, e);
     }),
     ("long-lists", |s, e| made::long_lists(s, 6_000, e)),
+    ("connections", |s, e| made::connections(s, CONNECTIONS, e)),
     ("scans", |s, e| {
         made::scans(s, 2_500_000, e);
         wide::scans(s, 600_000, e);
@@ -136,6 +148,7 @@ fn answers(kind: Kind) -> &'static str {
     match kind {
         Kind::Padded => "Note 3",
         Kind::Name => "Note 4",
+        Kind::Settings => "Note 6",
         kind if kind.is_stream() => "stream",
         _ => "rubble",
     }
@@ -222,6 +235,14 @@ fn run(suite: Suite, seed: u64, shares: u64) -> Counts {
     }
     if let Some(what) = counts.without_name() {
         println!("{}: no search for a name ended so, or met this: {what}", suite.0);
+        exit(2);
+    }
+    if let Some((met, what)) = counts.without_settings() {
+        println!("{}: {met}: none is so, or is outside this range alone: {what}", suite.0);
+        exit(2);
+    }
+    if suite.0 == "connections" && counts.long() < CONNECTIONS {
+        println!("{}: {} lists with a connection of more than 100 events, not {CONNECTIONS}", suite.0, counts.long());
         exit(2);
     }
     counts

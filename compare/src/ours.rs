@@ -420,9 +420,12 @@ fn channel(c: Channel, out: &mut Vec<u8>) {
 fn calls(r: &Request, out: &mut Vec<u8>) {
     let own = array(&r.parts[0]);
     let list = &r.parts[1];
+    let (first_len, second_len) = (r.numbers[1], r.numbers[2]);
+    let fresh = (lent(first_len), lent(second_len));
+    let (mut first, mut second) = fresh.clone();
     for at in (0..list.len() / CALL).map(|i| i * CALL) {
-        let (first_len, second_len) = (r.numbers[1], r.numbers[2]);
-        let (mut first, mut second) = (lent(first_len), lent(second_len));
+        first.copy_from_slice(&fresh.0);
+        second.copy_from_slice(&fresh.1);
         let s = unsafe {
             board_call(
                 &own, r.numbers[0] == 1, list.as_ptr(), at, list[at..].as_ptr(), CALL, first.as_mut_ptr(),
@@ -432,8 +435,8 @@ fn calls(r: &Request, out: &mut Vec<u8>) {
         out.extend([s.number, s.kind, s.advertising as u8, s.connected as u8, s.channel]);
         out.extend(s.header.to_le_bytes());
         out.extend([s.at, s.access_address, s.crc_init].iter().flat_map(|n| n.to_le_bytes()));
-        out.extend(first);
-        out.extend(second);
+        out.extend(&first);
+        out.extend(&second);
     }
 }
 

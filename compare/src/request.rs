@@ -53,6 +53,8 @@ pub enum Kind {
     Map,
     /// hop, events | map: the channels of a connection's events
     Events,
+    /// | 22 octets: a connect request's settings, or why not
+    Settings,
     /// random, space | address, records: a beacon sent
     Beacon,
     /// filter in use, updates, CRC good | list, header, payload: a report
@@ -98,11 +100,11 @@ pub enum Kind {
     CrcFlag,
 }
 
-pub const KINDS: [Kind; 46] = [
+pub const KINDS: [Kind; 47] = [
     Kind::Decode, Kind::Header, Kind::SetHeader, Kind::NewHeader, Kind::Build, Kind::BuildDirected, Kind::Whitelist,
     Kind::Area, Kind::Records, Kind::Known, Kind::Write, Kind::Rewrite, Kind::Padded, Kind::Name, Kind::Flags, Kind::Utf8,
     Kind::Uuid16, Kind::Uuid32, Kind::UuidList, Kind::Later, Kind::Since, Kind::AdvertisingChannel, Kind::DataChannel, Kind::Map,
-    Kind::Events, Kind::Beacon, Kind::Scan, Kind::Scanner, Kind::ReadPdu,
+    Kind::Events, Kind::Settings, Kind::Beacon, Kind::Scan, Kind::Scanner, Kind::ReadPdu,
     Kind::ReadHeader, Kind::WriteHeader, Kind::ReadAt, Kind::WriteAt, Kind::ReadUuid, Kind::WriteUuid, Kind::MayScan,
     Kind::MayConnect, Kind::ShouldScan, Kind::NamedFlags, Kind::AllChannels, Kind::ScannerCalls, Kind::Calls,
     Kind::Whiten, Kind::Crc, Kind::CrcOctets, Kind::CrcFlag,
@@ -156,11 +158,11 @@ impl Request {
         }
     }
 
-    /// Parts whose length is fixed: addresses and maps.
+    /// Parts whose length is fixed: addresses, maps and settings.
     pub fn fixed(&self, part: usize) -> bool {
         match self.kind {
             Kind::Build | Kind::Beacon | Kind::Calls => part == 0,
-            Kind::BuildDirected | Kind::Map | Kind::Events | Kind::WriteUuid => true,
+            Kind::BuildDirected | Kind::Map | Kind::Events | Kind::Settings | Kind::WriteUuid => true,
             Kind::Whitelist | Kind::MayScan | Kind::MayConnect | Kind::ShouldScan => part == 1,
             _ => false,
         }

@@ -2,9 +2,10 @@
 mod basics;
 
 use crate::names;
-use crate::ours::{pattern, BEHIND};
+use crate::ours::{behind, pattern};
 use crate::padding::{self, Behind};
 use crate::request::{last_asked, Kind, Request, CALL};
+use crate::settings;
 use rubble::beacon::{Beacon, BeaconScanner, ScanCallback};
 use rubble::bytes::{ByteReader, ByteWriter, BytesOr, FromBytes, ToBytes};
 use rubble::config::Config;
@@ -46,7 +47,7 @@ fn got(number: u8, first: u64, second: u64, out: &mut Vec<u8>) {
 /// A lent buffer, and the octets behind it, which stay as they were.
 fn whole(buffer: &[u8], out: &mut Vec<u8>) {
     out.extend(buffer);
-    out.extend(&pattern(buffer.len() + BEHIND)[buffer.len()..]);
+    out.extend(behind(buffer.len()));
 }
 
 /// Numbers of the machine's size, all octets of each.
@@ -511,6 +512,8 @@ impl<'a> Device<'a> {
         Said { kind: 3, channel, header, ..Said::default() }
     }
 
+    /// A packet. Where rubble begins a connection on settings outside the ranges, the call is judged by document 02's Note 6: 12, and the device, made anew, goes on as if
+    /// it had not heard the request.
     fn packet(&mut self, c: &Call<'_>, buffer: &mut [u8]) -> Said {
         let advertising = self.layer.is_advertising();
         let (layer, radio) = (&mut self.layer, &mut self.radio);
@@ -533,11 +536,17 @@ impl<'a> Device<'a> {
                 next_update: NextUpdate::At(at),
                 ..
             }) => {
+                let number = settings::of(c.octets).number();
+                if number != 0 {
+                    self.again();
+                    return refused(number);
+                }
                 let channel = channel.index();
                 Said { kind: 4, channel, at: at.raw_micros(), access_address, crc_init, ..Said::default() }
             }
             Ok(other) => panic!("a packet answers {other:?}"),
             Err(n) => {
+                assert!(!advertising || settings::of(c.octets).number() == n);
                 self.again();
                 refused(n)
             }
@@ -968,6 +977,7 @@ pub fn answer(r: &Request, out: &mut Vec<u8>) {
             }
         }
         Kind::Events => events(n[0] as u8, n[1], &p[0], out),
+        Kind::Settings => settings::answer(&p[0], out),
         Kind::Beacon => beacon(r, out),
         Kind::Scan => scan(r, out),
         Kind::Scanner => {

@@ -1,6 +1,7 @@
-//! Octets, UUIDs, headers and PDUs read and written at a position, filters, and a player's name.
+//! Octets, UUIDs, headers and PDUs read and written at a position, filters, a player's name, and a connect request's settings.
 use super::{array, got, lent, packet, sizes, Got, In, Out, Packet};
 use crate::request::{Kind, Request};
+use crate::settings;
 
 #[repr(C)]
 struct Part {
@@ -24,6 +25,19 @@ struct NameSaid {
     in_reply: bool,
     start: usize,
     len: usize,
+}
+
+#[repr(C)]
+struct SettingsSaid {
+    number: u8,
+    hop: u8,
+    map: [u8; 5],
+    channels: u8,
+    interval: u16,
+    latency: u16,
+    timeout: u16,
+    win_size: u8,
+    win_offset: u16,
 }
 
 extern "C" {
@@ -63,6 +77,7 @@ extern "C" {
     fn board_discoverable_flags() -> u8;
     fn board_broadcast_flags() -> u8;
     fn board_name(advertisement: In, advertisement_len: usize, reply: In, reply_len: usize) -> NameSaid;
+    fn board_settings(octets: *const [u8; settings::OCTETS]) -> SettingsSaid;
 }
 
 fn octets<const N: usize>(read: Octets<N>, out: &mut Vec<u8>) {
@@ -138,6 +153,16 @@ fn name(advertisement: &[u8], reply: &[u8], out: &mut Vec<u8>) {
     sizes([said.start, said.len], out);
 }
 
+fn taken(octets: [u8; settings::OCTETS], out: &mut Vec<u8>) {
+    let said = unsafe { board_settings(&octets) };
+    out.extend([said.number, said.hop]);
+    out.extend(said.map);
+    out.push(said.channels);
+    out.extend([said.interval, said.latency, said.timeout].iter().flat_map(|n| n.to_le_bytes()));
+    out.push(said.win_size);
+    out.extend(said.win_offset.to_le_bytes());
+}
+
 pub fn answer(r: &Request, out: &mut Vec<u8>) {
     let n = &r.numbers;
     let p = &r.parts;
@@ -162,6 +187,7 @@ pub fn answer(r: &Request, out: &mut Vec<u8>) {
             Kind::MayConnect => got(board_may_connect(n[0] == 1, n[1] == 1, s, len, &array(&p[1]), n[2] == 1), out),
             Kind::ShouldScan => got(board_should_scan(n[0] == 1, s, len, &array(&p[1]), n[1] == 1), out),
             Kind::Name => name(&p[0], &p[1], out),
+            Kind::Settings => taken(array(&p[0]), out),
             Kind::NamedFlags => out.extend([board_discoverable_flags(), board_broadcast_flags()]),
             other => panic!("{other:?} is asked elsewhere"),
         }
