@@ -1,11 +1,11 @@
--- The ranges of a connection's settings, and what is taken, by octets: `tests`, `settles`, `alone`, `limits`. Assumes nothing.
-use mathlib.Core.Bool.{Bool, true, false, cond, _&&_, false≢true}
-use mathlib.Core.List.{List, [], _∷_, _++_, append-nil}
+-- The ranges of a connection's settings, and what is taken, by octets: `tests`, `in-time`, `settles`, `alone`, `limits`. Assumes nothing.
+use mathlib.Core.Bool.{Bool, true, false, cond, false≢true}
+use mathlib.Core.List.{List, _++_, append-nil}
 use mathlib.Core.Path.{_≡_, refl, sym, ap, subst, _∙_}
-use Prim.Native.Nat.{ℕ, _+_, _-_, _*_, _/_, _%_, _≤_, _<_, min}
+use Prim.Native.Nat.{ℕ, _+_, _-_, _*_, _/_, _%_, _≤_}
 use native.Mathlib.Nat.{mul-assoc, min-le-left, min-le-right, le-min}
 use native.Mathlib.Omega.{arith}
-use lib.Dec.{eqb, leb, ltb}
+use lib.Dec.{eqb, leb}
 use lib.ListN.{length, take, drop, replicate}
 use lib.Seq.{drop-append-add}
 use borrow.Author.Tests.{le-leb, leb-true, lt-ltb, ltb-true, eq-eqb, ne-eqb}
@@ -17,7 +17,7 @@ use Rattle.octets.specs.declared.error.Error.the-variants.{EmptyMap, OutOfRange
 use Rattle.advertising.specs.Pdu.{requestOf, isAccepted}
 use Rattle.advertising.specs.Settings.{Ranges, Times, between, inRanges, Tests, InTime, Within, leastSettings, settingsIn, refusedSettings, isWithin, takenOf, aloneOf, RangesAt, settingsAt, Taking, Settles, Alone, Limits}
 use Rattle.advertising.specs.declared.pdu.ConnectRequestData.{ConnectRequestData}
-use Rattle.advertising.specs.declared.pdu.Outcome.the-variants.{Accepted, Refused}
+use Rattle.advertising.specs.declared.pdu.Outcome.the-variants.{Accepted}
 use Rattle.advertising.specs.declared.settings.ConnectionSettings.{ConnectionSettings}
 use Rattle.advertising.specs.declared.settings.Taken.{Taken}
 

@@ -1,7 +1,7 @@
 // The settings of a connection, taken from a connect request where they are within the Core's ranges (document 02, Note 6).
 ghost use mathlib.Core.Path.{_≡_};
 ghost use Prim.Native.Nat.{_≤_};
-ghost use Rattle.advertising.specs.Settings.{between, Ranges, Within, timesInRange, windowInRange, inRanges, settingsAs, leastSettings, refusedSettings, takenOf, aloneOf};
+ghost use Rattle.advertising.specs.Settings.{between, Ranges, Within, timesInRange, windowInRange, inRanges, settingsAs, refusedSettings, takenOf, aloneOf};
 use crate::pdu::ConnectRequestData;
 use crate::pdu::Outcome;
 use crate::pdu::read_request;

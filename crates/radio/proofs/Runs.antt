@@ -25,7 +25,6 @@ use Rattle.addresses.specs.Address.{isRandom}
 use Rattle.addresses.specs.declared.device_address.DeviceAddress.{DeviceAddress}
 use Rattle.addresses.specs.declared.header.Header.{Header}
 use Rattle.addresses.specs.declared.header.PduType.the-variants.{AdvInd}
-use Rattle.advertising.specs.Pdu.{requestOf}
 use Rattle.advertising.specs.PduBuf.{headerFor, flagsRecord, payloadOf}
 use Rattle.advertising.specs.Settings.{RangesAt}
 use Rattle.advertising.specs.declared.pdu_buf.PduBuf.{PduBuf}

@@ -1,5 +1,5 @@
 -- `board_settings` meets its contract. Assumes nothing.
-use mathlib.Core.Path.{_≡_, sym, ap, _∙_}
+use mathlib.Core.Path.{sym, ap, _∙_}
 use borrow.Author.Needs.{needs}
 use Rattle.basics.specs.Settings.{saidBy, settingsSaid}
 use Rattle.basics.proofs.setting.board_settings.Statement.{statement}

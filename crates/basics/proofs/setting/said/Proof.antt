@@ -1,5 +1,5 @@
 -- `said` meets its contract, value by value. Assumes nothing.
-use mathlib.Core.Path.{_≡_, ap, _∙_}
+use mathlib.Core.Path.{ap, _∙_}
 use borrow.Author.Needs.{needs}
 use Rattle.channels.specs.declared.channel_map.ChannelMap.{ChannelMap}
 use Rattle.basics.proofs.setting.said.Statement.{statement}

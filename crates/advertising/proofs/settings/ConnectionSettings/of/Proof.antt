@@ -1,5 +1,4 @@
 -- `ConnectionSettings::of` meets its contract: the request's settings are judged as they are. Assumes nothing.
-use mathlib.Core.Bool.{true, false}
 use mathlib.Core.Path.{_≡_, sym, ap, _∙_}
 use Prim.Native.Nat.{ℕ, _/_}
 use borrow.Author.Needs.{needs}

@@ -1,7 +1,6 @@
 -- `Device::connect` meets its contract. Assumes nothing.
 use mathlib.Core.Path.{_≡_, sym, ap, _∙_}
 use borrow.Author.Needs.{needs}
-use Rattle.advertising.specs.declared.pdu.Outcome.{Outcome}
 use Rattle.advertising.specs.declared.settings.Taken.{Taken}
 use Rattle.radio.specs.Calls.{settled, connectsTo}
 use Rattle.radio.proofs.link.Device.connect.Statement.{statement}
