@@ -1,10 +1,12 @@
 //! Prints requests for `crates/replay` with rubble's answers, a line for each: first the request, then its answer. From each suite the first
-//! requests that show a refusal, a type, a builder, a kind of record, a call's answer, what stands behind an area's records or where a name lies are taken.
+//! requests that show a refusal, a type, a builder, a kind of record, a call's answer, what stands behind an area's records, where a name lies or which of a connect
+//! request's settings is outside its range are taken.
 use compare::made::{self, Share};
 use compare::names;
 use compare::ours::{pattern, BEHIND};
 use compare::padding::{self, Behind};
 use compare::request::{Kind, Request, CALL};
+use compare::settings;
 use compare::theirs;
 use std::collections::HashMap;
 
@@ -199,6 +201,20 @@ fn name(r: &Request) -> Vec<Line> {
     line('l', shows, &[&[advertisement.len() as u8], advertisement, reply], text)
 }
 
+/// A connect request's settings taken alone: the counts in the order of its fields.
+fn taken(r: &Request) -> Vec<Line> {
+    let a = rubble(r);
+    let count = |at: usize| u16::from_le_bytes([a[at], a[at + 1]]);
+    let text = match a[0] {
+        0 => format!(" {} {} {} {} {}{} {}", a[14], count(15), count(8), count(10), count(12), octets(&a[2..7]), a[1]),
+        n => format!(" refused {n}"),
+    };
+    let outside = settings::read(&r.parts[0]).outside();
+    let alone = outside.iter().filter(|is| **is).count() == 1;
+    let range = if alone { 1 + outside.iter().position(|is| *is).expect("one is") as u8 } else { 0 };
+    line('q', (a[0], range), &[&r.parts[0]], text)
+}
+
 fn scan(r: &Request) -> Vec<Line> {
     if r.numbers[0] == 1 || r.numbers[1] != 0 || r.parts[1].len() != 2 {
         return Vec::new();
@@ -267,6 +283,7 @@ fn lines(r: &Request) -> Vec<Line> {
         }
         Kind::Padded if r.numbers[0] as usize <= ROOM => padded(r),
         Kind::Name => name(r),
+        Kind::Settings => taken(r),
         Kind::Write => write(r),
         Kind::Build => build(r),
         Kind::Map => map(r),
@@ -325,6 +342,7 @@ fn main() {
         }
     });
     names::made::refusals(&share, 2, &mut |r| each(r, 24));
+    settings::made::any(&share, 4_000, &mut |r| each(r, 18));
     made::writers(&share, 2, &mut |r| each(r, 6));
     made::scans(&share, 2_000, &mut |r| each(r, 24));
     made::lists(&share, 8_000, &mut |r| each(r, 30));
