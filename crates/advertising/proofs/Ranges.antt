@@ -15,7 +15,7 @@ use Rattle.octets.proofs.Places.{both-true}
 use Rattle.octets.specs.Bytes.{part, le, outAfter}
 use Rattle.octets.specs.declared.error.Error.the-variants.{EmptyMap, OutOfRange}
 use Rattle.advertising.specs.Pdu.{requestOf, isAccepted}
-use Rattle.advertising.specs.Settings.{Ranges, Times, between, inRanges, Tests, InTime, Within, leastSettings, settingsIn, refusedSettings, isWithin, takenOf, aloneOf, RangesAt, settingsAt, Taking, Settles, Alone, Limits}
+use Rattle.advertising.specs.Settings.{Ranges, Times, between, inRanges, Tests, InTime, Within, leastSettings, settingsIn, refusedSettings, isWithin, judged, takenOf, aloneOf, RangesAt, settingsAt, Taking, Settles, Alone, Limits}
 use Rattle.advertising.specs.declared.pdu.ConnectRequestData.{ConnectRequestData}
 use Rattle.advertising.specs.declared.pdu.Outcome.the-variants.{Accepted}
 use Rattle.advertising.specs.declared.settings.ConnectionSettings.{ConnectionSettings}
@@ -132,13 +132,7 @@ least-kept =
       win-offset-most = omega arith;
     }
 
--- what settings come to
-abbrev judged : ConnectionSettings → Taken
-judged s =
-    cond (eqb (s .chm .«num_used_channels») 0) (refusedSettings EmptyMap)
-    (cond (isWithin s) (record { outcome = Accepted; settings = s }) (refusedSettings OutOfRange))
-
--- those of a request l
+-- what the settings of a request l come to
 module _ (l : ConnectRequestData) (s : ConnectionSettings) (are : s ≡ settingsIn l) where
   pub judged-is : judged s ≡ takenOf l
   unfolding takenOf
@@ -254,6 +248,7 @@ limits =
       win-size-6 = refl;
       win-offset = refl;
       order = refl;
+      octets = refl;
       taken = refl;
       not-taken = refl;
     }

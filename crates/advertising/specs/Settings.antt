@@ -6,14 +6,14 @@
 --   settingsAs ..     == settings of these values; leastSettings: the least of each range, over all channels
 --   settingsIn l      == the settings that a decoded request has, in range or not
 --   refusedSettings e == the refusal e
---   takenOf l         == what taking the settings of a decoded request comes to
+--   judged s          == what settings come to; takenOf l: those of a decoded request
 --   aloneOf o         == the same of the 22 octets of LLData
 --   numberTaken t     == its number, 0 where the settings were taken
 --   settingsAt at s   == the settings by the octets of LLData, which begin at `at`; RangesAt at s: these are within the ranges
 --   lldata ..         == LLData of given settings, for worked values; numberWith: what taking them comes to
 -- Laws, each with the theorem of proofs/Ranges.antt that proves it:
 --   Tests             tests          the test is the ranges
---   InTime            in-time        the ranges as the Core says them, in µs
+--   InTime            in-time        the ranges as the Core says them, in µs (`Times`)
 --   Settles p         settles        what is taken of a connect request's payload, and what is refused (`Taking`)
 --   Alone o           alone          the same of the 22 octets alone, and that those before them say nothing
 --   Limits            limits         worked values on both sides of each limit
@@ -118,10 +118,13 @@ abbrev pub isWithin : ConnectionSettings → Bool
 isWithin s = inRanges (s .hop) (s .chm .«num_used_channels») (s .interval) (s .latency) (s .timeout) (s .«win_size») (s .«win_offset»)
 
 -- "12, a setting outside its range .., after 6"
+abbrev pub judged : ConnectionSettings → Taken
+judged s =
+    cond (eqb (s .chm .«num_used_channels») 0) (refusedSettings EmptyMap)
+    (cond (isWithin s) (record { outcome = Accepted; settings = s }) (refusedSettings OutOfRange))
+
 unfoldable pub takenOf : ConnectRequestData → Taken
-takenOf l =
-    cond (eqb (l .chm .«num_used_channels») 0) (refusedSettings EmptyMap)
-    (cond (isWithin (settingsIn l)) (record { outcome = Accepted; settings = settingsIn l }) (refusedSettings OutOfRange))
+takenOf l = judged (settingsIn l)
 
 -- behind two addresses, whichever they are (`Alone`)
 abbrev pub aloneOf : List ℕ → Taken
@@ -130,7 +133,7 @@ aloneOf o = takenOf (requestOf (replicate 12 0 ++ o))
 abbrev pub numberTaken : Taken → ℕ
 numberTaken t = outcomeNumber (t .outcome)
 
--- the octets of LLData, which begin at `at`: the figure in specs/Pdu.antt
+-- by the places of the octets alone, as the figure in specs/Pdu.antt draws LLData, which begins at `at`
 abbrev pub settingsAt : ℕ → List ℕ → ConnectionSettings
 settingsAt at s =
     settingsAs (le (part 1 s (at + 21)) % 32) (fromRaw (part 5 s (at + 16))) (le (part 2 s (at + 10))) (le (part 2 s (at + 12))) (le (part 2 s (at + 14)))
@@ -195,7 +198,9 @@ pub record Limits : Type 0 where
   pub win-offset : map (λ (n : ℕ). numberWith 5 twoMarked 24 0 100 2 n) (0 ∷ 24 ∷ 25 ∷ 65535 ∷ []) ≡ 0 ∷ 0 ∷ 12 ∷ 12 ∷ []
   -- no channel, with another setting outside its range; all octets zero, all FF; 65,535 three times
   pub order : numberWith 0x11 noneMarked 0 0 0 0 0 ∷ numberTaken (aloneOf (replicate 22 0x00)) ∷ numberTaken (aloneOf (replicate 22 0xFF)) ∷ numberWith 5 twoMarked 65535 65535 65535 2 3 ∷ [] ≡ 6 ∷ 6 ∷ 12 ∷ 12 ∷ []
-  -- the settings themselves, and those beside a refusal
+  -- the settings themselves, by their octets, and those beside a refusal
+  pub octets : lldata 0x2A twoMarked 300 4 800 7 200
+      ≡ 0xD6 ∷ 0xBE ∷ 0x89 ∷ 0x8E ∷ 0x56 ∷ 0x34 ∷ 0x12 ∷ 0x07 ∷ 0xC8 ∷ 0x00 ∷ 0x2C ∷ 0x01 ∷ 0x04 ∷ 0x00 ∷ 0x20 ∷ 0x03 ∷ 0x01 ∷ 0x00 ∷ 0x00 ∷ 0x00 ∷ 0x10 ∷ 0x2A ∷ []
   pub taken : aloneOf (lldata 0x2A twoMarked 300 4 800 7 200)
       ≡ record {
         outcome = Accepted;

@@ -428,7 +428,7 @@ impl Device {
                     },
                 }
             }
-            // Not reached: the settings mark two channels.
+            // Not reached: the settings mark at least two channels.
             Hop::Refused(error) => self.refused(error),
         }
     }
