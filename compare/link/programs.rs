@@ -112,7 +112,7 @@ fn records(area: &[u8]) -> Option<usize> {
 
 /// hublog's log, written from documents 01 and 02 and from nothing else.
 fn log(input: &[u8]) -> Vec<u8> {
-    let (mut out, mut at, mut items, mut reports) = (Vec::new(), 0, 0, 0);
+    let (mut out, mut at, mut items, mut reports, mut ticks) = (Vec::new(), 0, 0, 0, 0);
     let is_broken = loop {
         let rest = &input[at..];
         let size = match rest {
@@ -128,10 +128,11 @@ fn log(input: &[u8]) -> Vec<u8> {
         items += 1;
         at += size;
         let item = &rest[..size];
+        ticks += (item[0] == 0) as u32;
         if item[0] == 1 && item[1] % 16 == 2 && size >= 9 {
             if let Some(count) = records(&item[9..]) {
                 reports += 1;
-                write!(out, "{items:6}{:2}", item[1] / 64 % 2).unwrap();
+                write!(out, "{items:6}{:3}{:2}", [37, 38, 39][(ticks % 3) as usize], item[1] / 64 % 2).unwrap();
                 item[3..9].iter().for_each(|octet| write!(out, "{octet:4}").unwrap());
                 writeln!(out, "{count:3}").unwrap();
             }
@@ -186,7 +187,7 @@ fn reports(count: u64) -> Vec<u8> {
 
 fn hublog_prints(t: &mut Tried, example: &[u8]) {
     let ran = t.run("hublog", example);
-    t.say("hublog: document 01's example", text(&ran.0) == "     2 1   1   2   3   4   5 198  1\n     2     1 0\n", &ran);
+    t.say("hublog: document 01's example, with its channel", text(&ran.0) == "     2 38 1   1   2   3   4   5 198  1\n     2     1 0\n", &ran);
     let ran = t.run("hublog", b"");
     t.say("hublog: no input", text(&ran.0) == "     0     0 0\n" && ran.1.is_empty(), &ran);
     let mut random = Random(1);
@@ -230,8 +231,8 @@ fn hublog_fails(t: &mut Tried, example: &str) {
     let cut = format!("{}/cut", t.scratch);
     let ran = t.shell(&format!("trap '' XFSZ; ulimit -f 16; {bin} < {many} > {cut}"));
     let (kept, whole) = (fs::read(&cut).unwrap(), t.run("hublog", &reports(20_000)).0);
-    let said = format!("hublog: writing failed at item {}: File too large\n", kept.len() / 36 + 1);
-    let is = kept.len() > 36 && kept.len() % 36 != 0 && whole.starts_with(&kept) && ran.1 == said;
+    let said = format!("hublog: writing failed at item {}: File too large\n", kept.len() / 39 + 1);
+    let is = kept.len() > 39 && kept.len() % 39 != 0 && whole.starts_with(&kept) && ran.1 == said;
     t.say("hublog: a file that may not grow, and nothing behind the failed write", is, &(kept, ran.1));
     let ran = t.shell(&format!("trap '' PIPE; {bin} < {many} | head -c 100"));
     t.say("hublog: a reader that goes away, the signal being ignored", ran.0.len() == 100 && ran.1.ends_with(": Broken pipe\n"), &ran);
@@ -263,7 +264,7 @@ fn hublog_does_not_wait(t: &mut Tried, example: &[u8]) {
     writer.write_all(example).unwrap();
     let done = Command::new(&program).stdin(reader).output().unwrap();
     let ran = (done.stdout, text(&done.stderr));
-    let is = text(&ran.0) == "     2 1   1   2   3   4   5 198  1\n" && ran.1.starts_with("hublog: reading failed after item 2: ");
+    let is = text(&ran.0) == "     2 38 1   1   2   3   4   5 198  1\n" && ran.1.starts_with("hublog: reading failed after item 2: ");
     t.say("hublog: an input that does not wait", is, &ran);
 }
 

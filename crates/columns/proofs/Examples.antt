@@ -1,10 +1,11 @@
 -- The worked values, by computation. Assumes nothing.
 use mathlib.Core.Path.{refl}
-use Rattle.columns.specs.Column.{leading, column, digits}
+use Rattle.columns.specs.Column.{leading, column, digits, readDecimal}
 use Rattle.columns.specs.Examples.{Examples}
+use Rattle.columns.specs.Row.{rowOf, readColumn, readRow}
 
 pub examples : Examples
-unfolding leading column digits
+unfolding leading column digits readDecimal rowOf readColumn readRow
 examples =
     record {
       kind = refl;
@@ -14,4 +15,8 @@ examples =
       too-long = refl;
       no-width = refl;
       ten = refl;
+      row = refl;
+      read = refl;
+      full = refl;
+      lost = refl;
     }

@@ -2,6 +2,7 @@
 use mathlib.Core.Path.{_≡_}
 use mathlib.Core.List.{[], _∷_, map}
 use Rattle.columns.specs.Column.{column, digits}
+use Rattle.columns.specs.Row.{rowOf, readColumn, readRow}
 
 pub record Examples : Type 0 where
   -- " 0", " 1"
@@ -18,3 +19,10 @@ pub record Examples : Type 0 where
   pub too-long : map (column 2) (99 ∷ 100 ∷ 123 ∷ []) ≡ (57 ∷ 57 ∷ []) ∷ (48 ∷ 48 ∷ []) ∷ (50 ∷ 51 ∷ []) ∷ []
   pub no-width : column 0 7 ≡ []
   pub ten : digits 10 1234567890 ≡ 49 ∷ 50 ∷ 51 ∷ 52 ∷ 53 ∷ 54 ∷ 55 ∷ 56 ∷ 57 ∷ 48 ∷ []
+  -- "     2 38 1" and the octet 0A
+  pub row : rowOf (6 ∷ 3 ∷ 2 ∷ []) (2 ∷ 38 ∷ 1 ∷ []) ≡ 32 ∷ 32 ∷ 32 ∷ 32 ∷ 32 ∷ 50 ∷ 32 ∷ 51 ∷ 56 ∷ 32 ∷ 49 ∷ 10 ∷ []
+  -- "  0", " 38", "100", and spaces alone
+  pub read : map readColumn ((32 ∷ 32 ∷ 48 ∷ []) ∷ (32 ∷ 51 ∷ 56 ∷ []) ∷ (49 ∷ 48 ∷ 48 ∷ []) ∷ (32 ∷ 32 ∷ 32 ∷ []) ∷ []) ≡ 0 ∷ 38 ∷ 100 ∷ 0 ∷ []
+  -- the largest numbers that two and three columns hold, which stand directly behind each other; and one more, which lose their first digits
+  pub full : readRow (2 ∷ 3 ∷ []) (rowOf (2 ∷ 3 ∷ []) (99 ∷ 999 ∷ [])) ≡ 99 ∷ 999 ∷ []
+  pub lost : readRow (2 ∷ 3 ∷ []) (rowOf (2 ∷ 3 ∷ []) (100 ∷ 1000 ∷ [])) ≡ 0 ∷ 0 ∷ []

@@ -128,7 +128,7 @@ kept-short h s = go (restOf h s) (nothing-more h s)
     go (first ∷ rest) no-items e = short (hubOf h s .items) first rest e no-items
 
 -- what many items count and print
-items-most : (n : ℕ) (s : List ℕ) → length (items n s) ≤ n
+pub items-most : (n : ℕ) (s : List ℕ) → length (items n s) ≤ n
 unfolding items
 items-most zero s = omega arith
 items-most (suc n) s =

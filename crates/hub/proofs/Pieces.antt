@@ -8,6 +8,7 @@ use lib.Seq.{drop-drop}
 use borrow.Rule.Slice.PartMut.{putMid}
 use Rattle.octets.specs.Bytes.{written}
 use Rattle.octets.proofs.Laws.{written-keeps, set-written, written-written}
+use Rattle.channels.specs.declared.phy.AdvertisingChannel.{AdvertisingChannel}
 use Rattle.addresses.specs.declared.device_address.DeviceAddress.{DeviceAddress}
 use Rattle.columns.specs.Column.{column}
 use Rattle.columns.proofs.Widths.{column-length}
@@ -20,9 +21,9 @@ unfolding flatten
 octets-length [] = refl
 octets-length (x ∷ octets) = simp (length-append, column-length, octets-length octets) (omega arith)
 
-pub line-length : (number : ℕ) (sender : DeviceAddress) (records : ℕ) → length (sender .bytes) ≡ 6 → length (reportLine number sender records) ≡ lineSize
+pub line-length : (number : ℕ) (c : AdvertisingChannel) (sender : DeviceAddress) (records : ℕ) → length (sender .bytes) ≡ 6 → length (reportLine number c sender records) ≡ lineSize
 unfolding reportLine
-line-length number sender records six = simp (length-append, column-length, octets-length, six)
+line-length number c sender records six = simp (length-append, column-length, octets-length, six)
 
 pub last-length : (h : Hub) (n : ℕ) → length (lastLine h n) ≡ lastSize
 unfolding lastLine
@@ -69,13 +70,14 @@ module _ {out₀ : List ℕ} {at : ℕ} {done out : List ℕ} {next : ℕ} (w : 
   pub then-octet : (x : ℕ) → next < length out₀ → Wrote out₀ at (done ++ (x ∷ [])) (set out next x) (next + 1)
   then-octet x more = then-piece (x ∷ []) {size = 1} refl (refl, set-written x out next (rw as-long more))
 
--- a piece and two columns behind it
-pub pair-behind : (out : List ℕ) (at : ℕ) (piece whole : List ℕ) {size : ℕ} (x : ℕ) {out₁ out₂ : List ℕ} {n₁ n₂ : ℕ} → at + (size + 2) ≤ length out → length piece ≡ size
+-- a piece and a column behind it
+pub column-behind : (out : List ℕ) (at : ℕ) (piece whole : List ℕ) {size : ℕ} (width x : ℕ) {out₁ out₂ : List ℕ} {n₁ n₂ : ℕ} → at + (size + width) ≤ length out
+    → length piece ≡ size
     → (n₁ ≡ at + size) × (out₁ ≡ written piece out at)
-    → (n₂ ≡ n₁ + 2) × (out₂ ≡ written (column 2 x) out₁ n₁)
-    → piece ++ column 2 x ≡ whole
-    → (n₂ ≡ at + (size + 2)) × (out₂ ≡ written whole out at)
-pair-behind out at piece whole x fits long e₁ e₂ is =
+    → (n₂ ≡ n₁ + width) × (out₂ ≡ written (column width x) out₁ n₁)
+    → piece ++ column width x ≡ whole
+    → (n₂ ≡ at + (size + width)) × (out₂ ≡ written whole out at)
+column-behind out at piece whole width x fits long e₁ e₂ is =
     let w₁ = then-piece (nothing-yet out at) (omega arith) piece long e₁ in
-    let w₂ = then-column w₁ (omega (arith, e₁ .0)) 2 x e₂ in
+    let w₂ = then-column w₁ (omega (arith, e₁ .0)) width x e₂ in
     (omega (arith, e₁ .0, e₂ .0), w₂ .contents ∙ ap (λ (l : List ℕ). written l out at) is)

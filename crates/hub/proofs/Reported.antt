@@ -1,21 +1,27 @@
--- What the definitions print is what document 01 says of the octets: `reported`, `continued`, `rowed`, `stopping`. Assumes nothing.
+-- What the definitions print is what documents 01 and 02 say of the octets: `reported`, `continued`, `rowed`, `added`, `stopping`. Assumes nothing.
 use mathlib.Core.Path.{_≡_, refl, sym, ap, subst, _∙_}
 use mathlib.Core.Bool.{Bool, true, false, cond, true≢false}
-use mathlib.Core.List.{List, [], _∷_, _++_, append-assoc, append-nil, flatten}
-use mathlib.Core.Logic.{⊎-elim}
+use mathlib.Core.List.{List, [], _∷_, _++_, append-assoc, append-nil, map, flatten}
+use mathlib.Core.Logic.{_⊎_, ⊎-elim}
 use Prim.Native.Nat.{ℕ, zero, suc, _+_, _-_, _*_, _/_, _%_, _<_, _≤_}
 use native.Mathlib.Omega.{arith}
-use lib.ListN.{length, take, drop}
-use lib.Seq.{drop-length}
+use lib.ListN.{length, getD, take, drop, length-append, length-take}
+use lib.Seq.{drop-length, take-at, drop-at, drop-drop}
 use lib.Dec.{leb, eqb, eqb·suc-zero}
 use borrow.Author.Tests.{eqb-true, ne-eqb, le-leb, lt-ltb, le-ltb, lt-leb}
 use Rattle.octets.specs.Bytes.{le}
-use Rattle.channels.proofs.Cycles.{cycles-add}
+use Rattle.octets.specs.Laws.{Octets}
 use Rattle.channels.specs.Laws.{cycles}
+use Rattle.channels.specs.Phy.{indexOf, cycled}
+use Rattle.channels.specs.declared.phy.AdvertisingChannel.{AdvertisingChannel}
+use Rattle.channels.specs.declared.phy.AdvertisingChannel.the-variants.{Channel37, Channel38, Channel39}
+use Rattle.records.proofs.Padded.{tiling-of, took}
+use Rattle.records.specs.Accepted.{AllGood}
 use Rattle.records.specs.Padding.{readPadded}
 use Rattle.records.specs.declared.area.PaddedArea.the-variants as padded
-use Rattle.addresses.specs.Address.{kindOf, addressOf}
+use Rattle.addresses.specs.Address.{kindOf, kindNumber, addressOf}
 use Rattle.addresses.specs.Header.{bits, headerOf, txAdd}
+use Rattle.addresses.specs.declared.device_address.DeviceAddress.{DeviceAddress}
 use Rattle.addresses.specs.declared.filter.AddressFilter.the-variants.{AllowAll}
 use Rattle.addresses.specs.declared.header.Header.{Header}
 use Rattle.beacon.proofs.Reports.{reports, holds-decoded, type-is}
@@ -25,45 +31,83 @@ use Rattle.beacon.specs.declared.beacon.BeaconScanner.{BeaconScanner}
 use Rattle.beacon.specs.declared.beacon.Report.{Report}
 use Rattle.beacon.specs.declared.beacon.Report.the-variants as report
 use Rattle.beacon.specs.declared.beacon.Scanned.{Scanned}
+use Rattle.columns.proofs.Rows.{row}
+use Rattle.columns.proofs.Widths.{column-length}
+use Rattle.columns.specs.Column.{column}
+use Rattle.columns.specs.Row.{rowOf, readRow, Fits, AllFit}
 use Rattle.items.proofs.Falling.{falls}
 use Rattle.items.proofs.Items.{cut}
 use Rattle.items.specs.Item.{items, behind, IsItem, tick, packet, AllItems}
-use Rattle.hub.specs.Line.{reportLine, line, reportsIn}
+use Rattle.hub.specs.Line.{reportLine, line, reportsIn, lineSize}
 use Rattle.hub.specs.Log.{mostItems, start, isCrcGood, heardIn, scannerAfter, after, printed, afterAll, printedAll, leftOver, lastLine, fresh, itemsFor, logOf, isStuck}
 use Rattle.hub.specs.Reported as spec
-use Rattle.hub.specs.Reported.{reportRow, IsReported, Prints, Lines, TickCount, Reported, Continued, Rowed, Stopping}
+use Rattle.hub.specs.Reported.{reportWidths, lastWidths, lineEach, IsReported, Prints, TickCount, Rows, Reported, Continued, Rowed, Added, Stopping}
 use Rattle.hub.specs.declared.Hub.{Hub}
-use Rattle.hub.proofs.AnyReads.{counted}
+use Rattle.hub.proofs.AnyReads.{counted, items-most, turning}
 use Rattle.hub.proofs.Reports.{is-beacon}
 
 pub rowed : (h : Hub) (n : ℕ) → Rowed h n
-unfolding reportLine lastLine flatten
+unfolding reportLine lastLine flatten rowOf
 rowed h n =
     record {
-      public = λ k a b c d e f. simp (append-assoc, append-nil);
-      random = λ k a b c d e f. simp (append-assoc, append-nil);
+      public = λ k on a b c d e f. simp (append-assoc, append-nil);
+      random = λ k on a b c d e f. simp (append-assoc, append-nil);
       none-over = refl;
       some-over = rw (eqb·suc-zero n) refl;
+      last-fits = λ counts flag low. (omega (arith, counts .0), (omega (arith, counts .0, counts .1), (omega arith, tt)));
+    }
+
+pub added : (k : ℕ) (c : AdvertisingChannel) (sender : DeviceAddress) (n : ℕ) → Added k c sender n
+unfolding reportLine
+added k c sender n =
+    let behind-it : List ℕ = column 2 (kindNumber (sender .kind)) ++ (flatten (map (column 4) (sender .bytes)) ++ (column 3 n ++ (10 ∷ []))) in
+    let rest : List ℕ = column 3 (indexOf c) ++ behind-it in
+    let six : drop 6 (reportLine k c sender n) ≡ rest = drop-at (column 6 k) rest 6 (column-length 6 k) in
+    let nine : drop 9 (reportLine k c sender n) ≡ behind-it =
+    sym (drop-drop 3 6 (reportLine k c sender n)) ∙ ap (drop 3) six ∙ drop-at (column 3 (indexOf c)) behind-it 3 (column-length 3 (indexOf c)) in
+    record {
+      channel = ap (take 3) six ∙ take-at (column 3 (indexOf c)) behind-it 3 (column-length 3 (indexOf c));
+      nothing-else = rw (take-at (column 6 k) rest 6 (column-length 6 k), nine) refl;
     }
 
 -- a header's bit 6 as the kind of an address
-line-is : (k bit a b c d e f n : ℕ) → bit < 2 → reportLine k (addressOf (a ∷ b ∷ c ∷ d ∷ e ∷ f ∷ []) (kindOf (eqb bit 1))) n ≡ reportRow k bit a b c d e f n
-line-is k zero a b c d e f n low = rowed fresh n .public k a b c d e f
-line-is k (suc zero) a b c d e f n low = rowed fresh n .random k a b c d e f
-line-is k (suc (suc bit)) a b c d e f n low = absurd (omega arith)
+line-is : (k : ℕ) (on : AdvertisingChannel) (bit a b c d e f n : ℕ) → bit < 2
+    → reportLine k on (addressOf (a ∷ b ∷ c ∷ d ∷ e ∷ f ∷ []) (kindOf (eqb bit 1))) n ≡ rowOf reportWidths (k ∷ indexOf on ∷ bit ∷ a ∷ b ∷ c ∷ d ∷ e ∷ f ∷ n ∷ [])
+line-is k on zero a b c d e f n low = rowed fresh n .public k on a b c d e f
+line-is k on (suc zero) a b c d e f n low = rowed fresh n .random k on a b c d e f
+line-is k on (suc (suc bit)) a b c d e f n low = absurd (omega arith)
+
+-- an item prints a line for each of its rows
+record Printed (k channel : ℕ) (item line : List ℕ) (count : ℕ) : Type 0 where
+  rows : List (List ℕ)
+  prints : Prints k channel item rows
+  lines : line ≡ lineEach rows
+  number : count ≡ length rows
 
 -- a packet that is reported prints its line
-beacon-prints : (k first h0 h1 : ℕ) (p : List ℕ) (n taken : ℕ) → 6 ≤ length p → first ≡ 1 → IsReported h0 h1 p → readPadded (drop 6 p) ≡ padded.Accepted n taken
-    → Prints k (first ∷ h0 ∷ h1 ∷ p) (reportLine k (addressOf (take 6 p) (kindOf (txAdd (headerOf (h0 + 256 * h1))))) n) 1
-beacon-prints k first h0 h1 [] n taken long crc is good = absurd (omega arith)
-beacon-prints k first h0 h1 (a ∷ []) n taken long crc is good = absurd (omega arith)
-beacon-prints k first h0 h1 (a ∷ b ∷ []) n taken long crc is good = absurd (omega arith)
-beacon-prints k first h0 h1 (a ∷ b ∷ c ∷ []) n taken long crc is good = absurd (omega arith)
-beacon-prints k first h0 h1 (a ∷ b ∷ c ∷ d ∷ []) n taken long crc is good = absurd (omega arith)
-beacon-prints k first h0 h1 (a ∷ b ∷ c ∷ d ∷ e ∷ []) n taken long crc is good = absurd (omega arith)
-beacon-prints k first h0 h1 (a ∷ b ∷ c ∷ d ∷ e ∷ f ∷ records) n taken long crc is good =
+beacon-prints : (k : ℕ) (on : AdvertisingChannel) (first h0 h1 : ℕ) (p : List ℕ) (n taken : ℕ) → 6 ≤ length p → first ≡ 1 → IsReported h0 h1 p
+    → readPadded (drop 6 p) ≡ padded.Accepted n taken
+    → Printed k (indexOf on) (first ∷ h0 ∷ h1 ∷ p) (reportLine k on (addressOf (take 6 p) (kindOf (txAdd (headerOf (h0 + 256 * h1))))) n) 1
+unfolding flatten
+beacon-prints k on first h0 h1 [] n taken long crc is good = absurd (omega arith)
+beacon-prints k on first h0 h1 (a ∷ []) n taken long crc is good = absurd (omega arith)
+beacon-prints k on first h0 h1 (a ∷ b ∷ []) n taken long crc is good = absurd (omega arith)
+beacon-prints k on first h0 h1 (a ∷ b ∷ c ∷ []) n taken long crc is good = absurd (omega arith)
+beacon-prints k on first h0 h1 (a ∷ b ∷ c ∷ d ∷ []) n taken long crc is good = absurd (omega arith)
+beacon-prints k on first h0 h1 (a ∷ b ∷ c ∷ d ∷ e ∷ []) n taken long crc is good = absurd (omega arith)
+beacon-prints k on first h0 h1 (a ∷ b ∷ c ∷ d ∷ e ∷ f ∷ records) n taken long crc is good =
     let bit : bits 6 1 (headerOf (h0 + 256 * h1)) ≡ h0 / 64 % 2 = omega arith in
-    rw (crc, bit, line-is k (h0 / 64 % 2) a b c d e f n (omega arith)) (spec.report h0 h1 a b c d e f records n taken is good)
+    record {
+      rows = (k ∷ indexOf on ∷ (h0 / 64 % 2) ∷ a ∷ b ∷ c ∷ d ∷ e ∷ f ∷ n ∷ []) ∷ [];
+      prints = rw crc (spec.report h0 h1 a b c d e f records n taken is good);
+      lines = rw (bit, line-is k on (h0 / 64 % 2) a b c d e f n (omega arith)) (sym (append-nil _));
+      number = refl;
+    }
+
+-- any other item prints nothing
+prints-none : (k channel : ℕ) (item : List ℕ) → ((h0 h1 : ℕ) (payload : List ℕ) → item ≡ 0x01 ∷ h0 ∷ h1 ∷ payload → IsReported h0 h1 payload → ⊥) → Printed k channel item [] 0
+unfolding flatten
+prints-none k channel item not-one = record { rows = []; prints = spec.other item not-one; lines = refl; number = refl }
 
 -- a scanner that lets all senders pass, and a packet
 module _ (s : BeaconScanner) (all-pass : s .filter .scan ≡ AllowAll) (k first h0 h1 : ℕ) (p : List ℕ) where
@@ -95,28 +139,36 @@ module _ (s : BeaconScanner) (all-pass : s .filter .scan ≡ AllowAll) (k first 
       let said : heard .report ≡ report.Beacon = reported-is good (record { type-2 = rw low (is .type-2); decoding = rw (low, high, payload) (is .decoding) }) in
       true≢false (sym (ap isReport said) ∙ e)
 
-  prints : Prints k (first ∷ h0 ∷ h1 ∷ p) (line k heard) (reportsIn heard)
+  -- the channel is the scanner's own
+  same-channel : heard .report ≡ report.Beacon → heard .channel ≡ s .channel
+  unfolding heard header
+  same-channel e = ap (λ (x : Scanned). x .channel) (reports s header p (isCrcGood first) [] .complete (reports s header p (isCrcGood first) [] .sound e))
+
+  prints : Printed k (indexOf (s .channel)) (first ∷ h0 ∷ h1 ∷ p) (line k heard) (reportsIn heard)
   unfolding line reportsIn heard header
   prints = go (isReport (heard .report)) refl
     where
-      go : (b : Bool) → isReport (heard .report) ≡ b → Prints k (first ∷ h0 ∷ h1 ∷ p) (line k heard) (reportsIn heard)
+      go : (b : Bool) → isReport (heard .report) ≡ b → Printed k (indexOf (s .channel)) (first ∷ h0 ∷ h1 ∷ p) (line k heard) (reportsIn heard)
       go true is-one =
           let e = is-beacon (heard .report) is-one in
           let said = reports s header p (isCrcGood first) [] in
           let is = is-reported e in
           let long : 6 ≤ length p = omega (arith, holds-decoded header p (type-is (bits 0 4 header) (said .sound e .type-2)) (said .sound e .decoding) .size) in
-          rw (is-one, said .sender e) (beacon-prints k first h0 h1 p (heard .«adv_data» .count) (heard .taken) long (is .0) (is .1) (said .number-of-records e))
-      go false e = rw e (spec.other (first ∷ h0 ∷ h1 ∷ p) (not-reported e))
+          rw (is-one, said .sender e, same-channel e)
+          (beacon-prints k (s .channel) first h0 h1 p (heard .«adv_data» .count) (heard .taken) long (is .0) (is .1) (said .number-of-records e))
+      go false e = rw e (prints-none k (indexOf (s .channel)) (first ∷ h0 ∷ h1 ∷ p) (not-reported e))
 
 -- any item
-item-prints : (s : BeaconScanner) → s .filter .scan ≡ AllowAll → (k : ℕ) (item : List ℕ) → Prints k item (line k (heardIn s item)) (reportsIn (heardIn s item))
+item-prints : (s : BeaconScanner) → s .filter .scan ≡ AllowAll → (k : ℕ) (item : List ℕ)
+    → Printed k (indexOf (s .channel)) item (line k (heardIn s item)) (reportsIn (heardIn s item))
 unfolding line reportsIn heardIn heard header
-item-prints s all-pass k [] = spec.other [] (λ h0 h1 p same is. absurd (omega (arith, ap length same)))
-item-prints s all-pass k (a ∷ []) = spec.other (a ∷ []) (λ h0 h1 p same is. absurd (omega (arith, ap length same)))
-item-prints s all-pass k (a ∷ b ∷ []) = spec.other (a ∷ b ∷ []) (λ h0 h1 p same is. absurd (omega (arith, ap length same)))
+item-prints s all-pass k [] = prints-none k _ [] (λ h0 h1 p same is. absurd (omega (arith, ap length same)))
+item-prints s all-pass k (a ∷ []) = prints-none k _ (a ∷ []) (λ h0 h1 p same is. absurd (omega (arith, ap length same)))
+item-prints s all-pass k (a ∷ b ∷ []) = prints-none k _ (a ∷ b ∷ []) (λ h0 h1 p same is. absurd (omega (arith, ap length same)))
 item-prints s all-pass k (first ∷ h0 ∷ h1 ∷ p) =
     let number : le (h0 ∷ h1 ∷ []) ≡ h0 + 256 * h1 = omega arith in
-    subst (λ (x : ℕ). Prints k (first ∷ h0 ∷ h1 ∷ p) (line k (scanned s (headerOf x) p (isCrcGood first) [])) (reportsIn (scanned s (headerOf x) p (isCrcGood first) [])))
+    subst
+    (λ (x : ℕ). Printed k (indexOf (s .channel)) (first ∷ h0 ∷ h1 ∷ p) (line k (scanned s (headerOf x) p (isCrcGood first) [])) (reportsIn (scanned s (headerOf x) p (isCrcGood first) [])))
     (sym number) (prints s all-pass k first h0 h1 p)
 
 -- the filter stays
@@ -129,61 +181,166 @@ still-all s (first ∷ rest) all-pass = go (eqb first 0)
     go true = all-pass
     go false = all-pass
 
--- many items
-record Told (h : Hub) (its : List (List ℕ)) : Type 0 where
-  number : ℕ
-  lines : Lines (h .items + 1) its (printedAll h its) number
-  sum : afterAll h its .reports ≡ h .reports + number
-  all-pass : afterAll h its .scanner .filter .scan ≡ AllowAll
+-- one more item behind others
+tick-behind : {its : List (List ℕ)} {n : ℕ} → TickCount its n → TickCount (its ++ ((0x00 ∷ []) ∷ [])) (1 + n)
+tick-behind spec.no-items = spec.tick [] 0 spec.no-items
+tick-behind (spec.tick its n count) = spec.tick _ (1 + n) (tick-behind count)
+tick-behind (spec.packet first rest its n which count) = spec.packet first rest _ (1 + n) which (tick-behind count)
 
-told : (h : Hub) (its : List (List ℕ)) → h .scanner .filter .scan ≡ AllowAll → Told h its
-unfolding afterAll printedAll after printed
-told h [] all-pass = record { number = 0; lines = spec.end (h .items + 1); sum = omega arith; all-pass = all-pass }
-told h (item ∷ its) all-pass =
-    let later = told (after h item) its (still-all (h .scanner) item all-pass) in
+packet-behind : {its : List (List ℕ)} {n : ℕ} (first : ℕ) (rest : List ℕ) → (first ≡ 1) ⊎ (first ≡ 2) → TickCount its n → TickCount (its ++ ((first ∷ rest) ∷ [])) n
+packet-behind first rest which spec.no-items = spec.packet first rest [] 0 which spec.no-items
+packet-behind first rest which (spec.tick its n count) = spec.tick _ n (packet-behind first rest which count)
+packet-behind first rest which (spec.packet first′ rest′ its n which′ count) = spec.packet first′ rest′ _ n which′ (packet-behind first rest which count)
+
+-- a scanner that began on a channel and has heard items since: each tick moved it on
+record Heard (from : AdvertisingChannel) (before : List (List ℕ)) (s : BeaconScanner) : Type 0 where
+  ticks : ℕ
+  ticked : TickCount before ticks
+  channel : s .channel ≡ cycles ticks from
+
+heard-more : (from : AdvertisingChannel) (before : List (List ℕ)) (s : BeaconScanner) (item : List ℕ) → IsItem item → Heard from before s
+    → Heard from (before ++ (item ∷ [])) (scannerAfter s item)
+unfolding scannerAfter cycles
+heard-more from before s item tick heard =
+    let one-more : 1 + heard .ticks ≡ suc (heard .ticks) = omega arith in
+    record { ticks = 1 + heard .ticks; ticked = tick-behind (heard .ticked); channel = rw one-more (ap cycled (heard .channel)) }
+heard-more from before s item (packet first h0 h1 payload which long) heard =
+    let some : first ≡ 0 → ⊥ = λ none-there. ⊎-elim (λ good. omega arith) (λ bad. omega arith) which in
     record {
-      number = reportsIn (heardIn (h .scanner) item) + later .number;
-      lines = spec.next (h .items + 1) item its (printed h item) (printedAll (after h item) its) (reportsIn (heardIn (h .scanner) item)) (later .number)
-          (item-prints (h .scanner) all-pass (h .items + 1) item) (later .lines);
-      sum = later .sum ∙ omega arith;
-      all-pass = later .all-pass;
+      ticks = heard .ticks;
+      ticked = packet-behind first (h0 ∷ h1 ∷ payload) which (heard .ticked);
+      channel = rw (ne-eqb first 0 some) (heard .channel);
     }
 
--- a scanner after items moves on with each tick
-record Moved (h : Hub) (its : List (List ℕ)) : Type 0 where
-  ticks : ℕ
-  ticked : TickCount its ticks
-  channel : afterAll h its .scanner .channel ≡ cycles ticks (h .scanner .channel)
+-- many items, behind others
+record Told (k : ℕ) (from : AdvertisingChannel) (before : List (List ℕ)) (h : Hub) (its : List (List ℕ)) : Type 0 where
+  rows : List (List ℕ)
+  printed-rows : Rows k from before its rows
+  lines : printedAll h its ≡ lineEach rows
+  sum : afterAll h its .reports ≡ h .reports + length rows
+  all-pass : afterAll h its .scanner .filter .scan ≡ AllowAll
+  heard-all : Heard from (before ++ its) (afterAll h its .scanner)
 
-moved : (h : Hub) (its : List (List ℕ)) → AllItems its → Moved h its
-unfolding afterAll after scannerAfter cycles
-moved h [] all = record { ticks = 0; ticked = spec.no-items; channel = refl }
-moved h (item ∷ its) all = go item (all .0) (moved (after h item) its (all .1))
-  where
-    go : (item : List ℕ) → IsItem item → Moved (after h item) its → Moved h (item ∷ its)
-    go item tick later =
-        record { ticks = 1 + later .ticks; ticked = spec.tick its (later .ticks) (later .ticked); channel = later .channel ∙ sym (cycles-add 1 (later .ticks) (h .scanner .channel)) }
-    go item (packet first h0 h1 payload which long) later =
-        let some : first ≡ 0 → ⊥ = λ none-there. ⊎-elim (λ good. omega arith) (λ bad. omega arith) which in
-        record {
-          ticks = later .ticks;
-          ticked = spec.packet first (h0 ∷ h1 ∷ payload) its (later .ticks) which (later .ticked);
-          channel = later .channel ∙ rw (ne-eqb first 0 some) refl;
-        }
+each-line : (a b : List (List ℕ)) → lineEach (a ++ b) ≡ lineEach a ++ lineEach b
+unfolding flatten
+each-line [] b = refl
+each-line (row ∷ a) b = rw (each-line a b) (sym (append-assoc (rowOf reportWidths row) (lineEach a) (lineEach b)))
+
+told : (k : ℕ) (from : AdvertisingChannel) (before : List (List ℕ)) (h : Hub) (its : List (List ℕ)) → h .items ≡ k + length before → Heard from before (h .scanner)
+    → h .scanner .filter .scan ≡ AllowAll → AllItems its → Told k from before h its
+unfolding afterAll printedAll after printed flatten
+told k from before h [] number heard all-pass all =
+    record {
+      rows = [];
+      printed-rows = spec.end before;
+      lines = refl;
+      sum = omega arith;
+      all-pass = all-pass;
+      heard-all = subst (λ (l : List (List ℕ)). Heard from l (h .scanner)) (sym (append-nil before)) heard;
+    }
+told k from before h (item ∷ its) number heard all-pass all =
+    let one = item-prints (h .scanner) all-pass (h .items + 1) item in
+    let next : after h item .items ≡ k + length (before ++ (item ∷ [])) = rw length-append (omega (arith, number)) in
+    let later = told k from (before ++ (item ∷ [])) (after h item) its next (heard-more from before (h .scanner) item (all .0) heard) (still-all (h .scanner) item all-pass) (all .1) in
+    let prints-it : Prints (k + length before + 1) (indexOf (cycles (heard .ticks) from)) item (one .rows) =
+    rw (← number, ← heard .channel) (one .prints) in
+    record {
+      rows = one .rows ++ later .rows;
+      printed-rows = spec.next before item its (one .rows) (later .rows) (heard .ticks) (heard .ticked) prints-it (later .printed-rows);
+      lines = rw (one .lines, later .lines) (sym (each-line (one .rows) (later .rows)));
+      sum = rw length-append (omega (arith, later .sum, one .number));
+      all-pass = later .all-pass;
+      heard-all = subst (λ (l : List (List ℕ)). Heard from l (afterAll (after h item) its .scanner)) (append-assoc before (item ∷ []) its) (later .heard-all);
+    }
+
+-- octets of items
+octets-parts : (a b : List ℕ) → Octets (a ++ b) → Octets a × Octets b
+octets-parts [] b all = (tt, all)
+octets-parts (x ∷ a) b all = let parts = octets-parts a b (all .1) in ((all .0, parts .0), parts .1)
+
+-- an item has at most 66 octets
+item-size : (item : List ℕ) → IsItem item → length item ≤ 66
+item-size item tick = omega arith
+item-size item (packet first h0 h1 payload which long) = omega (arith, long)
+
+-- good records have two octets at least
+good-size : (rs : List (List ℕ)) → AllGood rs → 2 * length rs ≤ length (flatten rs)
+unfolding flatten
+good-size [] all = omega arith
+good-size ([] ∷ rs) all = absurd all
+good-size ((n ∷ body) ∷ rs) all = rw length-append (omega (arith, all .0 .whole, all .0 .some, good-size rs (all .1)))
+
+records-few : (records : List ℕ) (n taken : ℕ) → readPadded records ≡ padded.Accepted n taken → 2 * n ≤ length records
+records-few records n taken is =
+    let some = took records n taken is [] in
+    let tiles = tiling-of (take taken records) (some .strictly) in
+    omega (arith, good-size (tiles .pieces) (tiles .good), tiles .count, ap length (tiles .tile), length-take taken records)
+
+index-small : (c : AdvertisingChannel) → indexOf c ≤ 39
+index-small Channel37 = omega arith
+index-small Channel38 = omega arith
+index-small Channel39 = omega arith
+
+all-fit : (a b : List (List ℕ)) → AllFit reportWidths a → AllFit reportWidths b → AllFit reportWidths (a ++ b)
+all-fit [] b fit more = more
+all-fit (row ∷ a) b fit more = (fit .0, all-fit a b (fit .1) more)
+
+item-fits : (k channel : ℕ) (item : List ℕ) (rows : List (List ℕ)) → Prints k channel item rows → k ≤ mostItems → channel ≤ 39 → length item ≤ 66 → Octets item → AllFit reportWidths rows
+item-fits k channel item rows (spec.report h0 h1 a b c d e f records n taken is read) number index size octets =
+    let few : 2 * n ≤ length records = records-few records n taken read in
+    let sender = octets .1 .1 .1 in
+    ((omega arith, (omega arith, (omega arith, (omega (arith, sender .0), (omega (arith, sender .1 .0), (omega (arith, sender .1 .1 .0), (omega (arith, sender .1 .1 .1 .0), (omega (arith, sender .1 .1 .1 .1 .0), (omega (arith, sender .1 .1 .1 .1 .1 .0), (omega (arith, few, size), tt)))))))))), tt)
+item-fits k channel item rows (spec.other item′ not-one) number index size octets = tt
+
+rows-fit : {k : ℕ} {from : AdvertisingChannel} {before its rows : List (List ℕ)} → Rows k from before its rows → k + length before + length its ≤ mostItems → AllItems its → Octets (flatten its)
+    → AllFit reportWidths rows
+unfolding flatten
+rows-fit (spec.end before) few all octets = tt
+rows-fit {k = k} {from = from} (spec.next before item its rows more ticks count prints later) few all octets =
+    let parts = octets-parts item (flatten its) octets in
+    let here = item-fits (k + length before + 1) (indexOf (cycles ticks from)) item rows prints (omega arith) (index-small (cycles ticks from)) (item-size item (all .0)) (parts .0) in
+    all-fit rows more here (rows-fit later (rw length-append (omega arith)) (all .1) (parts .1))
+
+-- lines are read again, one behind the other
+lines-read : (rows : List (List ℕ)) (rest : List ℕ) → AllFit reportWidths rows → (i : ℕ) → i < length rows
+    → readRow reportWidths (drop (lineSize * i) (lineEach rows ++ rest)) ≡ getD rows i []
+unfolding flatten
+lines-read [] rest fit i inside = absurd (omega arith)
+lines-read (r ∷ rows) rest fit zero inside = rw append-assoc (row reportWidths r .back (fit .0) (lineEach rows ++ rest))
+lines-read (r ∷ rows) rest fit (suc i) inside =
+    let far : lineSize + lineSize * i ≡ lineSize * suc i = omega arith in
+    rw (append-assoc, ← far, ← drop-drop (lineSize * i) lineSize, drop-at (rowOf reportWidths r) (lineEach rows ++ rest) lineSize (row reportWidths r .size (fit .0)))
+    (lines-read rows rest (fit .1) i (omega arith))
+
+lines-size : (rows : List (List ℕ)) → AllFit reportWidths rows → length (lineEach rows) ≡ lineSize * length rows
+unfolding flatten
+lines-size [] fit = refl
+lines-size (r ∷ rows) fit = rw (length-append, row reportWidths r .size (fit .0), lines-size rows (fit .1)) (omega arith)
+
+nothing-heard : (s : BeaconScanner) → Heard (s .channel) [] s
+unfolding cycles
+nothing-heard s = record { ticks = 0; ticked = spec.no-items; channel = refl }
+
+-- the items of octets are octets
+octets-in : (n : ℕ) (s : List ℕ) → Octets s → Octets (flatten (items n s))
+octets-in n s octets = octets-parts (flatten (items n s)) (behind (items n s) s) (rw (cut n s .tiles) octets) .0
 
 pub continued : (h : Hub) (s : List ℕ) (passing : h .scanner .filter .scan ≡ AllowAll) → Continued h s passing
 continued h s passing =
-    let all = told h (itemsFor h s) passing in
-    let scanning = moved h (itemsFor h s) (falls (mostItems - h .items) s .each) in
+    let its : List (List ℕ) = itemsFor h s in
+    let are : AllItems its = falls (mostItems - h .items) s .each in
+    let all = told (h .items) (h .scanner .channel) [] h its (omega arith) (nothing-heard (h .scanner)) passing are in
     record {
-      reports = all .number;
+      rows = all .rows;
+      printed = all .printed-rows;
       lines = all .lines;
-      item-count = counted h (itemsFor h s);
+      fit = λ counts octets. rows-fit (all .printed-rows) (omega (arith, counts .0, items-most (mostItems - h .items) s)) are (octets-in (mostItems - h .items) s octets);
+      item-count = counted h its;
       report-count = all .sum;
       all-pass = all .all-pass;
-      ticks = scanning .ticks;
-      ticked = scanning .ticked;
-      channel = scanning .channel;
+      ticks = all .heard-all .ticks;
+      ticked = all .heard-all .ticked;
+      channel = all .heard-all .channel;
     }
 
 pub stopping : (count first : ℕ) (rest : List ℕ) → Stopping count first rest
@@ -220,19 +377,39 @@ some-over its s tiles some = go (behind its s) tiles
     go [] e = absurd (some (sym (append-nil (flatten its)) ∙ e))
     go (x ∷ rest) e = rw (eqb·suc-zero (length rest)) refl
 
+over-one : (n : ℕ) → leftOver n ≤ 1
+over-one zero = omega arith
+over-one (suc n) = rw (eqb·suc-zero n) (omega arith)
+
+last-is : (h : Hub) (n : ℕ) → lastLine h n ≡ rowOf lastWidths (h .items ∷ h .reports ∷ leftOver n ∷ [])
+unfolding lastLine rowOf
+last-is h n = refl
+
 pub reported : (s : List ℕ) → Reported s
-unfolding logOf lastLine
+unfolding logOf
 reported s =
     let its : List (List ℕ) = items mostItems s in
-    let all = told fresh its refl in
-    let size : afterAll fresh its .items ≡ length its = counted fresh its ∙ omega arith in
-    let sum : afterAll fresh its .reports ≡ all .number = all .sum ∙ omega arith in
+    let all = continued fresh s refl in
+    let flag : ℕ = leftOver (length (behind its s)) in
+    let end : Hub = afterAll fresh its in
+    let size : end .items ≡ length its = all .item-count ∙ omega arith in
+    let sum : end .reports ≡ length (all .rows) = all .report-count ∙ omega arith in
+    let last : List ℕ = rowOf lastWidths (length its ∷ length (all .rows) ∷ flag ∷ []) in
+    let log : logOf s ≡ lineEach (all .rows) ++ last = rw (all .lines, last-is end (length (behind its s)), size, sum) refl in
+    let fit : Octets s → AllFit reportWidths (all .rows) = all .fit (omega arith, omega arith) in
+    let last-fits : Fits lastWidths (length its ∷ length (all .rows) ∷ flag ∷ []) =
+    rw (size, sum) at (rowed end 0 .last-fits (turning fresh s .counted (omega arith, omega arith)) flag (over-one (length (behind its s)))) in
     record {
-      lines = printedAll fresh its;
-      reports = all .number;
-      flag = leftOver (length (behind its s));
-      printed = all .lines;
-      log = rw (size, sum) refl;
+      rows = all .rows;
+      flag = flag;
+      printed = all .printed;
+      log = log;
       all-read = none-over its s;
       stopped = some-over its s (cut mostItems s .tiles);
+      fit = fit;
+      last-fits = last-fits;
+      read = λ octets i inside. rw log (lines-read (all .rows) last (fit octets) i inside);
+      last-read = λ octets.
+          rw (log, drop-at (lineEach (all .rows)) last (lineSize * length (all .rows)) (lines-size (all .rows) (fit octets)), ← append-nil last)
+          (row lastWidths (length its ∷ length (all .rows) ∷ flag ∷ []) .back last-fits []);
     }

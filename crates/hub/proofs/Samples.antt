@@ -1,6 +1,6 @@
 -- Document 01's sample holds of the definitions: `sample`. Assumes nothing.
-use mathlib.Core.Path.{_≡_, refl, ap, _∙_}
-use mathlib.Core.List.{List, [], _∷_, _++_, flatten, append-assoc}
+use mathlib.Core.Path.{_≡_, refl, sym, ap, _∙_}
+use mathlib.Core.List.{List, [], _∷_, _++_, flatten, append-assoc, append-nil}
 use mathlib.Core.Logic.{inl, inr}
 use Prim.Native.Nat.{ℕ, suc, _+_, _-_}
 use native.Mathlib.Omega.{arith}
@@ -17,7 +17,7 @@ use Rattle.records.specs.Padding.{beforeZero, unpadded, isZeros, endedBy, readP
 use Rattle.records.specs.Record.{named, first, flagsRead, dataRead, upTo, recordRead}
 use Rattle.hub.specs.Line.{reportLine, line, reportsIn}
 use Rattle.hub.specs.Log.{mostItems, heardIn, scannerAfter, after, printed, afterAll, printedAll, lastLine, logOf}
-use Rattle.hub.specs.Sample.{beacon, badBeacon, paddedBeacon, unendedBeacon, longPacket, sixItems, Sample}
+use Rattle.hub.specs.Sample.{beacon, badBeacon, paddedBeacon, unendedBeacon, longPacket, shortBeacon, sixItems, turnItems, Sample}
 
 -- step by step: computing `items` would unfold it 999,999 times
 both : items mostItems (0x00 ∷ beacon) ≡ (0x00 ∷ []) ∷ beacon ∷ []
@@ -72,6 +72,21 @@ each-found (item ∷ its) n rest all =
     let one-more : length (item ∷ its) + n ≡ suc (length its + n) = omega arith in
     rw (one-more, append-assoc) (falls (length its + n) [] .found item (flatten its ++ rest) (all .0) ∙ ap (λ (l : List (List ℕ)). item ∷ l) (each-found its n rest (all .1)))
 
+turned : items mostItems (flatten turnItems) ≡ turnItems
+unfolding sizeOf wholeSize
+turned =
+    ap (items mostItems) (sym (append-nil (flatten turnItems)))
+    ∙ each-found turnItems (mostItems - 11) []
+    (packet _ _ _ _ (inl refl) refl, (tick, (packet _ _ _ _ (inl refl) refl, (tick, (packet _ _ _ _ (inr refl) refl, (tick, (packet _ _ _ _ (inl refl) refl, (packet _ _ _ _ (inl refl) refl, (tick, (tick, (packet _ _ _ _ (inl refl) refl, tt)))))))))))
+    ∙ ap (λ (l : List (List ℕ)). turnItems ++ l) (none-whole (mostItems - 11) [] refl)
+
+shortest : items mostItems (flatten (shortBeacon ∷ shortBeacon ∷ [])) ≡ shortBeacon ∷ shortBeacon ∷ []
+unfolding sizeOf wholeSize
+shortest =
+    ap (items mostItems) (sym (append-nil (flatten (shortBeacon ∷ shortBeacon ∷ []))))
+    ∙ each-found (shortBeacon ∷ shortBeacon ∷ []) (mostItems - 2) [] (packet _ _ _ _ (inl refl) refl, (packet _ _ _ _ (inl refl) refl, tt))
+    ∙ ap (λ (l : List (List ℕ)). shortBeacon ∷ shortBeacon ∷ l) (none-whole (mostItems - 2) [] refl)
+
 six : items mostItems (flatten sixItems ++ (0x03 ∷ [])) ≡ sixItems
 unfolding sizeOf wholeSize
 six =
@@ -93,4 +108,6 @@ sample =
       broken = rw broken-item;
       cut-short = rw cut-item;
       six-items = rw six;
+      turns = rw turned;
+      all-room = rw shortest;
     }

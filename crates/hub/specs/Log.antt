@@ -1,4 +1,4 @@
--- What the hub prints (document 01, hublog).
+-- What the hub prints (document 01, hublog; document 02, Note 7).
 --   mostItems                   == how many items count
 --   start                       == the time of every call: the input has ticks and no times
 --   isCrcGood first             == a packet that begins so is CRC-good
@@ -8,7 +8,7 @@
 --   afterAll h its, printedAll h its        == the same of many items
 --   lastLine h n                == the last line, where n octets are left over
 --   fresh                       == a hub that has heard nothing
---   logOf s                     == THE LOG of the input s; specs/Reported says what is in it, in document 01's words
+--   logOf s                     == THE LOG of the input s; specs/Reported says what is in it, in the papers' words
 --   itemsFor, linesOf, hubOf, restOf h s    == of octets s that a hub h takes in: the whole items, their lines, the hub after them, what is left over
 --   isStuck n s                 == after n items, no octets that follow s make an item of it
 --   turnOf h s                  == what taking in s answers
@@ -21,6 +21,7 @@ use lib.ListN.{length, take, drop}
 use lib.Dec.{leb, ltb, eqb}
 use Rattle.octets.specs.Bytes.{le}
 use Rattle.octets.specs.declared.time.Instant.{Instant}
+use Rattle.channels.specs.declared.phy.AdvertisingChannel.{AdvertisingChannel}
 use Rattle.addresses.specs.Header.{headerOf}
 use Rattle.addresses.specs.declared.device_address.DeviceAddress.{DeviceAddress}
 use Rattle.addresses.specs.declared.filter.AddressFilter.the-variants.{AllowAll}
@@ -153,5 +154,5 @@ linesAfter h buf filled out = cond (isReady h filled (length buf) (length out)) 
 
 -- Lines are as long as their columns and the octet 0A.
 pub record Sizes : Type 0 where
-  pub report : (number : ℕ) (sender : DeviceAddress) (records : ℕ) → length (sender .bytes) ≡ 6 → length (reportLine number sender records) ≡ lineSize
+  pub report : (number : ℕ) (c : AdvertisingChannel) (sender : DeviceAddress) (records : ℕ) → length (sender .bytes) ≡ 6 → length (reportLine number c sender records) ≡ lineSize
   pub last : (h : Hub) (n : ℕ) → length (lastLine h n) ≡ lastSize

@@ -1,65 +1,69 @@
--- The log in document 01's words, by the octets of the items and without the scanner.
---   reportRow k kind a .. f n   == a report's line
---   lastRow count reports flag  == the last line
+-- The log in the words of document 01 and of document 02's Note 7, by the octets of the items and without the scanner.
+--   reportWidths, lastWidths    == the columns of a report's line, and of the last line
+--   lineEach rows               == a report's line of the numbers in each row
 --   IsReported h0 h1 payload    == a CRC-good packet with this header and payload is reported
---   Prints k item line n        == what item number k prints, and how many reports that is
---   Lines k its lines n         == the same of items that are numbered from k on
+--   Prints k c item rows        == what item number k prints, heard on channel c: a row of numbers, or none
 --   TickCount its n             == n of the items are ticks
+--   Rows k c before its rows    == what items print, each with its number and its channel by the items before it
 --   Reported s                  == the log of the input s (Reported.reported)
 --   Continued h s passing       == the lines and counts of octets s that a hub h takes in which lets all senders pass (Reported.continued)
 --   Rowed h n                   == the lines by themselves, whatever their numbers (Reported.rowed)
+--   bareLine k sender n         == a report's line as document 01 has it, without the channel
+--   Added k c sender n          == where the channel stands in a report's line, and that nothing else changes (Reported.added)
 --   Stopping count first rest   == which octets left over stop reading (Reported.stopping)
 use mathlib.Core.Path.{_≡_}
 use mathlib.Core.Logic.{_⊎_}
 use mathlib.Core.Bool.{true, false}
-use mathlib.Core.List.{List, [], _∷_, _++_, flatten}
+use mathlib.Core.List.{List, [], _∷_, _++_, map, flatten}
 use Prim.Native.Nat.{ℕ, suc, _+_, _*_, _/_, _%_, _<_, _≤_}
-use lib.ListN.{length}
+use lib.ListN.{length, getD, take, drop}
+use Rattle.octets.specs.Bytes.{part}
+use Rattle.octets.specs.Laws.{Octets}
 use Rattle.channels.specs.Laws.{cycles}
+use Rattle.channels.specs.Phy.{indexOf}
+use Rattle.channels.specs.declared.phy.AdvertisingChannel.{AdvertisingChannel}
+use Rattle.channels.specs.declared.phy.AdvertisingChannel.the-variants.{Channel37}
 use Rattle.records.specs.Padding.{readPadded}
 use Rattle.records.specs.declared.area.PaddedArea.the-variants as padded
-use Rattle.addresses.specs.Address.{addressOf}
+use Rattle.addresses.specs.Address.{addressOf, kindNumber}
 use Rattle.addresses.specs.Header.{headerOf}
 use Rattle.addresses.specs.declared.device_address.AddressKind.the-variants.{Public, Random}
+use Rattle.addresses.specs.declared.device_address.DeviceAddress.{DeviceAddress}
 use Rattle.addresses.specs.declared.filter.AddressFilter.the-variants.{AllowAll}
 use Rattle.advertising.specs.Pdu.{heardOf}
 use Rattle.advertising.specs.declared.pdu.Outcome.the-variants as outcome
 use Rattle.columns.specs.Column.{column}
+use Rattle.columns.specs.Row.{rowOf, readRow, Fits, AllFit}
 use Rattle.items.specs.Item.{items}
-use Rattle.hub.specs.Line.{reportLine}
-use Rattle.hub.specs.Log.{mostItems, itemsFor, linesOf, hubOf, lastLine, logOf, isStuck}
+use Rattle.hub.specs.Line.{reportLine, lineSize}
+use Rattle.hub.specs.Log.{mostItems, itemsFor, linesOf, hubOf, lastLine, logOf, isStuck, RunCounts}
 use Rattle.hub.specs.declared.Hub.{Hub}
 
--- "A report prints item number (6 columns, from 1), kind (2), six octets in order (4 each), records (3)"
-abbrev pub reportRow : ℕ → ℕ → ℕ → ℕ → ℕ → ℕ → ℕ → ℕ → ℕ → List ℕ
-reportRow k kind a b c d e f n =
-    column 6 k
-    ++ (column 2 kind ++ (column 4 a ++ (column 4 b ++ (column 4 c ++ (column 4 d ++ (column 4 e ++ (column 4 f ++ (column 3 n ++ (10 ∷ [])))))))))
+-- "A report prints item number (6 columns, from 1), kind (2), six octets in order (4 each), records (3)", and the channel, "3 columns right-justified,
+-- after the item number"
+abbrev pub reportWidths : List ℕ
+reportWidths = 6 ∷ 3 ∷ 2 ∷ 4 ∷ 4 ∷ 4 ∷ 4 ∷ 4 ∷ 4 ∷ 3 ∷ []
 
 -- "The last line has whole items (6), reports (6)", and the flag (2)
-abbrev pub lastRow : ℕ → ℕ → ℕ → List ℕ
-lastRow count reports flag = column 6 count ++ (column 6 reports ++ (column 2 flag ++ (10 ∷ [])))
+abbrev pub lastWidths : List ℕ
+lastWidths = 6 ∷ 6 ∷ 2 ∷ []
+
+abbrev pub lineEach : List (List ℕ) → List ℕ
+lineEach rows = flatten (map (rowOf reportWidths) rows)
 
 -- "CRC, type 2, decoding": the type is the header's bits 0 to 3, decoding the hub's, and all senders pass
 pub record IsReported (h0 h1 : ℕ) (payload : List ℕ) : Type 0 where
   pub type-2 : h0 % 16 ≡ 2
   pub decoding : heardOf (headerOf (h0 + 256 * h1)) payload .outcome ≡ outcome.Accepted
 
-pub data Prints (k : ℕ) : List ℕ → List ℕ → ℕ → Type 0 where
+pub data Prints (k channel : ℕ) : List ℕ → List (List ℕ) → Type 0 where
   -- the kind is TxAdd, bit 6 of the header; the records are those before the padding, which is not printed
   report : (h0 h1 a b c d e f : ℕ) (records : List ℕ) (n taken : ℕ)
       → IsReported h0 h1 (a ∷ b ∷ c ∷ d ∷ e ∷ f ∷ records)
       → readPadded records ≡ padded.Accepted n taken
-      → Prints k (0x01 ∷ h0 ∷ h1 ∷ a ∷ b ∷ c ∷ d ∷ e ∷ f ∷ records) (reportRow k (h0 / 64 % 2) a b c d e f n) 1
+      → Prints k channel (0x01 ∷ h0 ∷ h1 ∷ a ∷ b ∷ c ∷ d ∷ e ∷ f ∷ records) ((k ∷ channel ∷ (h0 / 64 % 2) ∷ a ∷ b ∷ c ∷ d ∷ e ∷ f ∷ n ∷ []) ∷ [])
   -- every other item prints nothing
-  other : (item : List ℕ) → ((h0 h1 : ℕ) (payload : List ℕ) → item ≡ 0x01 ∷ h0 ∷ h1 ∷ payload → IsReported h0 h1 payload → ⊥) → Prints k item [] 0
-
-pub data Lines : ℕ → List (List ℕ) → List ℕ → ℕ → Type 0 where
-  end : (k : ℕ) → Lines k [] [] 0
-  next : (k : ℕ) (item : List ℕ) (its : List (List ℕ)) (line lines : List ℕ) (n more : ℕ)
-      → Prints k item line n
-      → Lines (k + 1) its lines more
-      → Lines k (item ∷ its) (line ++ lines) (n + more)
+  other : (item : List ℕ) → ((h0 h1 : ℕ) (payload : List ℕ) → item ≡ 0x01 ∷ h0 ∷ h1 ∷ payload → IsReported h0 h1 payload → ⊥) → Prints k channel item []
 
 -- "00 is a tick"; a packet begins with 01 or 02
 pub data TickCount : List (List ℕ) → ℕ → Type 0 where
@@ -67,23 +71,40 @@ pub data TickCount : List (List ℕ) → ℕ → Type 0 where
   tick : (its : List (List ℕ)) (n : ℕ) → TickCount its n → TickCount ((0x00 ∷ []) ∷ its) (1 + n)
   packet : (first : ℕ) (rest : List ℕ) (its : List (List ℕ)) (n : ℕ) → (first ≡ 0x01) ⊎ (first ≡ 0x02) → TickCount its n → TickCount ((first ∷ rest) ∷ its) n
 
+-- A hub that had counted k items and listened on channel c has heard the items `before` since. The next one has the number behind theirs, and the channel
+-- that the cycle gives after as many steps from c as there are ticks among them, heard or not ("readers worked out the channel by counting ticks").
+pub data Rows (k : ℕ) (c : AdvertisingChannel) : List (List ℕ) → List (List ℕ) → List (List ℕ) → Type 0 where
+  end : (before : List (List ℕ)) → Rows k c before [] []
+  next : (before : List (List ℕ)) (item : List ℕ) (its rows more : List (List ℕ)) (ticks : ℕ)
+      → TickCount before ticks
+      → Prints (k + length before + 1) (indexOf (cycles ticks c)) item rows
+      → Rows k c (before ++ (item ∷ [])) its more
+      → Rows k c before (item ∷ its) (rows ++ more)
+
 -- A line for each report, in order, and the last line, with "0, or 1 where reading stopped at a broken item (another first octet, or cut short) or
 -- beyond 999,999": where the items are not all the octets. Which octets are items is the law `Falls` of items.
 pub record Reported (s : List ℕ) : Type 0 where
-  pub lines : List ℕ
-  pub reports : ℕ
+  pub rows : List (List ℕ)
   pub flag : ℕ
-  pub printed : Lines 1 (items mostItems s) lines reports
-  pub log : logOf s ≡ lines ++ lastRow (length (items mostItems s)) reports flag
+  pub printed : Rows 0 Channel37 [] (items mostItems s) rows
+  pub log : logOf s ≡ lineEach rows ++ rowOf lastWidths (length (items mostItems s) ∷ length rows ∷ flag ∷ [])
   pub all-read : flatten (items mostItems s) ≡ s → flag ≡ 0
   pub stopped : (flatten (items mostItems s) ≡ s → ⊥) → flag ≡ 1
+  -- every number fits its column
+  pub fit : Octets s → AllFit reportWidths rows
+  pub last-fits : Fits lastWidths (length (items mostItems s) ∷ length rows ∷ flag ∷ [])
+  -- so no digit is lost: line i of the log, cut into its columns, reads as row i, and the last line as its three numbers
+  pub read : Octets s → (i : ℕ) → i < length rows → readRow reportWidths (drop (lineSize * i) (logOf s)) ≡ getD rows i []
+  pub last-read : Octets s → readRow lastWidths (drop (lineSize * length rows) (logOf s)) ≡ length (items mostItems s) ∷ length rows ∷ flag ∷ []
 
--- A hub that lets all senders pass goes on from its counts, and still does.
+-- A hub that lets all senders pass goes on from its counts and its channel, and still does.
 pub record Continued (h : Hub) (s : List ℕ) (passing : h .scanner .filter .scan ≡ AllowAll) : Type 0 where
-  pub reports : ℕ
-  pub lines : Lines (h .items + 1) (itemsFor h s) (linesOf h s) reports
+  pub rows : List (List ℕ)
+  pub printed : Rows (h .items) (h .scanner .channel) [] (itemsFor h s) rows
+  pub lines : linesOf h s ≡ lineEach rows
+  pub fit : RunCounts h → Octets s → AllFit reportWidths rows
   pub item-count : hubOf h s .items ≡ h .items + length (itemsFor h s)
-  pub report-count : hubOf h s .reports ≡ h .reports + reports
+  pub report-count : hubOf h s .reports ≡ h .reports + length rows
   pub all-pass : hubOf h s .scanner .filter .scan ≡ AllowAll
   -- each tick moves the scanner on, and nothing else does
   pub ticks : ℕ
@@ -92,10 +113,23 @@ pub record Continued (h : Hub) (s : List ℕ) (passing : h .scanner .filter .sca
 
 -- kind 0 is public and 1 random; the flag is 0 where no octets are left over
 pub record Rowed (h : Hub) (n : ℕ) : Type 0 where
-  pub public : (k a b c d e f : ℕ) → reportLine k (addressOf (a ∷ b ∷ c ∷ d ∷ e ∷ f ∷ []) Public) n ≡ reportRow k 0 a b c d e f n
-  pub random : (k a b c d e f : ℕ) → reportLine k (addressOf (a ∷ b ∷ c ∷ d ∷ e ∷ f ∷ []) Random) n ≡ reportRow k 1 a b c d e f n
-  pub none-over : lastLine h 0 ≡ lastRow (h .items) (h .reports) 0
-  pub some-over : lastLine h (suc n) ≡ lastRow (h .items) (h .reports) 1
+  pub public : (k : ℕ) (on : AdvertisingChannel) (a b c d e f : ℕ)
+      → reportLine k on (addressOf (a ∷ b ∷ c ∷ d ∷ e ∷ f ∷ []) Public) n ≡ rowOf reportWidths (k ∷ indexOf on ∷ 0 ∷ a ∷ b ∷ c ∷ d ∷ e ∷ f ∷ n ∷ [])
+  pub random : (k : ℕ) (on : AdvertisingChannel) (a b c d e f : ℕ)
+      → reportLine k on (addressOf (a ∷ b ∷ c ∷ d ∷ e ∷ f ∷ []) Random) n ≡ rowOf reportWidths (k ∷ indexOf on ∷ 1 ∷ a ∷ b ∷ c ∷ d ∷ e ∷ f ∷ n ∷ [])
+  pub none-over : lastLine h 0 ≡ rowOf lastWidths (h .items ∷ h .reports ∷ 0 ∷ [])
+  pub some-over : lastLine h (suc n) ≡ rowOf lastWidths (h .items ∷ h .reports ∷ 1 ∷ [])
+  -- and the numbers of the last line fit where the hub counts as a run does
+  pub last-fits : RunCounts h → (flag : ℕ) → flag ≤ 1 → Fits lastWidths (h .items ∷ h .reports ∷ flag ∷ [])
+
+-- document 01: "A report prints item number (6 columns, from 1), kind (2), six octets in order (4 each), records (3)"
+abbrev pub bareLine : ℕ → DeviceAddress → ℕ → List ℕ
+bareLine k sender n = column 6 k ++ (column 2 (kindNumber (sender .kind)) ++ (flatten (map (column 4) (sender .bytes)) ++ (column 3 n ++ (10 ∷ []))))
+
+-- Note 7: "Print it, 3 columns right-justified, after the item number. .. Nothing else in a line changes."
+pub record Added (k : ℕ) (c : AdvertisingChannel) (sender : DeviceAddress) (n : ℕ) : Type 0 where
+  pub channel : part 3 (reportLine k c sender n) 6 ≡ column 3 (indexOf c)
+  pub nothing-else : take 6 (reportLine k c sender n) ++ drop 9 (reportLine k c sender n) ≡ bareLine k sender n
 
 -- Reading stops, whatever follows, "beyond 999,999" and at "another first octet"; an item that is cut short may still be made whole.
 pub record Stopping (count first : ℕ) (rest : List ℕ) : Type 0 where

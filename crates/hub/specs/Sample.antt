@@ -1,10 +1,11 @@
--- Document 01's sample of hublog, an empty input, and inputs that the sample leaves open (`Samples.sample`); as many items as count, and one more
+-- Document 01's sample of hublog with the channel of document 02's Note 7, an empty input, and inputs that the sample leaves open (`Samples.sample`); as many items as count, and one more
 -- (`Ticks.limit`).
 use mathlib.Core.Path.{_≡_}
 use mathlib.Core.List.{List, [], _∷_, _++_, flatten}
-use Prim.Native.Nat.{ℕ}
-use lib.ListN.{replicate}
+use Prim.Native.Nat.{ℕ, _+_}
+use lib.ListN.{length, replicate}
 use Rattle.advertising.specs.Laws.{nine}
+use Rattle.hub.specs.Line.{lastSize, roomFor}
 use Rattle.hub.specs.Log.{logOf}
 
 -- 42 09 and its nine octets, CRC-good
@@ -34,22 +35,42 @@ oneItem = 32 ∷ 32 ∷ 32 ∷ 32 ∷ 32 ∷ 49 ∷ 32 ∷ 32 ∷ 32 ∷ 32 ∷ 
 abbrev pub brokenAtOnce : List ℕ
 brokenAtOnce = 32 ∷ 32 ∷ 32 ∷ 32 ∷ 32 ∷ 48 ∷ 32 ∷ 32 ∷ 32 ∷ 32 ∷ 32 ∷ 48 ∷ 32 ∷ 49 ∷ 10 ∷ []
 
+-- a beacon without records
+abbrev pub shortBeacon : List ℕ
+shortBeacon = 0x01 ∷ 0x42 ∷ 0x06 ∷ 0x0A ∷ 0x0B ∷ 0x0C ∷ 0x0D ∷ 0x0E ∷ 0xCF ∷ []
+
 -- a tick, a CRC-bad packet, a beacon without records, one with two, a packet of type 0, and a beacon of a public sender
 abbrev pub sixItems : List (List ℕ)
 sixItems =
     (0x00 ∷ [])
     ∷ badBeacon
-    ∷ (0x01 ∷ 0x42 ∷ 0x06 ∷ 0x0A ∷ 0x0B ∷ 0x0C ∷ 0x0D ∷ 0x0E ∷ 0xCF ∷ [])
+    ∷ shortBeacon
     ∷ (0x01 ∷ 0x42 ∷ 0x0C ∷ (nine ++ (0x02 ∷ 0x0A ∷ 0x04 ∷ [])))
     ∷ (0x01 ∷ 0x40 ∷ 0x06 ∷ 0x0A ∷ 0x0B ∷ 0x0C ∷ 0x0D ∷ 0x0E ∷ 0xCF ∷ [])
     ∷ (0x01 ∷ 0x02 ∷ 0x09 ∷ nine)
     ∷ []
 
+-- five beacons, and ticks before the second, the third and the last
+abbrev pub turnItems : List (List ℕ)
+turnItems =
+    beacon
+    ∷ (0x00 ∷ [])
+    ∷ beacon
+    ∷ (0x00 ∷ [])
+    ∷ badBeacon
+    ∷ (0x00 ∷ [])
+    ∷ beacon
+    ∷ beacon
+    ∷ (0x00 ∷ [])
+    ∷ (0x00 ∷ [])
+    ∷ beacon
+    ∷ []
+
 pub record Sample : Type 0 where
-  -- a tick and that packet print "     2 1   1   2   3   4   5 198  1" and "     2     1 0"
+  -- a tick and that packet print "     2 38 1   1   2   3   4   5 198  1" and "     2     1 0"
   pub sample :
       logOf (0x00 ∷ beacon)
-      ≡ 32 ∷ 32 ∷ 32 ∷ 32 ∷ 32 ∷ 50 ∷ 32 ∷ 49
+      ≡ 32 ∷ 32 ∷ 32 ∷ 32 ∷ 32 ∷ 50 ∷ 32 ∷ 51 ∷ 56 ∷ 32 ∷ 49
       ∷ 32 ∷ 32 ∷ 32 ∷ 49 ∷ 32 ∷ 32 ∷ 32 ∷ 50 ∷ 32 ∷ 32 ∷ 32 ∷ 51 ∷ 32 ∷ 32 ∷ 32 ∷ 52 ∷ 32 ∷ 32 ∷ 32 ∷ 53 ∷ 32 ∷ 49 ∷ 57 ∷ 56
       ∷ 32 ∷ 32 ∷ 49 ∷ 10
       ∷ 32 ∷ 32 ∷ 32 ∷ 32 ∷ 32 ∷ 50 ∷ 32 ∷ 32 ∷ 32 ∷ 32 ∷ 32 ∷ 49 ∷ 32 ∷ 48 ∷ 10 ∷ []
@@ -57,10 +78,10 @@ pub record Sample : Type 0 where
   pub empty : logOf [] ≡ 32 ∷ 32 ∷ 32 ∷ 32 ∷ 32 ∷ 48 ∷ 32 ∷ 32 ∷ 32 ∷ 32 ∷ 32 ∷ 48 ∷ 32 ∷ 48 ∷ 10 ∷ []
   -- a CRC-bad packet is an item and no report
   pub crc-bad : logOf badBeacon ≡ oneItem
-  -- zeros behind the record: "     1 1   1   2   3   4   5 198  1" and "     1     1 0"; an octet among them that is not zero: no report
+  -- zeros behind the record: "     1 37 1   1   2   3   4   5 198  1" and "     1     1 0"; an octet among them that is not zero: no report
   pub zeros :
       logOf paddedBeacon
-      ≡ 32 ∷ 32 ∷ 32 ∷ 32 ∷ 32 ∷ 49 ∷ 32 ∷ 49
+      ≡ 32 ∷ 32 ∷ 32 ∷ 32 ∷ 32 ∷ 49 ∷ 32 ∷ 51 ∷ 55 ∷ 32 ∷ 49
       ∷ 32 ∷ 32 ∷ 32 ∷ 49 ∷ 32 ∷ 32 ∷ 32 ∷ 50 ∷ 32 ∷ 32 ∷ 32 ∷ 51 ∷ 32 ∷ 32 ∷ 32 ∷ 52 ∷ 32 ∷ 32 ∷ 32 ∷ 53 ∷ 32 ∷ 49 ∷ 57 ∷ 56
       ∷ 32 ∷ 32 ∷ 49 ∷ 10
       ∷ 32 ∷ 32 ∷ 32 ∷ 32 ∷ 32 ∷ 49 ∷ 32 ∷ 32 ∷ 32 ∷ 32 ∷ 32 ∷ 49 ∷ 32 ∷ 48 ∷ 10 ∷ []
@@ -71,14 +92,26 @@ pub record Sample : Type 0 where
   -- another first octet, and an item that is cut short
   pub broken : logOf (0x03 ∷ []) ≡ brokenAtOnce
   pub cut-short : logOf (0x01 ∷ 0x42 ∷ []) ≡ brokenAtOnce
-  -- six items, of which the third, the fourth and the sixth are reported, and an octet that begins none: "     3 1  10  11  12  13  14 207  0",
-  -- "     4 1   1   2   3   4   5 198  2", "     6 0   1   2   3   4   5 198  1" and "     6     3 1"
+  -- six items, of which the third, the fourth and the sixth are reported, and an octet that begins none: "     3 38 1  10  11  12  13  14 207  0",
+  -- "     4 38 1   1   2   3   4   5 198  2", "     6 38 0   1   2   3   4   5 198  1" and "     6     3 1"
   pub six-items :
       logOf (flatten sixItems ++ (0x03 ∷ []))
-      ≡ 32 ∷ 32 ∷ 32 ∷ 32 ∷ 32 ∷ 51 ∷ 32 ∷ 49 ∷ 32 ∷ 32 ∷ 49 ∷ 48 ∷ 32 ∷ 32 ∷ 49 ∷ 49 ∷ 32 ∷ 32 ∷ 49 ∷ 50 ∷ 32 ∷ 32 ∷ 49 ∷ 51 ∷ 32 ∷ 32 ∷ 49 ∷ 52 ∷ 32 ∷ 50 ∷ 48 ∷ 55 ∷ 32 ∷ 32 ∷ 48 ∷ 10
-      ∷ 32 ∷ 32 ∷ 32 ∷ 32 ∷ 32 ∷ 52 ∷ 32 ∷ 49 ∷ 32 ∷ 32 ∷ 32 ∷ 49 ∷ 32 ∷ 32 ∷ 32 ∷ 50 ∷ 32 ∷ 32 ∷ 32 ∷ 51 ∷ 32 ∷ 32 ∷ 32 ∷ 52 ∷ 32 ∷ 32 ∷ 32 ∷ 53 ∷ 32 ∷ 49 ∷ 57 ∷ 56 ∷ 32 ∷ 32 ∷ 50 ∷ 10
-      ∷ 32 ∷ 32 ∷ 32 ∷ 32 ∷ 32 ∷ 54 ∷ 32 ∷ 48 ∷ 32 ∷ 32 ∷ 32 ∷ 49 ∷ 32 ∷ 32 ∷ 32 ∷ 50 ∷ 32 ∷ 32 ∷ 32 ∷ 51 ∷ 32 ∷ 32 ∷ 32 ∷ 52 ∷ 32 ∷ 32 ∷ 32 ∷ 53 ∷ 32 ∷ 49 ∷ 57 ∷ 56 ∷ 32 ∷ 32 ∷ 49 ∷ 10
+      ≡ 32 ∷ 32 ∷ 32 ∷ 32 ∷ 32 ∷ 51 ∷ 32 ∷ 51 ∷ 56 ∷ 32 ∷ 49 ∷ 32 ∷ 32 ∷ 49 ∷ 48 ∷ 32 ∷ 32 ∷ 49 ∷ 49 ∷ 32 ∷ 32 ∷ 49 ∷ 50 ∷ 32 ∷ 32 ∷ 49 ∷ 51 ∷ 32 ∷ 32 ∷ 49 ∷ 52 ∷ 32 ∷ 50 ∷ 48 ∷ 55 ∷ 32 ∷ 32 ∷ 48 ∷ 10
+      ∷ 32 ∷ 32 ∷ 32 ∷ 32 ∷ 32 ∷ 52 ∷ 32 ∷ 51 ∷ 56 ∷ 32 ∷ 49 ∷ 32 ∷ 32 ∷ 32 ∷ 49 ∷ 32 ∷ 32 ∷ 32 ∷ 50 ∷ 32 ∷ 32 ∷ 32 ∷ 51 ∷ 32 ∷ 32 ∷ 32 ∷ 52 ∷ 32 ∷ 32 ∷ 32 ∷ 53 ∷ 32 ∷ 49 ∷ 57 ∷ 56 ∷ 32 ∷ 32 ∷ 50 ∷ 10
+      ∷ 32 ∷ 32 ∷ 32 ∷ 32 ∷ 32 ∷ 54 ∷ 32 ∷ 51 ∷ 56 ∷ 32 ∷ 48 ∷ 32 ∷ 32 ∷ 32 ∷ 49 ∷ 32 ∷ 32 ∷ 32 ∷ 50 ∷ 32 ∷ 32 ∷ 32 ∷ 51 ∷ 32 ∷ 32 ∷ 32 ∷ 52 ∷ 32 ∷ 32 ∷ 32 ∷ 53 ∷ 32 ∷ 49 ∷ 57 ∷ 56 ∷ 32 ∷ 32 ∷ 49 ∷ 10
       ∷ 32 ∷ 32 ∷ 32 ∷ 32 ∷ 32 ∷ 54 ∷ 32 ∷ 32 ∷ 32 ∷ 32 ∷ 32 ∷ 51 ∷ 32 ∷ 49 ∷ 10 ∷ []
+  -- the channel (Note 7): 37 before any tick, 38, 37 after two ticks between which a packet was heard and not reported, 37 still, and 39 after two ticks
+  -- between which nothing was heard: "     1 37 1   1   2   3   4   5 198  1", "     3 38 1 ..", "     7 37 1 ..", "     8 37 1 ..", "    11 39 1 .." and "    11     5 0"
+  pub turns :
+      logOf (flatten turnItems)
+      ≡ 32 ∷ 32 ∷ 32 ∷ 32 ∷ 32 ∷ 49 ∷ 32 ∷ 51 ∷ 55 ∷ 32 ∷ 49 ∷ 32 ∷ 32 ∷ 32 ∷ 49 ∷ 32 ∷ 32 ∷ 32 ∷ 50 ∷ 32 ∷ 32 ∷ 32 ∷ 51 ∷ 32 ∷ 32 ∷ 32 ∷ 52 ∷ 32 ∷ 32 ∷ 32 ∷ 53 ∷ 32 ∷ 49 ∷ 57 ∷ 56 ∷ 32 ∷ 32 ∷ 49 ∷ 10
+      ∷ 32 ∷ 32 ∷ 32 ∷ 32 ∷ 32 ∷ 51 ∷ 32 ∷ 51 ∷ 56 ∷ 32 ∷ 49 ∷ 32 ∷ 32 ∷ 32 ∷ 49 ∷ 32 ∷ 32 ∷ 32 ∷ 50 ∷ 32 ∷ 32 ∷ 32 ∷ 51 ∷ 32 ∷ 32 ∷ 32 ∷ 52 ∷ 32 ∷ 32 ∷ 32 ∷ 53 ∷ 32 ∷ 49 ∷ 57 ∷ 56 ∷ 32 ∷ 32 ∷ 49 ∷ 10
+      ∷ 32 ∷ 32 ∷ 32 ∷ 32 ∷ 32 ∷ 55 ∷ 32 ∷ 51 ∷ 55 ∷ 32 ∷ 49 ∷ 32 ∷ 32 ∷ 32 ∷ 49 ∷ 32 ∷ 32 ∷ 32 ∷ 50 ∷ 32 ∷ 32 ∷ 32 ∷ 51 ∷ 32 ∷ 32 ∷ 32 ∷ 52 ∷ 32 ∷ 32 ∷ 32 ∷ 53 ∷ 32 ∷ 49 ∷ 57 ∷ 56 ∷ 32 ∷ 32 ∷ 49 ∷ 10
+      ∷ 32 ∷ 32 ∷ 32 ∷ 32 ∷ 32 ∷ 56 ∷ 32 ∷ 51 ∷ 55 ∷ 32 ∷ 49 ∷ 32 ∷ 32 ∷ 32 ∷ 49 ∷ 32 ∷ 32 ∷ 32 ∷ 50 ∷ 32 ∷ 32 ∷ 32 ∷ 51 ∷ 32 ∷ 32 ∷ 32 ∷ 52 ∷ 32 ∷ 32 ∷ 32 ∷ 53 ∷ 32 ∷ 49 ∷ 57 ∷ 56 ∷ 32 ∷ 32 ∷ 49 ∷ 10
+      ∷ 32 ∷ 32 ∷ 32 ∷ 32 ∷ 49 ∷ 49 ∷ 32 ∷ 51 ∷ 57 ∷ 32 ∷ 49 ∷ 32 ∷ 32 ∷ 32 ∷ 49 ∷ 32 ∷ 32 ∷ 32 ∷ 50 ∷ 32 ∷ 32 ∷ 32 ∷ 51 ∷ 32 ∷ 32 ∷ 32 ∷ 52 ∷ 32 ∷ 32 ∷ 32 ∷ 53 ∷ 32 ∷ 49 ∷ 57 ∷ 56 ∷ 32 ∷ 32 ∷ 49 ∷ 10
+      ∷ 32 ∷ 32 ∷ 32 ∷ 32 ∷ 49 ∷ 49 ∷ 32 ∷ 32 ∷ 32 ∷ 32 ∷ 32 ∷ 53 ∷ 32 ∷ 48 ∷ 10 ∷ []
+  -- two items of the shortest kind have lines for which there is just room
+  pub all-room : length (logOf (flatten (shortBeacon ∷ shortBeacon ∷ []))) ≡ roomFor 18 + lastSize
 
 -- "beyond 999,999": so many ticks are all counted; of one more, the last is left over
 pub record Limit (ticks : ℕ) : Type 0 where

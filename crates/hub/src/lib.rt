@@ -4,6 +4,7 @@ ghost use mathlib.Core.List.{_++_, map, flatten};
 ghost use Prim.Native.Nat.{_+_, _-_, _*_, _≤_};
 ghost use lib.ListN.{length, take, drop};
 ghost use Rattle.octets.specs.Bytes.{written};
+ghost use Rattle.channels.specs.Phy.{indexOf};
 ghost use Rattle.addresses.specs.Address.{kindNumber};
 ghost use Rattle.columns.specs.Column.{leading, column};
 ghost use Rattle.columns.specs.Table.{octetColumns};
@@ -15,17 +16,18 @@ use addresses::header::HeaderMade;
 use beacon::beacon::BeaconScanner;
 use beacon::beacon::Report;
 use beacon::beacon::Scanned;
+use channels::phy::AdvertisingChannel;
 use octets::time::Instant;
 
 // The highest item number that six columns hold.
 const MOST_ITEMS: usize = 999_999;
 
-// The octets of a report's line, of the last line, and of lines for each octet of items.
-const LINE: usize = 36;
+// The octets of a report's line, of the last line, and of the shortest item that is reported.
+const LINE: usize = 39;
 
 const LAST: usize = 15;
 
-const ROOM: usize = 4;
+const SHORTEST: usize = 9;
 
 // What the hub has counted, and the scanner that it listens with.
 pub struct Hub {
@@ -143,6 +145,21 @@ fn put_number(table: &[u8], n: usize, out: &mut [u8], at: usize) -> usize
     put_octet(table, last_two(n), 2, out, next)
 }
 
+// Writes an item's number and the channel that it was heard on to the next nine columns.
+fn put_item(
+    table: &[u8],
+    number: usize,
+    channel: AdvertisingChannel,
+    out: &mut [u8],
+    at: usize,
+) -> usize
+    requires { ⌜ (now table ≡ octetColumns) × (at + 9 ≤ length (now out)) ⌝ }
+    ensures { λ r. ⌜ (r ≡ at + 9) × (now (out .exit) ≡ written (column 6 number ++ column 3 (indexOf channel)) (now (out .entry)) at) ⌝ }
+{
+    let next = put_number(table, number, out, at);
+    put_octet(table, channel.channel(), 3, out, next)
+}
+
 // Writes n to the next three columns.
 fn put_count(table: &[u8], n: usize, out: &mut [u8], at: usize) -> usize
     requires { ⌜ (now table ≡ octetColumns) × (at + 3 ≤ length (now out)) ⌝ }
@@ -165,6 +182,7 @@ fn kind_number(address: DeviceAddress) -> u8
 fn put_line(
     table: &[u8],
     number: usize,
+    channel: AdvertisingChannel,
     sender: DeviceAddress,
     octets: &[u8],
     records: usize,
@@ -172,9 +190,9 @@ fn put_line(
     at: usize,
 )
     requires { ⌜ (now table ≡ octetColumns) × ((now octets ≡ sender .bytes) × ((length (now octets) ≡ 6) × (at + lineSize ≤ length (now out)))) ⌝ }
-    ensures { λ _. ⌜ now (out .exit) ≡ written (reportLine number sender records) (now (out .entry)) at ⌝ }
+    ensures { λ _. ⌜ now (out .exit) ≡ written (reportLine number channel sender records) (now (out .entry)) at ⌝ }
 {
-    let mut next = put_number(table, number, out, at);
+    let mut next = put_item(table, number, channel, out, at);
     next = put_octet(table, kind_number(sender), 2, out, next);
     next = put_octets(table, octets, out, next);
     next = put_count(table, records, out, next);
@@ -196,9 +214,19 @@ fn log_scanned(
     let report = scanned.report;
     match report {
         Report::Beacon => {
+            let channel = scanned.channel;
             let sender = scanned.sender;
             let place = scanned.adv_data;
-            put_line(table, number, sender, &item[3..9], place.count, out, at);
+            put_line(
+                table,
+                number,
+                channel,
+                sender,
+                &item[3..9],
+                place.count,
+                out,
+                at,
+            );
             1
         }
         Report::Nothing => 0,
@@ -380,7 +408,7 @@ impl Hub {
         if size < filled {
             return false;
         }
-        filled <= space / ROOM
+        filled / SHORTEST <= space / LINE
     }
 
     // Takes in the first `filled` octets of `buf`: writes the lines of the whole items among them to the front of `out`, and moves the octets

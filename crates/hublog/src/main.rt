@@ -221,10 +221,10 @@ fn log_all(buf: &mut [u8], out: &mut [u8])
 }
 
 // Room for the lines of all that `io::large_buffer` holds.
-fn lines_buffer() -> [u8; 262144]
-    ensures { λ r. ⌜ 262144 ≡ length r ⌝ }
+fn lines_buffer() -> [u8; 283959]
+    ensures { λ r. ⌜ 283959 ≡ length r ⌝ }
 {
-    [0; 262144]
+    [0; 283959]
 }
 
 fn main() {

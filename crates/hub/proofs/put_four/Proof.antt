@@ -10,7 +10,7 @@ use Rattle.octets.specs.Bytes.{written}
 use Rattle.columns.specs.Column.{leading, column}
 use Rattle.columns.proofs.Pairs.{leading-pair, leading-some}
 use Rattle.columns.proofs.Widths.{column-length}
-use Rattle.hub.proofs.Pieces.{pair-behind}
+use Rattle.hub.proofs.Pieces.{column-behind}
 use Rattle.hub.proofs.put_four.Statement.{statement}
 use Rattle.hub.proofs.put_four.Tie as tie
 
@@ -43,7 +43,7 @@ returns-3 c =
     let big = first .before .before .before in
     let start = big .before .before .before .before in
     let a = start .args in
-    pair-behind (a .out .now) (a .at) (column 2 (first .before .before .last-two .result)) (leading 4 (a .n)) (second .before .before .last-two2 .result) (start .pre .1)
+    column-behind (a .out .now) (a .at) (column 2 (first .before .before .last-two .result)) (leading 4 (a .n)) 2 (second .before .before .last-two2 .result) (start .pre .1)
     (column-length 2 (first .before .before .last-two .result)) (first .put-octet2 .ensures) (second .put-octet3 .ensures)
     (pairs (a .n) (first .before .before .last-two .result) (second .before .before .last-two2 .result) (big .if2 .left) (first .before .before .last-two .ensures) (second .before .before .last-two2 .ensures))
 

@@ -6,7 +6,7 @@ use borrow.Author.Needs.{needs}
 use Rattle.columns.specs.Column.{leading, column}
 use Rattle.columns.proofs.Pairs.{column-pair}
 use Rattle.columns.proofs.Widths.{leading-length}
-use Rattle.hub.proofs.Pieces.{pair-behind}
+use Rattle.hub.proofs.Pieces.{column-behind}
 use Rattle.hub.proofs.put_number.Statement.{statement}
 use Rattle.hub.proofs.put_number.Tie as tie
 
@@ -20,7 +20,7 @@ returns c =
     let front = two .before .before .before in
     let start = front .before .before .before .before in
     let a = start .args in
-    pair-behind (a .out .now) (a .at) (leading 4 (a .n / 100)) (column 6 (a .n)) (two .last-two .result) (start .pre .1) (leading-length 4 (a .n / 100))
+    column-behind (a .out .now) (a .at) (leading 4 (a .n / 100)) (column 6 (a .n)) 2 (two .last-two .result) (start .pre .1) (leading-length 4 (a .n / 100))
     (front .put-four .ensures) (last .put-octet .ensures) (whole (a .n) (two .last-two .result) (two .last-two .ensures))
 
 pub put-number-spec : {M : Type 1} → statement M

@@ -1,20 +1,21 @@
 -- `hub::Hub::is_ready` meets its contract: at each `return` the tests that led there say what `isReady` is. Assumes nothing.
 use mathlib.Core.Path.{_≡_, refl, sym}
-use Prim.Native.Nat.{ℕ, _*_, _/_}
+use Prim.Native.Nat.{ℕ, _/_}
 use mathlib.Core.Bool.{Bool, true, false}
 use native.Mathlib.Omega.{arith}
 use lib.Dec.{leb}
 use borrow.Author.Tests.{le-leb, lt-leb, leb-true, leb-false}
+use Rattle.hub.specs.Line.{lineSize, shortest, roomFor}
 use Rattle.hub.proofs.Hub.is_ready.Statement.{statement}
 use Rattle.hub.proofs.Hub.is_ready.Tie as tie
 
 -- the test of the room, as the code has it
-room : (filled space : ℕ) → leb filled (space / 4) ≡ leb (4 * filled) space
-room filled space = go (leb filled (space / 4)) refl
+room : (filled space : ℕ) → leb (filled / shortest) (space / lineSize) ≡ leb (roomFor filled) space
+room filled space = go (leb (filled / shortest) (space / lineSize)) refl
   where
-    go : (b : Bool) → leb filled (space / 4) ≡ b → b ≡ leb (4 * filled) space
-    go true e = sym (le-leb (4 * filled) space (omega (arith, leb-true filled (space / 4) e)))
-    go false e = sym (lt-leb (4 * filled) space (omega (arith, leb-false filled (space / 4) e)))
+    go : (b : Bool) → leb (filled / shortest) (space / lineSize) ≡ b → b ≡ leb (roomFor filled) space
+    go true e = sym (le-leb (roomFor filled) space (omega (arith, leb-true (filled / shortest) (space / lineSize) e)))
+    go false e = sym (lt-leb (roomFor filled) space (omega (arith, leb-false (filled / shortest) (space / lineSize) e)))
 
 pub is-ready-spec : {M : Type 1} → statement M
 is-ready-spec =
