@@ -52,7 +52,7 @@ unfolding line reportsIn
 line-size number s item = go (isReport (heardIn s item .report)) refl
   where
     go : (b : Bool) → isReport (heardIn s item .report) ≡ b → length (line number (heardIn s item)) ≡ lineSize * reportsIn (heardIn s item)
-    go true e = rw e (line-length number (heardIn s item .channel) (heardIn s item .sender) (heardIn s item .«adv_data» .count) (heard-long s item e))
+    go true e = rw e (line-length number _ _ _ (heard-long s item e))
     go false e = rw e refl
 
 pub line-room : (s : BeaconScanner) (item : List ℕ) → lineSize * reportsIn (heardIn s item) ≤ roomFor (length item)

@@ -68,7 +68,7 @@ module _ {h : Hub} {s out₀ out : List ℕ} {count found : ℕ} {scanner : Beac
         rw (width, ← drop-drop size at s, is) (next-item (hub count found scanner) (drop at s) more (λ e. some (is ∙ e)))
 
     advance : {out′ : List ℕ} → out′ ≡ written (line (count + 1) (heardIn scanner item)) out to
-        → Progress h s out₀ out′ (count + 1) (found + reportsIn (heardIn scanner item)) (scannerAfter scanner item) (at + size) (to + lineSize * reportsIn (heardIn scanner item))
+        → Progress h s out₀ out′ (count + 1) (found + reportsIn (heardIn scanner item)) (after (hub count found scanner) item .scanner) (at + size) (to + lineSize * reportsIn (heardIn scanner item))
     unfolding afterAll printedAll printed after flatten
     advance is-out =
         let octets : length (flatten (itemsFor (hub count found scanner) (drop at s))) ≡ size + length (flatten (itemsFor (after (hub count found scanner) item) (drop (at + size) s))) =
@@ -155,7 +155,7 @@ added : (c : tie.After-log-item Inv-loop μ-loop) → c .log-item .result ≤ 1
 added c = rw (c .log-item .ensures .0) (one-report _)
 
 loop-again : tie.Need-loop-again Inv-loop μ-loop
-unfolding item
+unfolding item after
 loop-again c =
     let at-call = c .before .before .before in
     let at-test = at-call .before .before .before in

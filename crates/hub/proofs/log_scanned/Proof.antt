@@ -16,19 +16,23 @@ use Rattle.hub.proofs.Reports.{sent-long}
 use Rattle.hub.proofs.log_scanned.Statement.{statement}
 use Rattle.hub.proofs.log_scanned.Tie as tie
 
+-- the line of a report
+abbrev itsLine : ℕ → Scanned → List ℕ
+itsLine number s = reportLine number (s .channel) (s .sender) (s .«adv_data» .count)
+
 module _ (number : ℕ) (s : Scanned) (out : List ℕ) (at : ℕ) where
   one : s .report ≡ report.Beacon → reportsIn s ≡ 1
   unfolding reportsIn
   one is = rw is refl
 
-  reported : {out′ : List ℕ} → s .report ≡ report.Beacon → out′ ≡ written (reportLine number (s .channel) (s .sender) (s .«adv_data» .count)) out at
+  reported : {out′ : List ℕ} → s .report ≡ report.Beacon → out′ ≡ written (itsLine number s) out at
       → (1 ≡ reportsIn s) × (out′ ≡ written (line number s) out at)
   unfolding line
-  reported is wrote = (sym (one is), wrote ∙ ap (λ (r : Report). written (cond (isReport r) (reportLine number (s .channel) (s .sender) (s .«adv_data» .count)) []) out at) (sym is))
+  reported is wrote = (sym (one is), wrote ∙ ap (λ (r : Report). written (cond (isReport r) (itsLine number s) []) out at) (sym is))
 
   unheard : isReport (s .report) ≡ false → (0 ≡ reportsIn s) × (out ≡ written (line number s) out at)
   unfolding line reportsIn
-  unheard is = (rw is refl, nothing-yet out at .contents ∙ ap (λ (b : Bool). written (cond b (reportLine number (s .channel) (s .sender) (s .«adv_data» .count)) []) out at) (sym is))
+  unheard is = (rw is refl, nothing-yet out at .contents ∙ ap (λ (b : Bool). written (cond b (itsLine number s) []) out at) (sym is))
 
 -- that the item is a report's
 heard : (c : tie.After-enum-told) → isReport (c .before .before .before .before .before .args .scanned .report) ≡ true
