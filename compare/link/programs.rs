@@ -185,6 +185,17 @@ fn reports(count: u64) -> Vec<u8> {
     input
 }
 
+/// Items of twelve octets, each reported, a tick before some: a tick may be the last octet of a read.
+fn reports_and_ticks(count: usize) -> Vec<u8> {
+    let mut random = Random(9);
+    let mut input = Vec::new();
+    for item in reports(count as u64).chunks(12) {
+        input.extend(vec![0; random.below(4) as usize]);
+        input.extend(item);
+    }
+    input
+}
+
 fn hublog_prints(t: &mut Tried, example: &[u8]) {
     let ran = t.run("hublog", example);
     t.say("hublog: document 01's example, with its channel", text(&ran.0) == "     2 38 1   1   2   3   4   5 198  1\n     2     1 0\n", &ran);
@@ -199,6 +210,9 @@ fn hublog_prints(t: &mut Tried, example: &[u8]) {
         }
     }
     println!("ok    hublog: 1000 random inputs against a log written from documents 01 and 02");
+    let input = reports_and_ticks(100_000);
+    let ran = t.run("hublog", &input);
+    t.say("hublog: 100000 reports with ticks between them, over many reads", ran.0 == log(&input), &ran);
     for count in [999_998, 999_999, 1_000_000] {
         let input = vec![0; count];
         let ran = t.run("hublog", &input);
@@ -341,7 +355,7 @@ fn main() {
     hublog_is_asked(&mut t, &path);
     hublog_fails(&mut t, &path);
     hublog_does_not_wait(&mut t, &example);
-    in_pieces(&mut t, "hublog", &reports(300));
+    in_pieces(&mut t, "hublog", &reports_and_ticks(300));
     let requests = recorded(repository);
     replay_answers(&mut t, &requests);
     replay_fails(&mut t, repository);
