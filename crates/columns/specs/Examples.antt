@@ -1,4 +1,4 @@
--- Worked values: digits and spaces in ASCII (the codes 48 to 57, and 32), in the widths of document 01's lines.
+-- Worked values: digits and spaces in ASCII (the codes 48 to 57, and 32), in the widths of document 01's lines and of document 02's Note 7, and rows read again.
 use mathlib.Core.Path.{_≡_}
 use mathlib.Core.List.{[], _∷_, map}
 use Rattle.columns.specs.Column.{column, digits}

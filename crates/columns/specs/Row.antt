@@ -6,9 +6,9 @@
 --   readColumn s        == the number in a column: spaces before its digits are passed over
 --   readRow ws s        == the numbers in columns of these widths, which s begins with
 --   total ws            == how many octets these columns have
---   Fits ws ns          == there are as many numbers as columns, and none has more digits than its column has octets
+--   Fits ws ns          == there are as many numbers as columns, and none is too long for its column
 --   AllFit ws rows      == the same of each row
---   Row ws ns           == then, and only then, no digit is lost (Rows.row)
+--   Row ws ns           == numbers that fit are read again, and no others (Rows.row)
 use mathlib.Core.Path.{_≡_}
 use mathlib.Core.Bool.{cond}
 use mathlib.Core.List.{List, [], _∷_, _++_}
@@ -34,7 +34,7 @@ abbrev pub total : List ℕ → ℕ
 total [] = 0
 total (w ∷ ws) = w + total ws
 
--- n has at most w decimal digits exactly if it is below 10 ^ w
+-- w columns, one or more, hold w decimal digits: the numbers below 10 ^ w
 abbrev pub Fits : List ℕ → List ℕ → Type 0
 Fits [] [] = Unit {0}
 Fits [] (n ∷ ns) = ⊥

@@ -1,4 +1,4 @@
--- Document 01's sample holds of the definitions: `sample`. Assumes nothing.
+-- The samples of the log hold of the definitions: `sample`. Assumes nothing.
 use mathlib.Core.Path.{_≡_, refl, sym, ap, _∙_}
 use mathlib.Core.List.{List, [], _∷_, _++_, flatten, append-assoc, append-nil}
 use mathlib.Core.Logic.{inl, inr}
@@ -80,9 +80,9 @@ turned =
     (packet _ _ _ _ (inl refl) refl, (tick, (packet _ _ _ _ (inl refl) refl, (tick, (packet _ _ _ _ (inr refl) refl, (tick, (packet _ _ _ _ (inl refl) refl, (packet _ _ _ _ (inl refl) refl, (tick, (tick, (packet _ _ _ _ (inl refl) refl, tt)))))))))))
     ∙ ap (λ (l : List (List ℕ)). turnItems ++ l) (none-whole (mostItems - 11) [] refl)
 
-shortest : items mostItems (flatten (shortBeacon ∷ shortBeacon ∷ [])) ≡ shortBeacon ∷ shortBeacon ∷ []
+two-short : items mostItems (flatten (shortBeacon ∷ shortBeacon ∷ [])) ≡ shortBeacon ∷ shortBeacon ∷ []
 unfolding sizeOf wholeSize
-shortest =
+two-short =
     ap (items mostItems) (sym (append-nil (flatten (shortBeacon ∷ shortBeacon ∷ []))))
     ∙ each-found (shortBeacon ∷ shortBeacon ∷ []) (mostItems - 2) [] (packet _ _ _ _ (inl refl) refl, (packet _ _ _ _ (inl refl) refl, tt))
     ∙ ap (λ (l : List (List ℕ)). shortBeacon ∷ shortBeacon ∷ l) (none-whole (mostItems - 2) [] refl)
@@ -109,5 +109,5 @@ sample =
       cut-short = rw cut-item;
       six-items = rw six;
       turns = rw turned;
-      all-room = rw shortest;
+      all-room = rw two-short;
     }

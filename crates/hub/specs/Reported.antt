@@ -1,14 +1,13 @@
--- The log in the words of document 01 and of document 02's Note 7, by the octets of the items and without the scanner.
+-- The log in the words of document 01 and of document 02's Notes 3 and 7, by the octets of the items and without the scanner.
 --   reportWidths, lastWidths    == the columns of a report's line, and of the last line
 --   lineEach rows               == a report's line of the numbers in each row
 --   IsReported h0 h1 payload    == a CRC-good packet with this header and payload is reported
---   Prints k c item rows        == what item number k prints, heard on channel c: a row of numbers, or none
+--   Prints k channel item rows  == what item number k prints, heard on this channel: a row of numbers, or none
 --   TickCount its n             == n of the items are ticks
 --   Rows k c before its rows    == what items print, each with its number and its channel by the items before it
 --   Reported s                  == the log of the input s (Reported.reported)
 --   Continued h s passing       == the lines and counts of octets s that a hub h takes in which lets all senders pass (Reported.continued)
---   Rowed h n                   == the lines by themselves, whatever their numbers (Reported.rowed)
---   bareLine k sender n         == a report's line as document 01 has it, without the channel
+--   Rowed h n                   == the lines by themselves, and that the last line's numbers fit (Reported.rowed)
 --   Added k c sender n          == where the channel stands in a report's line, and that nothing else changes (Reported.added)
 --   Stopping count first rest   == which octets left over stop reading (Reported.stopping)
 use mathlib.Core.Path.{_≡_}
@@ -25,7 +24,7 @@ use Rattle.channels.specs.declared.phy.AdvertisingChannel.{AdvertisingChannel}
 use Rattle.channels.specs.declared.phy.AdvertisingChannel.the-variants.{Channel37}
 use Rattle.records.specs.Padding.{readPadded}
 use Rattle.records.specs.declared.area.PaddedArea.the-variants as padded
-use Rattle.addresses.specs.Address.{addressOf, kindNumber}
+use Rattle.addresses.specs.Address.{addressOf}
 use Rattle.addresses.specs.Header.{headerOf}
 use Rattle.addresses.specs.declared.device_address.AddressKind.the-variants.{Public, Random}
 use Rattle.addresses.specs.declared.device_address.DeviceAddress.{DeviceAddress}
@@ -35,7 +34,7 @@ use Rattle.advertising.specs.declared.pdu.Outcome.the-variants as outcome
 use Rattle.columns.specs.Column.{column}
 use Rattle.columns.specs.Row.{rowOf, readRow, Fits, AllFit}
 use Rattle.items.specs.Item.{items}
-use Rattle.hub.specs.Line.{reportLine, lineSize}
+use Rattle.hub.specs.Line.{reportLine, bareLine, lineSize}
 use Rattle.hub.specs.Log.{mostItems, itemsFor, linesOf, hubOf, lastLine, logOf, isStuck, RunCounts}
 use Rattle.hub.specs.declared.Hub.{Hub}
 
@@ -72,7 +71,8 @@ pub data TickCount : List (List ℕ) → ℕ → Type 0 where
   packet : (first : ℕ) (rest : List ℕ) (its : List (List ℕ)) (n : ℕ) → (first ≡ 0x01) ⊎ (first ≡ 0x02) → TickCount its n → TickCount ((first ∷ rest) ∷ its) n
 
 -- A hub that had counted k items and listened on channel c has heard the items `before` since. The next one has the number behind theirs, and the channel
--- that the cycle gives after as many steps from c as there are ticks among them, heard or not ("readers worked out the channel by counting ticks").
+-- that the cycle gives after as many steps from c as there are ticks among them, whether or not anything was heard ("Readers .. worked out the channel by
+-- counting ticks").
 pub data Rows (k : ℕ) (c : AdvertisingChannel) : List (List ℕ) → List (List ℕ) → List (List ℕ) → Type 0 where
   end : (before : List (List ℕ)) → Rows k c before [] []
   next : (before : List (List ℕ)) (item : List ℕ) (its rows more : List (List ℕ)) (ticks : ℕ)
@@ -121,10 +121,6 @@ pub record Rowed (h : Hub) (n : ℕ) : Type 0 where
   pub some-over : lastLine h (suc n) ≡ rowOf lastWidths (h .items ∷ h .reports ∷ 1 ∷ [])
   -- and the numbers of the last line fit where the hub counts as a run does
   pub last-fits : RunCounts h → (flag : ℕ) → flag ≤ 1 → Fits lastWidths (h .items ∷ h .reports ∷ flag ∷ [])
-
--- document 01: "A report prints item number (6 columns, from 1), kind (2), six octets in order (4 each), records (3)"
-abbrev pub bareLine : ℕ → DeviceAddress → ℕ → List ℕ
-bareLine k sender n = column 6 k ++ (column 2 (kindNumber (sender .kind)) ++ (flatten (map (column 4) (sender .bytes)) ++ (column 3 n ++ (10 ∷ []))))
 
 -- Note 7: "Print it, 3 columns right-justified, after the item number. .. Nothing else in a line changes."
 pub record Added (k : ℕ) (c : AdvertisingChannel) (sender : DeviceAddress) (n : ℕ) : Type 0 where

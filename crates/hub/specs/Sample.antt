@@ -1,5 +1,11 @@
--- Document 01's sample of hublog with the channel of document 02's Note 7, an empty input, and inputs that the sample leaves open (`Samples.sample`); as many items as count, and one more
--- (`Ticks.limit`).
+-- Document 01's sample of hublog with the channel of document 02's Note 7, an empty input, and inputs that the sample leaves open; as many items as count, and one more.
+--   beacon, badBeacon               == the sample's packet, and the same CRC-bad
+--   paddedBeacon, unendedBeacon     == a beacon with zeros behind its record, and with another octet at their end
+--   shortBeacon, longPacket         == a beacon without records, and a packet that is none
+--   sixItems, turnItems             == items with reports among them, and with ticks between reports
+--   oneItem, brokenAtOnce           == the logs of one item that is not reported, and of an input whose first item is broken
+--   Sample                          == the logs of these (Samples.sample)
+--   Limit ticks                     == the logs of 999,999 ticks, and of one more (Ticks.limit)
 use mathlib.Core.Path.{_≡_}
 use mathlib.Core.List.{List, [], _∷_, _++_, flatten}
 use Prim.Native.Nat.{ℕ, _+_}
@@ -20,7 +26,7 @@ badBeacon = 0x02 ∷ 0x42 ∷ 0x09 ∷ nine
 abbrev pub longPacket : List ℕ
 longPacket = 0x01 ∷ 0x00 ∷ 0x20 ∷ replicate 32 0
 
--- the same with 28 zeros behind its record, and with another octet at their end
+-- the sample's packet with 28 zeros behind its record, and with another octet at their end
 abbrev pub paddedBeacon : List ℕ
 paddedBeacon = 0x01 ∷ 0x42 ∷ 0x25 ∷ (nine ++ replicate 28 0)
 
@@ -50,7 +56,7 @@ sixItems =
     ∷ (0x01 ∷ 0x02 ∷ 0x09 ∷ nine)
     ∷ []
 
--- five beacons, and ticks before the second, the third and the last
+-- five beacons: a tick before the second, two before the third with a CRC-bad packet between them, none before the fourth, two before the last
 abbrev pub turnItems : List (List ℕ)
 turnItems =
     beacon

@@ -11,7 +11,7 @@ use Rattle.octets.specs.Bytes.{written}
 use Rattle.beacon.specs.declared.beacon.BeaconScanner.{BeaconScanner}
 use Rattle.items.specs.Item.{wholeSize, items}
 use Rattle.hub.specs.Line.{lineSize, roomFor, line, reportsIn}
-use Rattle.hub.specs.Log.{mostItems, heardIn, scannerAfter, after, printed, afterAll, printedAll, itemsFor, linesOf, hubOf, loggedOf, RunCounts, linesIn}
+use Rattle.hub.specs.Log.{mostItems, heardIn, after, printed, afterAll, printedAll, itemsFor, linesOf, hubOf, loggedOf, RunCounts, linesIn}
 use Rattle.hub.specs.declared.Hub.{Hub}
 use Rattle.items.proofs.Items.{whole-fits, none-whole, one-whole, none-more}
 use Rattle.hub.proofs.Pieces.{Wrote, nothing-yet, as-long, then-piece}

@@ -1,6 +1,6 @@
 -- `hub::put_item` meets its contract: the number, and the channel behind it. Assumes nothing.
 use mathlib.Core.Path.{ap}
-use mathlib.Core.List.{List, _++_}
+use mathlib.Core.List.{_++_}
 use Prim.Native.Nat.{ℕ}
 use borrow.Author.Needs.{needs}
 use Rattle.columns.specs.Column.{column}
