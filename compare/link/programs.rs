@@ -254,7 +254,8 @@ fn hublog_fails(t: &mut Tried, example: &str) {
 
 fn hublog_does_not_wait(t: &mut Tried, example: &[u8]) {
     let program = format!("{}/hublog", t.bin);
-    let input = t.file("many", &reports(100_000));
+    let many = reports_and_ticks(100_000);
+    let input = t.file("many", &many);
     let (mut reader, writer) = pipe_ends();
     does_not_wait(&writer);
     let mut child = Command::new(&program).stdin(File::open(&input).unwrap()).stdout(writer).stderr(Stdio::piped()).spawn().unwrap();
@@ -270,7 +271,7 @@ fn hublog_does_not_wait(t: &mut Tried, example: &[u8]) {
     let mut said = String::new();
     child.stderr.take().unwrap().read_to_string(&mut said).unwrap();
     child.wait().unwrap();
-    let is = got == t.run("hublog", &reports(100_000)).0 && said.is_empty();
+    let is = got == log(&many) && said.is_empty();
     t.say("hublog: an output that does not wait, and a slow reader", is, &(got, said));
 
     let (reader, mut writer) = pipe_ends();
@@ -283,7 +284,7 @@ fn hublog_does_not_wait(t: &mut Tried, example: &[u8]) {
 }
 
 /// Each octet by itself, so that every read is a short one.
-fn in_pieces(t: &mut Tried, program: &str, input: &[u8]) {
+fn in_pieces(t: &mut Tried, program: &str, input: &[u8], wanted: &[u8]) {
     let mut child = Command::new(format!("{}/{program}", t.bin)).stdin(Stdio::piped()).stdout(Stdio::piped()).spawn().unwrap();
     let mut to = child.stdin.take().unwrap();
     for octet in input {
@@ -292,7 +293,7 @@ fn in_pieces(t: &mut Tried, program: &str, input: &[u8]) {
     }
     drop(to);
     let got = child.wait_with_output().unwrap().stdout;
-    let is = got == t.run(program, input).0;
+    let is = got == wanted;
     t.say(&format!("{program}: an octet at a time"), is, &(got, String::new()));
 }
 
@@ -355,11 +356,13 @@ fn main() {
     hublog_is_asked(&mut t, &path);
     hublog_fails(&mut t, &path);
     hublog_does_not_wait(&mut t, &example);
-    in_pieces(&mut t, "hublog", &reports_and_ticks(300));
+    let some = reports_and_ticks(300);
+    in_pieces(&mut t, "hublog", &some, &log(&some));
     let requests = recorded(repository);
     replay_answers(&mut t, &requests);
     replay_fails(&mut t, repository);
-    in_pieces(&mut t, "replay", &requests[..3_000]);
+    let answers = t.run("replay", &requests[..3_000]).0;
+    in_pieces(&mut t, "replay", &requests[..3_000], &answers);
     if t.failed > 0 {
         println!("{} not as they should be", t.failed);
         exit(1);
