@@ -193,5 +193,6 @@ turning h s =
       counted = λ before. (omega (arith, before .0, counted h (itemsFor h s), items-most (mostItems - h .items) s), fewer-reports h (itemsFor h s) (before .1));
       room = omega (arith, lines-room h (itemsFor h s), items-fit (mostItems - h .items) s);
       kept = rest-fits h s;
+      stops = refl;
       short = kept-short h s;
     }

@@ -1,13 +1,14 @@
--- The samples of the log hold of the definitions: `sample`. Assumes nothing.
+-- The samples of the log hold of the definitions: `sample`; and lines that fill their room: `just-room`. Assumes nothing.
 use mathlib.Core.Path.{_≡_, refl, sym, ap, _∙_}
 use mathlib.Core.List.{List, [], _∷_, _++_, flatten, append-assoc, append-nil}
 use mathlib.Core.Logic.{inl, inr}
-use Prim.Native.Nat.{ℕ, suc, _+_, _-_}
+use Prim.Native.Nat.{ℕ, zero, suc, _+_, _-_, _*_, _≤_}
 use native.Mathlib.Omega.{arith}
-use lib.ListN.{length}
+use lib.ListN.{length, replicate, length-append, length-replicate}
 use Rattle.addresses.specs.Header.{pduType}
 use Rattle.advertising.specs.Pdu.{decodeBy, byType, undirected, withArea}
 use Rattle.beacon.specs.Scanner.{scanned}
+use Rattle.columns.proofs.Widths.{column-length}
 use Rattle.columns.specs.Column.{leading, column}
 use Rattle.items.proofs.Falling.{falls}
 use Rattle.items.proofs.Items.{one-whole, none-whole}
@@ -15,9 +16,9 @@ use Rattle.items.specs.Item.{sizeOf, wholeSize, items, behind, tick, packet, Al
 use Rattle.records.specs.Area.{cut, reads, withFirst, areaOf, readArea}
 use Rattle.records.specs.Padding.{beforeZero, unpadded, isZeros, endedBy, readPadded, areaIn}
 use Rattle.records.specs.Record.{named, first, flagsRead, dataRead, upTo, recordRead}
-use Rattle.hub.specs.Line.{reportLine, line, reportsIn}
-use Rattle.hub.specs.Log.{mostItems, heardIn, scannerAfter, after, printed, afterAll, printedAll, lastLine, logOf}
-use Rattle.hub.specs.Sample.{beacon, badBeacon, paddedBeacon, unendedBeacon, longPacket, shortBeacon, sixItems, turnItems, Sample}
+use Rattle.hub.specs.Line.{lineSize, reportLine, line, reportsIn}
+use Rattle.hub.specs.Log.{mostItems, heardIn, scannerAfter, after, printed, afterAll, printedAll, lastLine, fresh, logOf}
+use Rattle.hub.specs.Sample.{beacon, badBeacon, paddedBeacon, unendedBeacon, longPacket, shortBeacon, sixItems, turnItems, Sample, JustRoom}
 
 -- step by step: computing `items` would unfold it 999,999 times
 both : items mostItems (0x00 ∷ beacon) ≡ (0x00 ∷ []) ∷ beacon ∷ []
@@ -80,13 +81,6 @@ turned =
     (packet _ _ _ _ (inl refl) refl, (tick, (packet _ _ _ _ (inl refl) refl, (tick, (packet _ _ _ _ (inr refl) refl, (tick, (packet _ _ _ _ (inl refl) refl, (packet _ _ _ _ (inl refl) refl, (tick, (tick, (packet _ _ _ _ (inl refl) refl, tt)))))))))))
     ∙ ap (λ (l : List (List ℕ)). turnItems ++ l) (none-whole (mostItems - 11) [] refl)
 
-two-short : items mostItems (flatten (shortBeacon ∷ shortBeacon ∷ [])) ≡ shortBeacon ∷ shortBeacon ∷ []
-unfolding sizeOf wholeSize
-two-short =
-    ap (items mostItems) (sym (append-nil (flatten (shortBeacon ∷ shortBeacon ∷ []))))
-    ∙ each-found (shortBeacon ∷ shortBeacon ∷ []) (mostItems - 2) [] (packet _ _ _ _ (inl refl) refl, (packet _ _ _ _ (inl refl) refl, tt))
-    ∙ ap (λ (l : List (List ℕ)). shortBeacon ∷ shortBeacon ∷ l) (none-whole (mostItems - 2) [] refl)
-
 six : items mostItems (flatten sixItems ++ (0x03 ∷ [])) ≡ sixItems
 unfolding sizeOf wholeSize
 six =
@@ -109,5 +103,34 @@ sample =
       cut-short = rw cut-item;
       six-items = rw six;
       turns = rw turned;
-      all-room = rw two-short;
     }
+
+-- short beacons, one behind the other
+short-items : (k : ℕ) → AllItems (replicate k shortBeacon)
+short-items zero = tt
+short-items (suc k) = (packet _ _ _ _ (inl refl) refl, short-items k)
+
+short-found : (k : ℕ) → k ≤ mostItems → items mostItems (flatten (replicate k shortBeacon)) ≡ replicate k shortBeacon
+unfolding sizeOf wholeSize
+short-found k few =
+    let all : List (List ℕ) = replicate k shortBeacon in
+    let most : length all + (mostItems - k) ≡ mostItems = rw length-replicate (omega arith) in
+    ap (λ (n : ℕ). items n (flatten all)) (sym most)
+    ∙ ap (items (length all + (mostItems - k))) (sym (append-nil (flatten all)))
+    ∙ each-found all (mostItems - k) [] (short-items k)
+    ∙ ap (λ (l : List (List ℕ)). all ++ l) (none-whole (mostItems - k) [] refl)
+    ∙ append-nil all
+
+-- each prints a line
+short-lines : (k count reports : ℕ) → length (printedAll (record { items = count; reports = reports; scanner = fresh .scanner }) (replicate k shortBeacon)) ≡ lineSize * k
+unfolding leading column flatten scanned heardIn scannerAfter reportLine line reportsIn after printed printedAll decodeBy byType undirected withArea pduType readPadded endedBy isZeros unpadded beforeZero areaIn readArea areaOf reads cut
+short-lines zero count reports = refl
+short-lines (suc k) count reports = simp (length-append, column-length) (omega (arith, short-lines k (count + 1) (reports + 1)))
+
+short-octets : (k : ℕ) → length (flatten (replicate k shortBeacon)) ≡ 9 * k
+unfolding flatten
+short-octets zero = refl
+short-octets (suc k) = omega (arith, short-octets k)
+
+pub just-room : (k : ℕ) → JustRoom k
+just-room k few more under-9 = rw (short-octets k) (ap (λ (its : List (List ℕ)). length (printedAll fresh its)) (short-found k few) ∙ short-lines k 0 0 ∙ omega arith)

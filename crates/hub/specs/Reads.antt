@@ -5,7 +5,7 @@ use mathlib.Core.List.{List, [], _∷_, _++_, flatten}
 use Prim.Native.Nat.{ℕ, _+_, _<_, _≤_}
 use lib.ListN.{length, take, drop}
 use Rattle.hub.specs.Line.{roomFor}
-use Rattle.hub.specs.Log.{fresh, linesOf, restOf, loggedOf, turnOf, lastLine, logOf, RunCounts, takenIn, restAfter, linesAfter}
+use Rattle.hub.specs.Log.{fresh, linesOf, restOf, loggedOf, turnOf, lastLine, logOf, isStuck, RunCounts, takenIn, restAfter, linesAfter}
 use Rattle.hub.specs.declared.Hub.{Hub}
 use Rattle.hub.specs.declared.TakenIn.the-variants as taken
 
@@ -45,5 +45,7 @@ pub record Turning (h : Hub) (s : List ℕ) : Type 0 where
   pub counted : RunCounts h → RunCounts (turnOf h s .hub)
   pub room : turnOf h s .written ≤ roomFor (length s)
   pub kept : turnOf h s .kept ≤ length s
+  -- reading stops as soon as nothing that may follow makes an item of what is left over: `Stopping` (specs/Reported) says when that is
+  pub stops : turnOf h s .«is_stopped» ≡ isStuck (turnOf h s .hub .items) (restOf h s)
   -- fewer octets than the longest item has, so that a longer buffer always has room for a read
   pub short : turnOf h s .«is_stopped» ≡ false → turnOf h s .kept < 66

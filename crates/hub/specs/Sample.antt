@@ -5,14 +5,15 @@
 --   sixItems, turnItems             == items with reports among them, and with ticks between reports
 --   oneItem, brokenAtOnce           == the logs of one item that is not reported, and of an input whose first item is broken
 --   Sample                          == the logs of these (Samples.sample)
+--   JustRoom k                      == no less room than `roomFor` says would do for the lines of k short beacons (Samples.just-room)
 --   Limit ticks                     == the logs of 999,999 ticks, and of one more (Ticks.limit)
 use mathlib.Core.Path.{_≡_}
 use mathlib.Core.List.{List, [], _∷_, _++_, flatten}
-use Prim.Native.Nat.{ℕ, _+_}
+use Prim.Native.Nat.{ℕ, _+_, _<_, _≤_}
 use lib.ListN.{length, replicate}
 use Rattle.advertising.specs.Laws.{nine}
-use Rattle.hub.specs.Line.{lastSize, roomFor}
-use Rattle.hub.specs.Log.{logOf}
+use Rattle.hub.specs.Line.{roomFor}
+use Rattle.hub.specs.Log.{mostItems, fresh, linesOf, logOf}
 
 -- 42 09 and its nine octets, CRC-good
 abbrev pub beacon : List ℕ
@@ -116,8 +117,10 @@ pub record Sample : Type 0 where
       ∷ 32 ∷ 32 ∷ 32 ∷ 32 ∷ 32 ∷ 56 ∷ 32 ∷ 51 ∷ 55 ∷ 32 ∷ 49 ∷ 32 ∷ 32 ∷ 32 ∷ 49 ∷ 32 ∷ 32 ∷ 32 ∷ 50 ∷ 32 ∷ 32 ∷ 32 ∷ 51 ∷ 32 ∷ 32 ∷ 32 ∷ 52 ∷ 32 ∷ 32 ∷ 32 ∷ 53 ∷ 32 ∷ 49 ∷ 57 ∷ 56 ∷ 32 ∷ 32 ∷ 49 ∷ 10
       ∷ 32 ∷ 32 ∷ 32 ∷ 32 ∷ 49 ∷ 49 ∷ 32 ∷ 51 ∷ 57 ∷ 32 ∷ 49 ∷ 32 ∷ 32 ∷ 32 ∷ 49 ∷ 32 ∷ 32 ∷ 32 ∷ 50 ∷ 32 ∷ 32 ∷ 32 ∷ 51 ∷ 32 ∷ 32 ∷ 32 ∷ 52 ∷ 32 ∷ 32 ∷ 32 ∷ 53 ∷ 32 ∷ 49 ∷ 57 ∷ 56 ∷ 32 ∷ 32 ∷ 49 ∷ 10
       ∷ 32 ∷ 32 ∷ 32 ∷ 32 ∷ 49 ∷ 49 ∷ 32 ∷ 32 ∷ 32 ∷ 32 ∷ 32 ∷ 53 ∷ 32 ∷ 48 ∷ 10 ∷ []
-  -- two items of the shortest kind have lines for which there is just room
-  pub all-room : length (logOf (flatten (shortBeacon ∷ shortBeacon ∷ []))) ≡ roomFor 18 + lastSize
+
+-- There is just room: the lines of k items of the shortest kind fill it, and up to eight octets more ask for none.
+abbrev pub JustRoom : ℕ → Type 0
+JustRoom k = k ≤ mostItems → (more : ℕ) → more < 9 → length (linesOf fresh (flatten (replicate k shortBeacon))) ≡ roomFor (length (flatten (replicate k shortBeacon)) + more)
 
 -- "beyond 999,999": so many ticks are all counted; of one more, the last is left over
 pub record Limit (ticks : ℕ) : Type 0 where
