@@ -1,4 +1,5 @@
--- The log does not depend on the pieces in which the input is read (`AnyReads`), and a run's turns are never refused (`Turning`).
+-- The log does not depend on the pieces in which the input is read (`AnyReads`), and a run's turns are never refused (`Turning`); what each turn of
+-- a program comes to (`Next`).
 use mathlib.Core.Path.{_≡_}
 use mathlib.Core.Bool.{false, cond}
 use mathlib.Core.List.{List, [], _∷_, _++_, flatten}
@@ -8,6 +9,7 @@ use Rattle.hub.specs.Line.{roomFor}
 use Rattle.hub.specs.Log.{fresh, linesOf, restOf, loggedOf, turnOf, lastLine, logOf, isStuck, RunCounts, takenIn, restAfter, linesAfter}
 use Rattle.hub.specs.declared.Hub.{Hub}
 use Rattle.hub.specs.declared.TakenIn.the-variants as taken
+use Rattle.hub.specs.declared.Turn.{Turn}
 
 -- what the program writes for these reads, `kept` being left over of the octets before: each turn takes in what was left over with what was
 -- read, and writes the lines; the last line is written at the end of the input, or as soon as a turn says that reading stops
@@ -22,6 +24,11 @@ writtenFor h kept (read ∷ reads) =
 -- however an input is cut into reads, the log of the input is written
 abbrev pub AnyReads : Type 0
 AnyReads = (reads : List (List ℕ)) → writtenFor fresh [] reads ≡ logOf (flatten reads)
+
+-- A run's next turn, where `kept` was left over of the octets before and `left` is of all: nothing was read, or `kept` is taken in with what was read.
+pub data Next (h : Hub) (kept : List ℕ) (t : Turn) (left : List ℕ) : Type 0 where
+  nothing-read : t .hub ≡ h → left ≡ kept → Next h kept t left
+  took : (read : List ℕ) → t ≡ turnOf h (kept ++ read) → left ≡ restOf h (kept ++ read) → Next h kept t left
 
 -- the hub counts as a run does, and there are so many octets and room for their lines
 abbrev pub Ready : Hub → List ℕ → ℕ → List ℕ → Type 0

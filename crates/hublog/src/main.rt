@@ -14,6 +14,7 @@ ghost use Prim.Native.Nat.{_≤_};
 ghost use lib.ListN.{length, take};
 ghost use Rattle.hub.specs.Line.{roomFor};
 ghost use Rattle.hub.specs.Log.{restOf, turnOf, RunCounts};
+ghost use Rattle.hub.specs.Reads.{Next};
 
 // How many octets a buffer holds after a read, or how many of its octets are written after a write.
 struct Moved {
@@ -181,7 +182,7 @@ fn unread(hub: Hub, kept: usize) -> Step
 // Reads once, and writes the lines. The end of the input stops reading too.
 fn next_turn(hub: Hub, kept: usize, buf: &mut [u8], out: &mut [u8]) -> Step
     requires { ⌜ RunCounts hub × ((kept ≤ length (now buf)) × (roomFor (length (now buf)) ≤ length (now out))) ⌝ }
-    ensures { λ r. ⌜ RunCounts (r .turn .hub) × (r .turn .kept ≤ length (now (buf .entry))) ⌝ }
+    ensures { λ r. ⌜ (RunCounts (r .turn .hub) × (r .turn .kept ≤ length (now (buf .entry)))) × Next hub (take kept (now (buf .entry))) (r .turn) (take (r .turn .kept) (now (buf .exit))) ⌝ }
 {
     let read = read_more(buf, kept);
     if read.is_failed {

@@ -1,12 +1,14 @@
 -- `hublog::next_turn` meets its contract. Assumes nothing.
-use mathlib.Core.Path.{_≡_}
+use mathlib.Core.Path.{_≡_, sym, ap, _∙_}
 use Prim.Native.Nat.{ℕ, _≤_}
 use native.Mathlib.Omega.{arith}
-use mathlib.Core.List.{List}
-use lib.ListN.{take, length-take}
+use mathlib.Core.List.{List, _++_}
+use lib.ListN.{take, drop, length-take, take-append-drop}
+use lib.Seq.{take-take}
 use borrow.Author.Needs.{needs}
 use Rattle.hub.proofs.AnyReads.{turning}
-use Rattle.hub.specs.Log.{turnOf, RunCounts}
+use Rattle.hub.specs.Log.{restOf, turnOf, RunCounts}
+use Rattle.hub.specs.Reads.{Next, nothing-read, took}
 use Rattle.hub.specs.declared.Hub.{Hub}
 use Rattle.hub.specs.declared.Turn.{Turn}
 use Rattle.hublog.proofs.next_turn.Statement.{statement}
@@ -20,14 +22,36 @@ turned h buf filled is counted fits =
     let turn = turning h (take filled buf) in
     rw is (turn .counted counted, omega (arith, turn .kept, length-take filled buf))
 
+-- nothing was read: the octets that were kept stay
+still : (t : Turn) (h : Hub) (buf buf′ : List ℕ) {kept : ℕ} → (t .hub ≡ h) × (t .kept ≡ kept) → take kept buf′ ≡ take kept buf → Next h (take kept buf) t (take (t .kept) buf′)
+still t h buf buf′ is same = nothing-read (is .0) (ap (λ (k : ℕ). take k buf′) (is .1) ∙ same)
+
+-- what was read stands behind them
+read-on : (t : Turn) (h : Hub) (buf buf′ buf″ : List ℕ) {kept filled : ℕ} → take kept buf′ ≡ take kept buf → kept ≤ filled
+    → (t ≡ turnOf h (take filled buf′)) × (take (t .kept) buf″ ≡ restOf h (take filled buf′)) → Next h (take kept buf) t (take (t .kept) buf″)
+read-on t h buf buf′ buf″ {kept} {filled} same more is =
+    let all : take kept buf ++ drop kept (take filled buf′) ≡ take filled buf′ =
+    ap (λ (l : List ℕ). l ++ drop kept (take filled buf′)) (sym same ∙ sym (take-take kept filled buf′ more)) ∙ take-append-drop kept (take filled buf′) in
+    took (drop kept (take filled buf′)) (is .0 ∙ ap (turnOf h) (sym all)) (is .1 ∙ ap (restOf h) (sym all))
+
 returns : tie.Need-returns
-returns c = at-end (c .unread .result .turn) (c .unread .ensures) (c .before .before .before .before .before .before .before .before .pre .0) (c .before .before .before .before .before .before .before .before .pre .1 .0)
+returns c =
+    let read = c .before .before .before .before in
+    let start = read .before .before .before .before in
+    (at-end (c .unread .result .turn) (c .unread .ensures) (start .pre .0) (start .pre .1 .0), still (c .unread .result .turn) _ _ _ (c .unread .ensures) (read .read-more .ensures .1))
 
 returns-2 : tie.Need-returns-2
-returns-2 c = at-end (c .no-turn .result) (c .no-turn .ensures) (c .before .before .before .before .before .before .before .before .before .pre .0) (c .before .before .before .before .before .before .before .before .before .pre .1 .0)
+returns-2 c =
+    let read = c .before .before .before .before .before in
+    let start = read .before .before .before .before in
+    (at-end (c .no-turn .result) (c .no-turn .ensures) (start .pre .0) (start .pre .1 .0), still (c .no-turn .result) _ _ _ (c .no-turn .ensures) (read .read-more .ensures .1))
 
 returns-3 : tie.Need-returns-3
-returns-3 c = turned _ _ _ (c .before .before .before .before .log-read .ensures .0) (c .before .before .before .before .before .before .before .before .before .before .before .before .before .before .before .pre .0) (c .before .before .before .before .before .before .before .before .before .before .before .read-more .ensures .0 .1)
+returns-3 c =
+    let read = c .before .before .before .before .before .before .before .before .before .before .before in
+    let start = read .before .before .before .before in
+    let e = c .before .before .before .before .log-read .ensures in
+    (turned _ _ _ (e .0) (start .pre .0) (read .read-more .ensures .0 .1), read-on _ _ _ _ _ (read .read-more .ensures .1) (read .read-more .ensures .0 .0) e)
 
 pub next-turn-spec : {M : Type 1} → statement M
 next-turn-spec =
