@@ -19,15 +19,16 @@ use Rattle.octets.proofs.PartOf.{part-is}
 use Rattle.octets.specs.Bytes.{part, partOr, partPlace, le}
 use Rattle.octets.specs.declared.error.Error.{Error}
 use Rattle.octets.specs.declared.error.Error.the-variants.{Eof, InvalidLength}
-use Rattle.records.specs.Area.{readArea}
-use Rattle.records.specs.declared.area.Area.{Area}
-use Rattle.records.specs.declared.area.Area.the-variants as area
+use Rattle.records_spec.specs.Area.{readArea}
+use Rattle.records_spec.specs.declared.area.Area.{Area}
+use Rattle.records_spec.specs.declared.area.Area.the-variants as area
 use Rattle.advertising.specs.Laws.{Figure, ShapedBy, with-records, two-addresses, with-lldata, AcceptingBy, Accepting, AcceptingHeard, RecordAreaBy, RecordArea, RecordAreaHeard}
-use Rattle.advertising.specs.Pdu.{undirectedFigure, directedFigure, connectFigure, accuracyOf, requestOf, noRequest, noAddress, noData, senderOf, receiverOf, dataIn, dataPlace, isAccepted, decodedAs, refusedPdu, withArea, undirected, directed, connectRequest, byType, decodeBy, Reading, asHub}
+use Rattle.advertising.specs.Pdu.{undirectedFigure, directedFigure, connectFigure, accuracyOf, requestOf, noRequest, noAddress, noData, senderOf, receiverOf, dataIn, dataPlace, decodedAs, refusedPdu, withArea, undirected, directed, connectRequest, byType, decodeBy, Reading, asHub}
+use Rattle.octets.specs.Error.{isAccepted}
 use Rattle.advertising.specs.declared.pdu.AdvData.{AdvData}
 use Rattle.advertising.specs.declared.pdu.Decoded.{Decoded}
-use Rattle.advertising.specs.declared.pdu.Outcome.{Outcome}
-use Rattle.advertising.specs.declared.pdu.Outcome.the-variants.{Accepted, Refused}
+use Rattle.octets.specs.declared.error.Outcome.{Outcome}
+use Rattle.octets.specs.declared.error.Outcome.the-variants.{Accepted, Refused}
 use Rattle.advertising.proofs.Figures.{field-is, behind, long, cut-figure}
 
 -- an outcome that passes the test

@@ -14,14 +14,14 @@ use Rattle.octets.specs.declared.bytes.ByteWriter.{ByteWriter}
 use Rattle.octets.specs.declared.bytes.Written.{Written}
 use Rattle.octets.specs.declared.bytes.Written.the-variants as written
 use Rattle.octets.proofs.Places.{enough}
-use Rattle.records.specs.Area.{readArea, rewritten, mayRewrite, rewrittenTo, rewrittenAfter}
-use Rattle.records.specs.Write.{checkedTo, checkedAfter}
-use Rattle.records.specs.declared.area.Area.{Area}
-use Rattle.records.specs.declared.area.Area.the-variants as area
-use Rattle.records.proofs.RoundTrip.{round-trip}
+use Rattle.records_spec.specs.Area.{readArea, rewritten, mayRewrite, rewrittenTo, rewrittenAfter}
+use Rattle.records_spec.specs.Write.{checkedTo, checkedAfter}
+use Rattle.records_spec.specs.declared.area.Area.{Area}
+use Rattle.records_spec.specs.declared.area.Area.the-variants as area
+use Rattle.records_spec.proofs.RoundTrip.{round-trip}
 use Rattle.advertising.specs.PduBuf.{padded, headerFor, bufOf, refusedBuf, afterReading, withRecords}
 use Rattle.addresses.specs.declared.header.PduType.{PduType}
-use Rattle.advertising.specs.declared.pdu.Outcome.the-variants.{Accepted}
+use Rattle.octets.specs.declared.error.Outcome.the-variants.{Accepted}
 use Rattle.advertising.specs.declared.pdu_buf.Built.{Built}
 
 -- the zeros behind xs

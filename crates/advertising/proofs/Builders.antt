@@ -16,14 +16,16 @@ use Rattle.addresses.specs.declared.header.PduType.{PduType}
 use Rattle.addresses.specs.declared.header.PduType.the-variants.{AdvInd, AdvDirectInd, AdvNonconnInd, AdvScanInd, ScanRsp}
 use Rattle.octets.proofs.Places.{enough, too-few}
 use Rattle.octets.specs.declared.error.Error.the-variants.{Eof}
-use Rattle.records.proofs.RoundTrip.{round-trip}
-use Rattle.records.specs.Area.{cut, reads, withFirst, areaOf, readArea, clean, rewritten}
-use Rattle.records.specs.Record.{named, first, flagsRead, dataRead, upTo, recordRead}
-use Rattle.records.specs.declared.area.Area.the-variants as area
+use Rattle.records_spec.proofs.RoundTrip.{round-trip}
+use Rattle.records_spec.specs.Area.{cut, reads, withFirst, areaOf, readArea, clean, rewritten}
+use Rattle.records_spec.specs.Record.{first, flagsRead, dataRead, upTo, recordRead}
+use Rattle.flags.specs.Flags.{named}
+use Rattle.records_spec.specs.declared.area.Area.the-variants as area
 use Rattle.advertising.specs.Builders.{Builds, Builders, Directed, Writing, Examples}
-use Rattle.advertising.specs.Pdu.{outcomeNumber, requestOf, connectRequest, byType, decodeBy}
+use Rattle.advertising.specs.Pdu.{requestOf, connectRequest, byType, decodeBy}
+use Rattle.octets.specs.Error.{outcomeNumber}
 use Rattle.advertising.specs.PduBuf.{headerFor, bufOf, refusedBuf, afterReading, withRecords, builtOf, flagsRecord, payloadOf}
-use Rattle.advertising.specs.declared.pdu.Outcome.the-variants.{Accepted}
+use Rattle.octets.specs.declared.error.Outcome.the-variants.{Accepted}
 use Rattle.advertising.specs.declared.pdu_buf.Built.{Built}
 use Rattle.advertising.specs.declared.pdu_buf.PduBuf.{PduBuf}
 use Rattle.advertising.proofs.Building.{building, enough-space}

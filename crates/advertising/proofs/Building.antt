@@ -23,16 +23,16 @@ use Rattle.addresses.specs.declared.header.PduType.the-variants.{AdvInd, AdvDir
 use Rattle.octets.proofs.Places.{enough}
 use Rattle.octets.specs.declared.error.Error.{Error}
 use Rattle.octets.specs.declared.error.Error.the-variants.{Eof}
-use Rattle.records.proofs.Accepted.{decided}
-use Rattle.records.proofs.RoundTrip.{round-trip}
-use Rattle.records.specs.Accepted.{Tiling, Verdict}
-use Rattle.records.specs.Area.{readArea, rewritten}
-use Rattle.records.specs.declared.area.Area.the-variants as area
+use Rattle.records_spec.proofs.Accepted.{decided}
+use Rattle.records_spec.proofs.RoundTrip.{round-trip}
+use Rattle.records_spec.specs.Accepted.{Tiling, Verdict}
+use Rattle.records_spec.specs.Area.{readArea, rewritten}
+use Rattle.records_spec.specs.declared.area.Area.the-variants as area
 use Rattle.advertising.specs.Laws.{Figure, with-records, two-addresses, ReadsBack, Building}
 use Rattle.advertising.specs.Pdu.{undirectedFigure, noRequest, noAddress, noData, decodedAs, decodeOf}
 use Rattle.advertising.specs.PduBuf.{padded, headerFor, bufOf, refusedBuf, afterReading, withRecords, builtOf, builtDirected, flagsRecord, payloadOf}
 use Rattle.advertising.specs.declared.pdu.AdvData.{AdvData}
-use Rattle.advertising.specs.declared.pdu.Outcome.the-variants.{Accepted}
+use Rattle.octets.specs.declared.error.Outcome.the-variants.{Accepted}
 use Rattle.advertising.specs.declared.pdu_buf.Built.{Built}
 use Rattle.advertising.proofs.Accepting.{accepting}
 use Rattle.advertising.proofs.Buffers.{room}

@@ -3,7 +3,7 @@ use mathlib.Core.Path.{refl}
 use Prim.Native.Nat.{zero, suc}
 use native.Mathlib.Omega.{arith}
 use Rattle.addresses.specs.Header.{pduType}
-use Rattle.records.specs.Area.{cut, reads, areaOf, readArea}
+use Rattle.records_spec.specs.Area.{cut, reads, areaOf, readArea}
 use Rattle.advertising.specs.Laws.{Example, Accuracies, WindowEnd}
 use Rattle.advertising.specs.Pdu.{requestOf, withArea, undirected, connectRequest, byType, decodeBy}
 

@@ -5,5 +5,4 @@ pub mod Building
 pub mod Examples
 pub mod Figures
 pub mod Padded
-pub mod Ranges
 pub mod Refusals

@@ -11,14 +11,15 @@ use borrow.Author.Tests.{le-ltb, lt-ltb, leb-true, leb-false, le-leb, lt-leb, eq
 use Rattle.octets.proofs.Places.{both-true, enough}
 use Rattle.octets.specs.declared.error.Error.{Error}
 use Rattle.octets.specs.declared.error.Error.the-variants.{Eof, InvalidLength}
-use Rattle.records.proofs.Padded.{differs, without-size, before, took}
-use Rattle.records.specs.Area.{cut, reads, withFirst, areaOf, readArea}
-use Rattle.records.specs.Padding.{beforeZero, unpadded, isZeros, endedBy, readPadded, areaIn}
-use Rattle.records.specs.Record.{named, flagsRead, uuidsRead, dataRead, upTo, recordRead, first}
-use Rattle.records.specs.declared.area.Area.{Area}
-use Rattle.records.specs.declared.area.Area.the-variants as area
-use Rattle.records.specs.declared.area.PaddedArea.{PaddedArea}
-use Rattle.records.specs.declared.area.PaddedArea.the-variants as padded
+use Rattle.records_spec.proofs.Padded.{differs, without-size, before, took}
+use Rattle.records_spec.specs.Area.{cut, reads, withFirst, areaOf, readArea}
+use Rattle.records_spec.specs.Padding.{beforeZero, unpadded, isZeros, endedBy, readPadded, areaIn}
+use Rattle.records_spec.specs.Record.{flagsRead, uuidsRead, dataRead, upTo, recordRead, first}
+use Rattle.flags.specs.Flags.{named}
+use Rattle.records_spec.specs.declared.area.Area.{Area}
+use Rattle.records_spec.specs.declared.area.Area.the-variants as area
+use Rattle.records_spec.specs.declared.area.PaddedArea.{PaddedArea}
+use Rattle.records_spec.specs.declared.area.PaddedArea.the-variants as padded
 use Rattle.addresses.specs.Header.{pduType, typeOf, lengthOf, allowsAdvData}
 use Rattle.addresses.specs.declared.header.Header.{Header}
 use Rattle.addresses.specs.declared.header.PduType.{PduType}
@@ -28,7 +29,7 @@ use Rattle.advertising.specs.Padded.{Heard, Alike, PaddedRows}
 use Rattle.advertising.specs.Pdu.{Reading, senderOf, noAddress, noRequest, noData, dataIn, decodedAs, refusedPdu, withArea, undirected, directed, connectRequest, requestOf, byType, decodeBy, decodeOf, hasArea, asHub, heardOf, octetsTaken, paddedOf}
 use Rattle.advertising.specs.declared.pdu.AdvData.{AdvData}
 use Rattle.advertising.specs.declared.pdu.Decoded.{Decoded}
-use Rattle.advertising.specs.declared.pdu.Outcome.the-variants.{Accepted, Refused}
+use Rattle.octets.specs.declared.error.Outcome.the-variants.{Accepted, Refused}
 use Rattle.advertising.specs.declared.pdu.Padded.{Padded}
 
 -- what is heard, and how many octets the records took

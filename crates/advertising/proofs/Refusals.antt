@@ -14,13 +14,14 @@ use Rattle.addresses.specs.declared.header.Header.{Header}
 use Rattle.addresses.specs.declared.header.PduType.{PduType}
 use Rattle.addresses.specs.declared.header.PduType.the-variants.{AdvInd, AdvDirectInd, AdvNonconnInd, AdvScanInd, ScanReq, ScanRsp, ConnectReq, Unknown}
 use Rattle.octets.proofs.Places.{enough, too-few}
-use Rattle.octets.specs.Error.{numberOf}
+use Rattle.octets.specs.Error.{numberOf, outcomeNumber}
 use Rattle.octets.specs.declared.error.Error.{Error}
-use Rattle.records.specs.Area.{cut, reads, withFirst, areaOf, readArea}
-use Rattle.records.specs.Record.{named, first, flagsRead, dataRead, upTo, recordRead}
-use Rattle.records.specs.declared.area.Area.{Area}
-use Rattle.records.specs.declared.area.Area.the-variants as area
-use Rattle.advertising.specs.Pdu.{outcomeNumber, requestOf, withArea, undirected, directed, connectRequest, byType, decodeBy, decodeOf}
+use Rattle.records_spec.specs.Area.{cut, reads, withFirst, areaOf, readArea}
+use Rattle.records_spec.specs.Record.{first, flagsRead, dataRead, upTo, recordRead}
+use Rattle.flags.specs.Flags.{named}
+use Rattle.records_spec.specs.declared.area.Area.{Area}
+use Rattle.records_spec.specs.declared.area.Area.the-variants as area
+use Rattle.advertising.specs.Pdu.{requestOf, withArea, undirected, directed, connectRequest, byType, decodeBy, decodeOf}
 use Rattle.advertising.specs.Refusals.{numberFor, needed, Among, Order, FromBytes, Rows}
 use Rattle.advertising.specs.declared.pdu.Decoded.{Decoded}
 use Rattle.advertising.proofs.Accepting.{arm-undirected}

@@ -17,12 +17,13 @@ use Rattle.octets.specs.Bytes.{leBytes}
 use Rattle.octets.specs.declared.bytes.Written.the-variants as written
 use Rattle.octets.specs.declared.error.Error.{Error}
 use Rattle.octets.specs.declared.error.Error.the-variants.{Eof}
-use Rattle.records.specs.Area.{readArea, rewritten}
-use Rattle.records.specs.declared.area.Area.the-variants as area
+use Rattle.records_spec.specs.Area.{readArea, rewritten}
+use Rattle.records_spec.specs.declared.area.Area.the-variants as area
 use Rattle.advertising.specs.Laws.{nine, row, counted}
-use Rattle.advertising.specs.Pdu.{windowEnd, hasReceiver, dataIn, outcomeNumber}
+use Rattle.advertising.specs.Pdu.{windowEnd, hasReceiver, dataIn}
+use Rattle.octets.specs.Error.{outcomeNumber}
 use Rattle.advertising.specs.PduBuf.{emptyBuf, connectablePdu, nonconnectablePdu, scannablePdu, beaconPdu, discoverablePdu, scanResponsePdu, builtDirected, payloadOf, payloadTo, payloadAfter}
-use Rattle.advertising.specs.declared.pdu.Outcome.the-variants.{Accepted, Refused}
+use Rattle.octets.specs.declared.error.Outcome.the-variants.{Accepted, Refused}
 use Rattle.advertising.specs.declared.pdu_buf.Built.{Built}
 use Rattle.advertising.specs.declared.pdu_buf.PduBuf.{PduBuf}
 

@@ -23,14 +23,14 @@ use Rattle.channels.specs.Map.{fromRaw}
 use Rattle.octets.specs.Bytes.{le}
 use Rattle.octets.specs.declared.error.Error.{Error}
 use Rattle.octets.specs.declared.error.Error.the-variants.{Eof}
-use Rattle.records.specs.Area.{readArea, rewritten}
-use Rattle.records.specs.declared.area.Area.the-variants as area
+use Rattle.records_spec.specs.Area.{readArea, rewritten}
+use Rattle.records_spec.specs.declared.area.Area.the-variants as area
 use Rattle.advertising.specs.Pdu.{undirectedFigure, directedFigure, connectFigure, accuracyOf, windowEnd, noRequest, noAddress, noData, dataIn, dataPlace, decodedAs, Reading, decodeOf, asHub, heardOf}
 use Rattle.advertising.specs.PduBuf.{headerFor, refusedBuf, builtOf, builtDirected, flagsRecord, payloadOf}
 use Rattle.advertising.specs.declared.pdu.AdvData.{AdvData}
 use Rattle.advertising.specs.declared.pdu.ConnectRequestData.{ConnectRequestData}
 use Rattle.advertising.specs.declared.pdu.Decoded.{Decoded}
-use Rattle.advertising.specs.declared.pdu.Outcome.the-variants.{Accepted}
+use Rattle.octets.specs.declared.error.Outcome.the-variants.{Accepted}
 use Rattle.advertising.specs.declared.pdu.SleepClockAccuracy.{SleepClockAccuracy}
 use Rattle.advertising.specs.declared.pdu.SleepClockAccuracy.the-variants.{Ppm251To500, Ppm151To250, Ppm101To150, Ppm76To100, Ppm51To75, Ppm31To50, Ppm21To30, Ppm0To20}
 use Rattle.advertising.specs.declared.pdu_buf.PduBuf.{PduBuf}

@@ -4,4 +4,3 @@ pub mod Padded
 pub mod Pdu
 pub mod PduBuf
 pub mod Refusals
-pub mod Settings

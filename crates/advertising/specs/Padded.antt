@@ -12,12 +12,13 @@ use Rattle.addresses.specs.Header.{headerOf, typeOf, txAdd, lengthOf, allowsAdv
 use Rattle.addresses.specs.declared.header.Header.{Header}
 use Rattle.octets.specs.declared.error.Error.{Error}
 use Rattle.octets.specs.declared.error.Error.the-variants.{Eof, InvalidLength}
-use Rattle.records.specs.Padded.{ZeroLength}
-use Rattle.records.specs.Padding.{readPadded}
-use Rattle.records.specs.declared.area.PaddedArea.the-variants as padded
+use Rattle.records_spec.specs.Padded.{ZeroLength}
+use Rattle.records_spec.specs.Padding.{readPadded}
+use Rattle.records_spec.specs.declared.area.PaddedArea.the-variants as padded
 use Rattle.advertising.specs.Laws.{nine}
-use Rattle.advertising.specs.Pdu.{noAddress, noRequest, outcomeNumber, decodedAs, refusedPdu, decodeOf, heardOf, paddedOf}
-use Rattle.advertising.specs.declared.pdu.Outcome.the-variants.{Accepted, Refused}
+use Rattle.advertising.specs.Pdu.{noAddress, noRequest, decodedAs, refusedPdu, decodeOf, heardOf, paddedOf}
+use Rattle.octets.specs.Error.{outcomeNumber}
+use Rattle.octets.specs.declared.error.Outcome.the-variants.{Accepted, Refused}
 
 -- "how many octets the records took" beside the sender, the whole area and the number of records
 pub record Heard (h : Header) (p : List ℕ) : Type 0 where

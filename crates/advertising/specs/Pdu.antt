@@ -15,7 +15,6 @@
 --   senderOf h p, receiverOf h p   == the first and the second address
 --   hasReceiver ty            == a type with a second address
 --   dataIn d p                == the part of a payload where records lie, and dataPlace d p where that part lies
---   isAccepted o              == an outcome that is no refusal; outcomeNumber o: its number in document 01, 0 where it is none
 --   decodedAs o ty s r d l    == an answer, with all that it says
 --   refusedPdu e              == the refusal e, with an empty PDU
 --   undirected, directed, connectRequest   == the answer by type, once the length agrees
@@ -35,14 +34,14 @@ use lib.ListN.{length, getD, take, drop}
 use denote.Ref.{RefT}
 use Rattle.channels.specs.Map.{fromRaw}
 use Rattle.octets.specs.Bytes.{part, partOr, partPlace, le}
-use Rattle.octets.specs.Error.{numberOf}
+use Rattle.octets.specs.Error.{isAccepted}
 use Rattle.octets.specs.Time.{later}
 use Rattle.octets.specs.declared.error.Error.{Error}
 use Rattle.octets.specs.declared.error.Error.the-variants.{Eof, InvalidLength, InvalidValue}
-use Rattle.records.specs.Area.{readArea}
-use Rattle.records.specs.Padding.{unpadded, readPadded, areaIn}
-use Rattle.records.specs.declared.area.Area.{Area}
-use Rattle.records.specs.declared.area.Area.the-variants as area
+use Rattle.records_spec.specs.Area.{readArea}
+use Rattle.records_spec.specs.Padding.{unpadded, readPadded, areaIn}
+use Rattle.records_spec.specs.declared.area.Area.{Area}
+use Rattle.records_spec.specs.declared.area.Area.the-variants as area
 use Rattle.addresses.specs.Address.{kindOf, addressOf}
 use Rattle.addresses.specs.Header.{typeOf, txAdd, rxAdd, lengthOf, allowsAdvData}
 use Rattle.addresses.specs.declared.device_address.AddressKind.the-variants.{Public}
@@ -55,8 +54,8 @@ use Rattle.addresses.specs.declared.header.PduType.the-variants.{AdvInd, AdvDir
 use Rattle.advertising.specs.declared.pdu.AdvData.{AdvData}
 use Rattle.advertising.specs.declared.pdu.ConnectRequestData.{ConnectRequestData}
 use Rattle.advertising.specs.declared.pdu.Decoded.{Decoded}
-use Rattle.advertising.specs.declared.pdu.Outcome.{Outcome}
-use Rattle.advertising.specs.declared.pdu.Outcome.the-variants.{Accepted, Refused}
+use Rattle.octets.specs.declared.error.Outcome.{Outcome}
+use Rattle.octets.specs.declared.error.Outcome.the-variants.{Accepted, Refused}
 use Rattle.advertising.specs.declared.pdu.Padded.{Padded}
 use Rattle.advertising.specs.declared.pdu.SleepClockAccuracy.{SleepClockAccuracy}
 use Rattle.advertising.specs.declared.pdu.SleepClockAccuracy.the-variants.{Ppm251To500, Ppm151To250, Ppm101To150, Ppm76To100, Ppm51To75, Ppm31To50, Ppm21To30, Ppm0To20}
@@ -151,14 +150,6 @@ dataIn d p = partOr (d .len) p (d .start)
 
 abbrev pub dataPlace : AdvData → RefT (List ℕ) → ℕ × ℕ
 dataPlace d p = partPlace (d .len) p (d .start)
-
-abbrev pub isAccepted : Outcome → Bool
-isAccepted Accepted = true
-isAccepted (Refused e) = false
-
-abbrev pub outcomeNumber : Outcome → ℕ
-outcomeNumber Accepted = 0
-outcomeNumber (Refused e) = numberOf e
 
 abbrev pub decodedAs : Outcome → PduType → DeviceAddress → DeviceAddress → AdvData → ConnectRequestData → Decoded
 decodedAs outcome ty sender receiver records lldata =

@@ -13,15 +13,15 @@ use Prim.Native.Nat.{ℕ, _+_, _*_, _/_, _%_, _≤_, _<_}
 use lib.ListN.{length, getD, drop, replicate}
 use Rattle.addresses.specs.Header.{headerOf, headerRead}
 use Rattle.octets.specs.Bytes.{u16Read}
-use Rattle.octets.specs.Error.{numberOf}
+use Rattle.octets.specs.Error.{numberOf, outcomeNumber}
 use Rattle.octets.specs.declared.error.Error.{Error}
 use Rattle.octets.specs.declared.error.Error.the-variants.{Eof, InvalidLength, InvalidValue}
-use Rattle.records.specs.Area.{readArea}
-use Rattle.records.specs.declared.area.Area.the-variants as area
+use Rattle.records_spec.specs.Area.{readArea}
+use Rattle.records_spec.specs.declared.area.Area.the-variants as area
 use Rattle.advertising.specs.Laws.{nine}
-use Rattle.advertising.specs.Pdu.{outcomeNumber, decodeOf, decodedAt}
+use Rattle.advertising.specs.Pdu.{decodeOf, decodedAt}
 use Rattle.advertising.specs.declared.pdu.Decoded.{Decoded}
-use Rattle.advertising.specs.declared.pdu.Outcome.the-variants.{Accepted, Refused}
+use Rattle.octets.specs.declared.error.Outcome.the-variants.{Accepted, Refused}
 
 abbrev pub numberFor : ℕ → List ℕ → ℕ
 numberFor n p = outcomeNumber (decodeOf (headerOf n) p .outcome)

@@ -1,4 +1,3 @@
-// Packets on the advertising channels: PDUs read and built, and the settings of connections.
+// Packets on the advertising channels: PDUs read and built.
 pub mod pdu;
 pub mod pdu_buf;
-pub mod settings;

@@ -1,13 +1,14 @@
 // Advertising channel PDUs, read. Their payloads are drawn in specs/Pdu.antt.
 ghost use mathlib.Core.Path.{_≡_};
 ghost use Prim.Native.Nat.{_+_, _*_, _≤_};
-ghost use lib.ListN.{length};
+ghost use lib.ListN.{length, replicate};
+ghost use mathlib.Core.List.{_++_};
 ghost use Rattle.octets.specs.Bytes.{part, le, u16Read};
 ghost use mathlib.Core.Bool.{true};
 ghost use Rattle.addresses.specs.Header.{headerRead};
-ghost use Rattle.records.specs.Area.{readArea};
+ghost use Rattle.records_spec.specs.Area.{readArea};
 ghost use Rattle.addresses.specs.Address.{kindOf, addressOf};
-ghost use Rattle.advertising.specs.Pdu.{accuracyOf, requestOf, noRequest, noAddress, noData, windowEnd, hasReceiver, dataIn, dataPlace, outcomeNumber, decodedAs, refusedPdu, withArea, undirected, directed, connectRequest, decodeOf, decodedAt, hasArea, paddedOf};
+ghost use Rattle.advertising.specs.Pdu.{accuracyOf, requestOf, noRequest, noAddress, noData, windowEnd, hasReceiver, dataIn, dataPlace, decodedAs, refusedPdu, withArea, undirected, directed, connectRequest, decodeOf, decodedAt, hasArea, paddedOf};
 use addresses::device_address::AddressKind;
 use addresses::device_address::DeviceAddress;
 use addresses::header::Header;
@@ -15,10 +16,12 @@ use addresses::header::HeaderRead;
 use addresses::header::PduType;
 use channels::channel_map::ChannelMap;
 use octets::bytes::ByteReader;
+use octets::bytes::ByteWriter;
 use octets::bytes::part_of;
 use octets::bytes::u16_from_le_bytes;
 use octets::bytes::u32_from_le_bytes;
 use octets::error::Error;
+use octets::error::Outcome;
 use records::area::Area;
 use records::area::PaddedArea;
 use records::area::read_area;
@@ -50,24 +53,6 @@ impl AdvData {
         ensures { λ r. ⌜ (r .ptr ≡ dataPlace self (payload .entry)) × (now r ≡ dataIn self (now (payload .entry))) ⌝ }
     {
         part_of(payload, self.start, self.len)
-    }
-}
-
-// Whether a PDU was read or built, or why not.
-pub enum Outcome {
-    Accepted,
-    Refused(Error),
-}
-
-impl Outcome {
-    // The refusal's number (document 01), 0 where there is none.
-    pub fn number(self) -> u8
-        ensures { λ r. ⌜ r ≡ outcomeNumber self ⌝ }
-    {
-        match self {
-            Outcome::Accepted => 0,
-            Outcome::Refused(e) => e.number(),
-        }
     }
 }
 
@@ -365,6 +350,16 @@ pub struct ConnectRequestData {
 }
 
 impl ConnectRequestData {
+    // The connection parameters of the 22 octets that follow a connect request's two addresses.
+    pub fn from_octets(octets: [u8; 22]) -> ConnectRequestData
+        ensures { λ r. ⌜ r ≡ requestOf (replicate 12 0 ++ octets) ⌝ }
+    {
+        // The addresses are no part of them: zeros stand in their place.
+        let mut payload = [0u8; 34];
+        ByteWriter { at: 12 }.write_slice(&mut payload, &octets);
+        read_request(&payload)
+    }
+
     // AA: the address of this connection's packets.
     pub fn access_address(self) -> u32
         ensures { λ r. ⌜ r ≡ self .«access_address» ⌝ }
@@ -446,7 +441,7 @@ impl ConnectRequestData {
 }
 
 // The connection parameters of a whole connect request.
-pub(crate) fn read_request(payload: &[u8]) -> ConnectRequestData
+fn read_request(payload: &[u8]) -> ConnectRequestData
     requires { ⌜ 34 ≤ length (now payload) ⌝ }
     ensures { λ r. ⌜ r ≡ requestOf (now (payload .entry)) ⌝ }
 {

@@ -4,9 +4,8 @@ ghost use mathlib.Core.List.{[], _++_};
 ghost use Prim.Native.Nat.{_+_, _≤_};
 ghost use lib.ListN.{length, take, drop};
 ghost use Rattle.octets.specs.Bytes.{outAfter};
-ghost use Rattle.records.specs.Area.{rewrittenTo, rewrittenAfter};
+ghost use Rattle.records_spec.specs.Area.{rewrittenTo, rewrittenAfter};
 ghost use Rattle.advertising.specs.PduBuf.{padded, headerFor, emptyBuf, refusedBuf, withRecords, builtOf, connectablePdu, nonconnectablePdu, scannablePdu, beaconPdu, discoverablePdu, scanResponsePdu, builtDirected, payloadTo, payloadAfter};
-use crate::pdu::Outcome;
 use addresses::device_address::DeviceAddress;
 use addresses::header::Header;
 use addresses::header::HeaderMade;
@@ -15,6 +14,7 @@ use octets::bytes::ByteWriter;
 use octets::bytes::Written;
 use octets::bytes::least;
 use octets::error::Error;
+use octets::error::Outcome;
 use records::ad_structure::Flags;
 use records::area::rewrite_area;
 

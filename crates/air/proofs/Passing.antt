@@ -7,9 +7,10 @@ use native.Mathlib.Omega.{arith}
 use lib.ListN.{length, take, drop, length-append}
 use lib.Seq.{take-at}
 use Rattle.octets.specs.Bytes.{le, leBytes}
-use Rattle.records.specs.Area.{cut, reads, withFirst, areaOf, readArea, clean, rewritten}
-use Rattle.records.specs.Record.{named, first, flagsRead, dataRead, upTo, recordRead}
-use Rattle.records.specs.declared.area.Area.the-variants as area
+use Rattle.records_spec.specs.Area.{cut, reads, withFirst, areaOf, readArea, clean, rewritten}
+use Rattle.records_spec.specs.Record.{first, flagsRead, dataRead, upTo, recordRead}
+use Rattle.flags.specs.Flags.{named}
+use Rattle.records_spec.specs.declared.area.Area.the-variants as area
 use Rattle.addresses.specs.Address.{kindNumber}
 use Rattle.addresses.specs.Header.{headerOf, headerOctets}
 use Rattle.addresses.specs.declared.device_address.AddressKind.{AddressKind}
@@ -18,14 +19,14 @@ use Rattle.addresses.specs.declared.device_address.DeviceAddress.{DeviceAddress
 use Rattle.addresses.specs.declared.header.Header.{Header}
 use Rattle.advertising.proofs.Builders.{builders}
 use Rattle.advertising.specs.Builders.{asSent}
-use Rattle.advertising.specs.Pdu.{isAccepted, dataIn, decodeOf}
+use Rattle.advertising.specs.Pdu.{dataIn, decodeOf}
+use Rattle.octets.specs.Error.{isAccepted}
 use Rattle.advertising.specs.PduBuf.{bufOf, afterReading, withRecords, beaconPdu, payloadOf}
-use Rattle.advertising.specs.declared.pdu.Outcome.{Outcome}
-use Rattle.beacon.proofs.Broadcasts.{broadcasting}
-use Rattle.beacon.specs.Scanner.{scanned}
-use Rattle.beacon.specs.Sending.{beaconOf}
-use Rattle.beacon.specs.declared.beacon.Beacon.{Beacon}
-use Rattle.beacon.specs.declared.beacon.Made.{Made}
+use Rattle.octets.specs.declared.error.Outcome.{Outcome}
+use Rattle.beacon_spec.proofs.Broadcasts.{broadcasting}
+use Rattle.beacon_spec.specs.Scanner.{scanned}
+use Rattle.beacon_spec.specs.Sending.{beaconOf}
+use Rattle.beacon_spec.specs.State.{Beacon, Made}
 use Rattle.whitening.proofs.Errors.{crcOctets-length}
 use Rattle.whitening.proofs.Heard.{hears}
 use Rattle.whitening.proofs.Whitens.{whitens}

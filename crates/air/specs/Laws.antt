@@ -10,8 +10,8 @@ use mathlib.Core.Path.{_≡_}
 use Prim.Native.Nat.{ℕ, _+_, _-_, _≤_, _<_, _^_}
 use lib.ListN.{length, take, drop}
 use Rattle.octets.specs.Bytes.{le}
-use Rattle.records.specs.Area.{readArea, rewritten}
-use Rattle.records.specs.declared.area.Area.the-variants as area
+use Rattle.records_spec.specs.Area.{readArea, rewritten}
+use Rattle.records_spec.specs.declared.area.Area.the-variants as area
 use Rattle.addresses.specs.Header.{headerOf, headerOctets}
 use Rattle.addresses.specs.declared.device_address.DeviceAddress.{DeviceAddress}
 use Rattle.addresses.specs.declared.header.Header.{Header}
@@ -19,12 +19,12 @@ use Rattle.addresses.specs.declared.header.PduType.the-variants.{AdvNonconnInd}
 use Rattle.advertising.specs.Builders.{anAddress, asSent}
 use Rattle.advertising.specs.Pdu.{noRequest, noAddress, dataIn, decodedAs, decodeOf}
 use Rattle.advertising.specs.declared.pdu.AdvData.{AdvData}
-use Rattle.advertising.specs.declared.pdu.Outcome.the-variants as outcome
-use Rattle.beacon.specs.Laws.{Lets}
-use Rattle.beacon.specs.Scanner.{scanned}
-use Rattle.beacon.specs.Sending.{beaconOf}
-use Rattle.beacon.specs.declared.beacon.BeaconScanner.{BeaconScanner}
-use Rattle.beacon.specs.declared.beacon.Report.the-variants as report
+use Rattle.octets.specs.declared.error.Outcome.the-variants as outcome
+use Rattle.beacon_spec.specs.Laws.{Lets}
+use Rattle.beacon_spec.specs.Scanner.{scanned}
+use Rattle.beacon_spec.specs.Sending.{beaconOf}
+use Rattle.beacon_spec.specs.State.{BeaconScanner}
+use Rattle.beacon_spec.specs.declared.beacon.Report.the-variants as report
 use Rattle.whitening.specs.Crc.{crcOctets}
 use Rattle.whitening.specs.Packet.{startOn, flagOf}
 use Rattle.whitening.specs.Whitening.{whitened}

@@ -3,7 +3,8 @@
 use Prim.Native.Nat.{ℕ}
 use Rattle.addresses.specs.Address.{isRandom}
 use Rattle.addresses.specs.Header.{typeCode}
-use Rattle.advertising.specs.Pdu.{windowEnd, hasReceiver, outcomeNumber}
+use Rattle.advertising.specs.Pdu.{windowEnd, hasReceiver}
+use Rattle.octets.specs.Error.{outcomeNumber}
 use Rattle.advertising.specs.declared.pdu.Decoded.{Decoded}
 use Rattle.advertising.specs.declared.pdu.SleepClockAccuracy.{SleepClockAccuracy}
 use Rattle.advertising.specs.declared.pdu.SleepClockAccuracy.the-variants.{Ppm251To500, Ppm151To250, Ppm101To150, Ppm76To100, Ppm51To75, Ppm31To50, Ppm21To30, Ppm0To20}

@@ -8,19 +8,20 @@ use Prim.Native.Nat.{ℕ, _%_}
 use lib.Dec.{eqb}
 use Rattle.octets.specs.Error.{numberOf}
 use Rattle.octets.specs.declared.error.Error.{Error}
-use Rattle.records.specs.Record.{named, bit, knownRead}
-use Rattle.records.specs.declared.ad_structure.AdStructure.{AdStructure}
-use Rattle.records.specs.declared.ad_structure.AdStructure.the-variants as ad
-use Rattle.records.specs.declared.ad_structure.NextUuid16.{NextUuid16}
-use Rattle.records.specs.declared.ad_structure.NextUuid16.the-variants as uuid
-use Rattle.records.specs.declared.ad_structure.Parsed.{Parsed}
-use Rattle.records.specs.declared.ad_structure.Parsed.the-variants as parsed
-use Rattle.records.specs.declared.ad_structure.Read.{Read}
-use Rattle.records.specs.declared.ad_structure.Read.the-variants as read
-use Rattle.records.specs.declared.area.Area.{Area}
-use Rattle.records.specs.declared.area.Area.the-variants as area
-use Rattle.records.specs.declared.area.PaddedArea.{PaddedArea}
-use Rattle.records.specs.declared.area.PaddedArea.the-variants as padded
+use Rattle.records_spec.specs.Record.{knownRead}
+use Rattle.flags.specs.Flags.{named, bit}
+use Rattle.records_spec.specs.declared.ad_structure.AdStructure.{AdStructure}
+use Rattle.records_spec.specs.declared.ad_structure.AdStructure.the-variants as ad
+use Rattle.records_spec.specs.declared.ad_structure.NextUuid16.{NextUuid16}
+use Rattle.records_spec.specs.declared.ad_structure.NextUuid16.the-variants as uuid
+use Rattle.records_spec.specs.declared.ad_structure.Parsed.{Parsed}
+use Rattle.records_spec.specs.declared.ad_structure.Parsed.the-variants as parsed
+use Rattle.records_spec.specs.declared.ad_structure.Read.{Read}
+use Rattle.records_spec.specs.declared.ad_structure.Read.the-variants as read
+use Rattle.records_spec.specs.declared.area.Area.{Area}
+use Rattle.records_spec.specs.declared.area.Area.the-variants as area
+use Rattle.records_spec.specs.declared.area.PaddedArea.{PaddedArea}
+use Rattle.records_spec.specs.declared.area.PaddedArea.the-variants as padded
 use Rattle.answers.specs.Got.{found, refusedAs}
 use Rattle.basics.specs.declared.areas.FlagsSaid.{FlagsSaid}
 use Rattle.basics.specs.declared.areas.Structure.{Structure}

@@ -6,8 +6,8 @@ use mathlib.Core.List.{[], _∷_, map}
 use mathlib.Core.Path.{_≡_}
 use Rattle.octets.specs.Error.{numberOf}
 use Rattle.octets.specs.declared.error.Error.the-variants.{Eof, InvalidLength, NoName}
-use Rattle.names.specs.declared.NamePlace.{NamePlace}
-use Rattle.names.specs.declared.NamePlace.the-variants.{InReply, InAdvertisement, Refused}
+use Rattle.names_spec.specs.declared.NamePlace.{NamePlace}
+use Rattle.names_spec.specs.declared.NamePlace.the-variants.{InReply, InAdvertisement, Refused}
 use Rattle.basics.specs.declared.name.NameSaid.{NameSaid}
 
 abbrev pub nameSaid : NamePlace → NameSaid

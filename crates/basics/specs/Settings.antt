@@ -6,11 +6,11 @@ use mathlib.Core.List.{[], _∷_}
 use mathlib.Core.Path.{_≡_}
 use Rattle.octets.specs.Error.{numberOf}
 use Rattle.octets.specs.declared.error.Error.the-variants.{EmptyMap, OutOfRange}
-use Rattle.advertising.specs.Settings.{settingsAs, refusedSettings}
-use Rattle.advertising.specs.declared.pdu.Outcome.{Outcome}
-use Rattle.advertising.specs.declared.pdu.Outcome.the-variants.{Accepted, Refused}
-use Rattle.advertising.specs.declared.settings.ConnectionSettings.{ConnectionSettings}
-use Rattle.advertising.specs.declared.settings.Taken.{Taken}
+use Rattle.settings.specs.Settings.{settingsAs, refusedSettings}
+use Rattle.octets.specs.declared.error.Outcome.{Outcome}
+use Rattle.octets.specs.declared.error.Outcome.the-variants.{Accepted, Refused}
+use Rattle.settings.specs.declared.ConnectionSettings.{ConnectionSettings}
+use Rattle.settings.specs.declared.Taken.{Taken}
 use Rattle.basics.specs.declared.setting.SettingsSaid.{SettingsSaid}
 
 abbrev pub saidOf : ConnectionSettings → SettingsSaid

@@ -1,11 +1,11 @@
 // Records and areas, read and written.
 ghost use mathlib.Core.Path.{_≡_};
 ghost use Prim.Native.Nat.{_%_};
-ghost use Rattle.records.specs.Area.{readArea, rewrittenTo, rewrittenAfter};
-ghost use Rattle.records.specs.Padding.{readPadded};
-ghost use Rattle.records.specs.Record.{recordAt};
-ghost use Rattle.records.specs.Uuids.{uuid16At};
-ghost use Rattle.records.specs.Write.{writtenTo, writtenAfter};
+ghost use Rattle.records_spec.specs.Area.{readArea, rewrittenTo, rewrittenAfter};
+ghost use Rattle.records_spec.specs.Padding.{readPadded};
+ghost use Rattle.records_spec.specs.Record.{recordAt};
+ghost use Rattle.records_spec.specs.Uuids.{uuid16At};
+ghost use Rattle.records_spec.specs.Write.{writtenTo, writtenAfter};
 ghost use Rattle.answers.specs.Got.{writtenGot};
 ghost use Rattle.basics.specs.Areas.{said, structureIn, areaGot, paddedGot, uuidGot, structureSaid, refusedSaid, parsedSaid, readSaid, knownSaid, flagsSaid};
 use answers::got::Got;

@@ -1,6 +1,6 @@
 // Filters, and the Flags that have a name.
 ghost use mathlib.Core.Path.{_≡_};
-ghost use Rattle.records.specs.Flags.{discoverableFlags, broadcastFlags};
+ghost use Rattle.flags.specs.Flags.{discoverableFlags, broadcastFlags};
 ghost use Rattle.addresses.specs.Address.{kindOf, addressOf};
 ghost use Rattle.addresses.specs.Filter.{matchesOf, advFilterOf, mayScan, mayConnect, shouldScan};
 ghost use Rattle.addresses.specs.declared.filter.AddressFilter.the-variants.{Whitelist};

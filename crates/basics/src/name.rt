@@ -1,6 +1,6 @@
 // The player's name in an advertisement and in the reply to it.
 ghost use mathlib.Core.Path.{_≡_};
-ghost use Rattle.names.specs.Name.{nameOf};
+ghost use Rattle.names_spec.specs.Name.{nameOf};
 ghost use Rattle.basics.specs.Names.{nameSaid};
 use names::NamePlace;
 use names::find_name;

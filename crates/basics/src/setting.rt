@@ -1,9 +1,9 @@
 // The settings of a connect request.
 ghost use mathlib.Core.Path.{_≡_};
-ghost use Rattle.advertising.specs.Settings.{aloneOf};
+ghost use Rattle.settings.specs.Settings.{aloneOf};
 ghost use Rattle.basics.specs.Settings.{saidOf, settingsSaid};
-use advertising::pdu::Outcome;
-use advertising::settings::ConnectionSettings;
+use octets::error::Outcome;
+use settings::ConnectionSettings;
 
 // Counts of 1,250 µs, of 10 ms for the timeout, of events for the latency; zeros beside a refusal's number.
 #[repr(C)]

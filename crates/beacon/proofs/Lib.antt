@@ -1,5 +1,1 @@
-pub mod Broadcasts
-pub mod Filtering
-pub mod Reports
-pub mod Rows
-pub mod Runs
+pub mod Whole

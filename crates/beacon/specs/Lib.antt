@@ -1,3 +1,1 @@
-pub mod Laws
-pub mod Scanner
-pub mod Sending
+pub mod State

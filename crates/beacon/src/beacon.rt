@@ -2,24 +2,26 @@
 ghost use mathlib.Core.Path.{_≡_};
 ghost use Rattle.advertising.specs.Pdu.{dataIn, dataPlace};
 ghost use Rattle.advertising.specs.PduBuf.{payloadAfter};
-ghost use Rattle.beacon.specs.Sending.{beaconOf, broadcastOf};
-ghost use Rattle.beacon.specs.Scanner.{scannerOf, openScanner, listening, configured, timerUpdated, unreported, ofPadded, unfiltered, scanned, reportNumber, isReport};
+ghost use Rattle.beacon_spec.specs.Sending.{beaconOf, broadcastOf};
+ghost use Rattle.beacon_spec.specs.Scanner.{scannerOf, openScanner, listening, configured, timerUpdated, unreported, ofPadded, unfiltered, scanned, reportNumber, isReport};
+ghost use Rattle.beacon.specs.State.{beaconState, madeStep, scannerState, updateStep, scanStep};
 use addresses::device_address::DeviceAddress;
 use addresses::filter::AddressFilter;
 use addresses::filter::Matches;
 use addresses::filter::ScanFilter;
 use addresses::header::Header;
 use advertising::pdu::AdvData;
-use advertising::pdu::Outcome;
 use advertising::pdu::Padded;
 use advertising::pdu::Pdu;
 use advertising::pdu::no_address;
 use advertising::pdu::no_data;
 use advertising::pdu_buf::PduBuf;
+pub use beacon_spec::beacon::Broadcast;
+pub use beacon_spec::beacon::Cmd;
+pub use beacon_spec::beacon::Report;
 use channels::phy::AdvertisingChannel;
-use channels::phy::AllChannels;
 use octets::bytes::Written;
-use octets::error::Error;
+use octets::error::Outcome;
 use octets::time::Instant;
 
 // What is sent of a beacon: one PDU, built once.
@@ -33,16 +35,10 @@ pub struct Made {
     pub beacon: Beacon,
 }
 
-// What is transmitted of a beacon: its header, on each channel in turn, with the payload that was written once. Or why nothing is.
-pub enum Broadcast {
-    Transmit(Header, AllChannels),
-    Refused(Error),
-}
-
 impl Beacon {
     // A beacon of an address and records, which are lent encoded: at most 31 octets.
     pub fn new(addr: DeviceAddress, data: &[u8]) -> Made
-        ensures { λ r. ⌜ r ≡ beaconOf addr (now («data» .entry)) ⌝ }
+        ensures { λ r. ⌜ madeStep r ≡ beaconOf addr (now («data» .entry)) ⌝ }
     {
         let built = PduBuf::beacon(addr, data);
         let outcome = built.outcome;
@@ -63,7 +59,7 @@ impl Beacon {
 
     // Sends the beacon on 37, 38 and 39: the payload is written to the front of `tx`, or nothing where that is too short.
     pub fn broadcast(self, tx: &mut [u8]) -> Broadcast
-        ensures { λ r. ⌜ (r ≡ broadcastOf self (now (tx .entry))) × (now (tx .exit) ≡ payloadAfter (self .pdu) (now (tx .entry))) ⌝ }
+        ensures { λ r. ⌜ (r ≡ broadcastOf (beaconState self) (now (tx .entry))) × (now (tx .exit) ≡ payloadAfter (self .pdu) (now (tx .entry))) ⌝ }
     {
         let pdu = self.pdu;
         match pdu.write_payload(tx) {
@@ -81,47 +77,10 @@ pub struct BeaconScanner {
     channel: AdvertisingChannel,
 }
 
-// What the radio is to do: listen on a channel, until `timer_update` is called at the next instant.
-pub struct Cmd {
-    pub channel: AdvertisingChannel,
-    pub next_update: Instant,
-}
-
 // A scanner that listens, and what the radio is to do for it.
 pub struct Updated {
     pub scanner: BeaconScanner,
     pub cmd: Cmd,
-}
-
-// Whether a packet is reported, or the refusal of a malformed filter list.
-pub enum Report {
-    Beacon,
-    Nothing,
-    Refused(Error),
-}
-
-impl Report {
-    // The refusal's number (document 01), 0 where there is none.
-    pub fn number(self) -> u8
-        ensures { λ r. ⌜ r ≡ reportNumber self ⌝ }
-    {
-        match self {
-            Report::Beacon => 0,
-            Report::Nothing => 0,
-            Report::Refused(e) => e.number(),
-        }
-    }
-
-    // Whether a beacon is reported.
-    pub fn is_report(self) -> bool
-        ensures { λ r. ⌜ r ≡ isReport self ⌝ }
-    {
-        match self {
-            Report::Beacon => true,
-            Report::Nothing => false,
-            Report::Refused(_) => false,
-        }
-    }
 }
 
 // What a packet gives: a report, with the beacon's sender, where its record area lies in the payload, and how many octets of it the records took, all
@@ -137,14 +96,14 @@ pub struct Scanned {
 impl BeaconScanner {
     // A scanner without a filter: every sender passes.
     pub fn new() -> BeaconScanner
-        ensures { λ r. ⌜ r ≡ openScanner ⌝ }
+        ensures { λ r. ⌜ scannerState r ≡ openScanner ⌝ }
     {
         BeaconScanner::with_filter(AddressFilter::AllowAll)
     }
 
     // A scanner that reports those senders only that a filter passes.
     pub fn with_filter(scan_filter: AddressFilter) -> BeaconScanner
-        ensures { λ r. ⌜ r ≡ scannerOf «scan_filter» ⌝ }
+        ensures { λ r. ⌜ scannerState r ≡ scannerOf «scan_filter» ⌝ }
     {
         let filter = ScanFilter::new(scan_filter);
         let channel = AdvertisingChannel::first();
@@ -157,7 +116,7 @@ impl BeaconScanner {
 
     // Begins to listen, on the first channel. The interval is in µs.
     pub fn configure(self, time: Instant, interval: u32) -> Updated
-        ensures { λ r. ⌜ r ≡ configured self time interval ⌝ }
+        ensures { λ r. ⌜ updateStep r ≡ configured (scannerState self) time interval ⌝ }
     {
         let filter = self.filter;
         let channel = AdvertisingChannel::first();
@@ -171,7 +130,7 @@ impl BeaconScanner {
 
     // What the timer brings about: the next channel in turn.
     pub fn timer_update(self, time: Instant) -> Updated
-        ensures { λ r. ⌜ r ≡ timerUpdated self time ⌝ }
+        ensures { λ r. ⌜ updateStep r ≡ timerUpdated (scannerState self) time ⌝ }
     {
         let filter = self.filter;
         let current = self.channel;
@@ -186,7 +145,7 @@ impl BeaconScanner {
 
     // Listens on its channel for an interval from the given time on.
     fn listen(self, time: Instant) -> Updated
-        ensures { λ r. ⌜ r ≡ listening self time ⌝ }
+        ensures { λ r. ⌜ updateStep r ≡ listening (scannerState self) time ⌝ }
     {
         let channel = self.channel;
         let next_update = time.add(self.interval);
@@ -205,7 +164,7 @@ impl BeaconScanner {
         crc_ok: bool,
         list: &[u8],
     ) -> Scanned
-        ensures { λ r. ⌜ r ≡ scanned self header (now (payload .entry)) «crc_ok» (now (list .entry)) ⌝ }
+        ensures { λ r. ⌜ scanStep r ≡ scanned (scannerState self) header (now (payload .entry)) «crc_ok» (now (list .entry)) ⌝ }
     {
         let filter = self.filter;
         let channel = self.channel;
@@ -236,7 +195,7 @@ impl Scanned {
 
 // What a packet holds for a scanner without a filter. It is decoded, as the hub reads, only where its CRC is good and its type a beacon's.
 fn unfiltered(channel: AdvertisingChannel, header: Header, payload: &[u8], crc_ok: bool) -> Scanned
-    ensures { λ r. ⌜ r ≡ unfiltered channel header (now (payload .entry)) «crc_ok» ⌝ }
+    ensures { λ r. ⌜ scanStep r ≡ unfiltered channel header (now (payload .entry)) «crc_ok» ⌝ }
 {
     if crc_ok {
         if header.type_().is_beacon() {
@@ -248,7 +207,7 @@ fn unfiltered(channel: AdvertisingChannel, header: Header, payload: &[u8], crc_o
 }
 
 fn of_padded(channel: AdvertisingChannel, padded: Padded) -> Scanned
-    ensures { λ r. ⌜ r ≡ ofPadded channel padded ⌝ }
+    ensures { λ r. ⌜ scanStep r ≡ ofPadded channel padded ⌝ }
 {
     let decoded = padded.decoded;
     let outcome = decoded.outcome;
@@ -271,7 +230,7 @@ fn of_padded(channel: AdvertisingChannel, padded: Padded) -> Scanned
 
 // An answer that reports no beacon.
 fn unreported(report: Report, channel: AdvertisingChannel) -> Scanned
-    ensures { λ r. ⌜ r ≡ unreported report channel ⌝ }
+    ensures { λ r. ⌜ scanStep r ≡ unreported report channel ⌝ }
 {
     let sender = no_address();
     let adv_data = no_data();
@@ -281,5 +240,27 @@ fn unreported(report: Report, channel: AdvertisingChannel) -> Scanned
         adv_data,
         taken: 0,
         channel,
+    }
+}
+
+// The refusal's number (document 01), 0 where there is none.
+pub fn report_number(report: Report) -> u8
+    ensures { λ r. ⌜ r ≡ reportNumber report ⌝ }
+{
+    match report {
+        Report::Beacon => 0,
+        Report::Nothing => 0,
+        Report::Refused(e) => e.number(),
+    }
+}
+
+// Whether a beacon is reported.
+pub fn is_report(report: Report) -> bool
+    ensures { λ r. ⌜ r ≡ isReport report ⌝ }
+{
+    match report {
+        Report::Beacon => true,
+        Report::Nothing => false,
+        Report::Refused(_) => false,
     }
 }

@@ -8,9 +8,8 @@ use native.Mathlib.Numerals.{add-one}
 use lib.Dec.{eqb}
 use lib.ListN.{getD}
 use Rattle.addresses.specs.declared.header.Header.{Header}
-use Rattle.beacon.specs.Scanner.{configured, timerUpdated, scanned}
-use Rattle.beacon.specs.declared.beacon.BeaconScanner.{BeaconScanner}
-use Rattle.beacon.specs.declared.beacon.Updated.{Updated}
+use Rattle.beacon_spec.specs.Scanner.{configured, timerUpdated, scanned}
+use Rattle.beacon_spec.specs.State.{BeaconScanner, Updated}
 use Rattle.exports.specs.Air.{at}
 use Rattle.exports.specs.Lists.{timeIn, intervalIn, headerIn, octetsIn}
 use Rattle.exports.specs.Scans.{listenSaid, hearSaid, entryAfter, entriesUpTo, entrySaid}

@@ -8,11 +8,10 @@ use native.Mathlib.Numerals.{add-one}
 use lib.Dec.{eqb}
 use lib.ListN.{length, getD}
 use Rattle.addresses.specs.declared.header.Header.{Header}
-use Rattle.radio.specs.Calls.{instant}
-use Rattle.radio.specs.Trace.{start, tick, packet, event, stop, setScanData}
-use Rattle.radio.specs.declared.link.Called.{Called}
-use Rattle.radio.specs.declared.link.Device.{Device}
-use Rattle.exports.specs.Lists.{timeIn, intervalIn, headerIn, octetsIn, callIn, State, state, calledBy, stepOf, ran}
+use Rattle.radio_spec.specs.Calls.{instant}
+use Rattle.radio_spec.specs.Trace.{start, tick, packet, event, stop, setScanData}
+use Rattle.radio_spec.specs.State.{State, Step}
+use Rattle.exports.specs.Lists.{timeIn, intervalIn, headerIn, octetsIn, callIn, Board, board, calledBy, stepOf, ran}
 
 module _ (c tx : List ℕ) where
   pub as-start : {t i : ℕ} {o : List ℕ} → getD c 0 0 ≡ 0 → t ≡ timeIn c → i ≡ intervalIn c → o ≡ octetsIn c → start (instant t) i o tx ≡ callIn c tx
@@ -40,16 +39,16 @@ module _ (c tx : List ℕ) where
   unfolding callIn
   as-stop a b d e f = rw (a, b, d, e, f)
 
--- i calls of a list have been made, from a state on
-pub record Turn (s : State) (calls : List ℕ) (n : ℕ) (first second : List ℕ) (device : Device) (i : ℕ) : Type 0 where
+-- i calls of a list have been made, from a board on
+pub record Turn (s : Board) (calls : List ℕ) (n : ℕ) (first second : List ℕ) (device : State) (i : ℕ) : Type 0 where
   pub below : i ≤ n
   pub small : n < 2 ^ 64
-  pub reached : state device first second ≡ ran s calls i
+  pub reached : board device first second ≡ ran s calls i
   pub long-first : length first ≡ length (s .first)
   pub long-second : length second ≡ length (s .second)
 
-pub turned : (s : State) (calls : List ℕ) (i : ℕ) {d : Device} {a b : List ℕ} {p : List ℕ} {r : Called} {a′ b′ : List ℕ} → state d a b ≡ ran s calls i → p ≡ partOr 272 calls (272 * i)
-    → r ≡ calledBy p (state d a b) → a′ ≡ stepOf p (state d a b) .first → b′ ≡ stepOf p (state d a b) .second → state (r .device) a′ b′ ≡ ran s calls (i + 1)
+pub turned : (s : Board) (calls : List ℕ) (i : ℕ) {d : State} {a b : List ℕ} {p : List ℕ} {r : Step} {a′ b′ : List ℕ} → board d a b ≡ ran s calls i → p ≡ partOr 272 calls (272 * i)
+    → r ≡ calledBy p (board d a b) → a′ ≡ stepOf p (board d a b) .first → b′ ≡ stepOf p (board d a b) .second → board (r .state) a′ b′ ≡ ran s calls (i + 1)
 unfolding ran stepOf
 turned s calls i {d} {a} {b} {p} so part r first second =
-    (λ j. state (r j .device) (first j) (second j)) ∙ ap (stepOf p) so ∙ ap (λ (q : List ℕ). stepOf q (ran s calls i)) part ∙ ap (ran s calls) (sym (add-one i))
+    (λ j. board (r j .state) (first j) (second j)) ∙ ap (stepOf p) so ∙ ap (λ (q : List ℕ). stepOf q (ran s calls i)) part ∙ ap (ran s calls) (sym (add-one i))

@@ -16,19 +16,15 @@ use Rattle.answers.specs.Given.{filterFor}
 use Rattle.addresses.specs.declared.header.HeaderMade.{HeaderMade}
 use Rattle.addresses.specs.declared.header.HeaderMade.the-variants as made
 use Rattle.advertising.specs.PduBuf.{payloadAfter}
-use Rattle.advertising.specs.declared.pdu.Outcome.{Outcome}
-use Rattle.advertising.specs.declared.pdu.Outcome.the-variants as outcome
-use Rattle.beacon.specs.Scanner.{scannerOf, configured, timerUpdated, scanned, reportNumber, isReport}
-use Rattle.beacon.specs.Sending.{broadcastOf}
-use Rattle.beacon.specs.declared.beacon.Beacon.{Beacon}
-use Rattle.beacon.specs.declared.beacon.BeaconScanner.{BeaconScanner}
-use Rattle.beacon.specs.declared.beacon.Broadcast.{Broadcast}
-use Rattle.beacon.specs.declared.beacon.Broadcast.the-variants as broadcast
-use Rattle.beacon.specs.declared.beacon.Made.{Made}
-use Rattle.beacon.specs.declared.beacon.Report.{Report}
-use Rattle.beacon.specs.declared.beacon.Report.the-variants as report
-use Rattle.beacon.specs.declared.beacon.Scanned.{Scanned}
-use Rattle.beacon.specs.declared.beacon.Updated.{Updated}
+use Rattle.octets.specs.declared.error.Outcome.{Outcome}
+use Rattle.octets.specs.declared.error.Outcome.the-variants as outcome
+use Rattle.beacon_spec.specs.Scanner.{scannerOf, configured, timerUpdated, scanned, reportNumber, isReport}
+use Rattle.beacon_spec.specs.Sending.{broadcastOf}
+use Rattle.beacon_spec.specs.State.{Beacon, BeaconScanner, Made, Scanned, Updated}
+use Rattle.beacon_spec.specs.declared.beacon.Broadcast.{Broadcast}
+use Rattle.beacon_spec.specs.declared.beacon.Broadcast.the-variants as broadcast
+use Rattle.beacon_spec.specs.declared.beacon.Report.{Report}
+use Rattle.beacon_spec.specs.declared.beacon.Report.the-variants as report
 use Rattle.answers.specs.Got.{found}
 use Rattle.exports.specs.declared.air.Heard.{Heard}
 use Rattle.exports.specs.declared.air.Sent.{Sent}

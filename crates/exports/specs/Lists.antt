@@ -1,7 +1,7 @@
 -- Lists of calls given as octets, 272 for each call (drawn in src/lists.rt), on a fresh device with two transmit buffers.
 --   callIn c tx               == the call of 272 octets, lent a transmit buffer
 --   bufferAfter d c tx        == the transmit buffer after a call
---   State, state              == a device and its two transmit buffers
+--   Board, board              == the state of a device and its two transmit buffers
 --   calledBy c s, stepOf c s  == what the call of octets c answers, and the state after it
 --   ranAll own calls a b      == the state after all calls on a fresh device
 --   answerSaid, calledSaid    == an answer as numbers, with the mode
@@ -18,12 +18,11 @@ use Rattle.addresses.specs.declared.device_address.DeviceAddress.{DeviceAddress
 use Rattle.addresses.specs.declared.header.Header.{Header}
 use Rattle.addresses.specs.declared.header.HeaderMade.{HeaderMade}
 use Rattle.addresses.specs.declared.header.HeaderMade.the-variants as made
-use Rattle.radio.specs.Calls.{fresh, instant, isAdvertising, isConnected, startAfter, tickAfter, packetAfter}
-use Rattle.radio.specs.Trace.{Call, start, tick, packet, event, stop, setScanData, callOf}
-use Rattle.radio.specs.declared.link.Answer.{Answer}
-use Rattle.radio.specs.declared.link.Answer.the-variants as answer
-use Rattle.radio.specs.declared.link.Called.{Called}
-use Rattle.radio.specs.declared.link.Device.{Device}
+use Rattle.radio_spec.specs.Calls.{fresh, instant, isAdvertising, isConnected, startAfter, tickAfter, packetAfter}
+use Rattle.radio_spec.specs.Trace.{Call, start, tick, packet, event, stop, setScanData, callOf}
+use Rattle.radio_spec.specs.declared.link.Answer.{Answer}
+use Rattle.radio_spec.specs.declared.link.Answer.the-variants as answer
+use Rattle.radio_spec.specs.State.{State, Step}
 use Rattle.exports.specs.declared.lists.Said.{Said}
 
 abbrev pub headerOr : HeaderMade → Header
@@ -50,7 +49,7 @@ callIn c tx =
     (cond (eqb (getD c 0 0) 3) event
     (cond (eqb (getD c 0 0) 5) (setScanData (octetsIn c)) stop))))
 
-abbrev pub bufferAfter : Device → Call → List ℕ → List ℕ
+abbrev pub bufferAfter : State → Call → List ℕ → List ℕ
 bufferAfter d (start time interval records tx) out = startAfter d records tx
 bufferAfter d (tick tx) out = tickAfter d tx
 bufferAfter d (packet end header payload crcGood tx) out = packetAfter d header payload crcGood tx
@@ -58,35 +57,35 @@ bufferAfter d event out = out
 bufferAfter d stop out = out
 bufferAfter d (setScanData records) out = out
 
-pub record State : Type 0 where
-  pub device : Device
+pub record Board : Type 0 where
+  pub device : State
   pub first : List ℕ
   pub second : List ℕ
 
-abbrev pub state : Device → List ℕ → List ℕ → State
-state d a b = record { device = d; first = a; second = b }
+abbrev pub board : State → List ℕ → List ℕ → Board
+board d a b = record { device = d; first = a; second = b }
 
 -- octet 2 of a call says which buffer
 abbrev pub usesSecond : List ℕ → Bool
 usesSecond c = eqb (getD c 2 0) 1
 
-unfoldable pub calledBy : List ℕ → State → Called
+unfoldable pub calledBy : List ℕ → Board → Step
 calledBy c s = callOf (s .device) (callIn c (cond (usesSecond c) (s .second) (s .first)))
 
-unfoldable pub stepOf : List ℕ → State → State
+unfoldable pub stepOf : List ℕ → Board → Board
 stepOf c s =
     record {
-      device = calledBy c s .device;
+      device = calledBy c s .state;
       first = cond (usesSecond c) (s .first) (bufferAfter (s .device) (callIn c (s .first)) (s .first));
       second = cond (usesSecond c) (bufferAfter (s .device) (callIn c (s .second)) (s .second)) (s .second);
     }
 
-unfoldable pub ran : State → List ℕ → ℕ → State
+unfoldable pub ran : Board → List ℕ → ℕ → Board
 ran s calls zero = s
 ran s calls (suc i) = stepOf (partOr 272 calls (272 * i)) (ran s calls i)
 
-unfoldable pub ranAll : DeviceAddress → List ℕ → List ℕ → List ℕ → State
-ranAll own calls a b = ran (state (fresh own) a b) calls (length calls / 272)
+unfoldable pub ranAll : DeviceAddress → List ℕ → List ℕ → List ℕ → Board
+ranAll own calls a b = ran (board (fresh own) a b) calls (length calls / 272)
 
 abbrev pub saying : ℕ → ℕ → Bool → Bool → ℕ → ℕ → ℕ → ℕ → ℕ → Said
 saying number kind advertising connected channel header at access crc =
@@ -112,5 +111,5 @@ answerSaid (answer.NextEvent channel) a b = saying 0 5 a b (channel .index) 0 0 
 answerSaid answer.Stopped a b = saying 0 6 a b 0 0 0 0 0
 answerSaid answer.ScanDataSet a b = saying 0 7 a b 0 0 0 0 0
 
-abbrev pub calledSaid : Called → Said
-calledSaid c = answerSaid (c .answer) (isAdvertising (c .device .mode)) (isConnected (c .device .mode))
+abbrev pub calledSaid : Step → Said
+calledSaid c = answerSaid (c .answer) (isAdvertising (c .state .mode)) (isConnected (c .state .mode))

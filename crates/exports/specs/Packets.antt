@@ -6,14 +6,13 @@ use mathlib.Core.Bool.{Bool, false, cond}
 use mathlib.Core.List.{List, []}
 use Prim.Native.Nat.{ℕ}
 use lib.Dec.{eqb}
-use Rattle.octets.specs.Error.{numberOf}
+use Rattle.octets.specs.Error.{numberOf, outcomeNumber}
 use Rattle.addresses.specs.Header.{typeCode, isBeacon, allowsAdvData, typeOf, txAdd, rxAdd, lengthOf, setTxAdd, setRxAdd, lengthSet}
 use Rattle.addresses.specs.declared.device_address.DeviceAddress.{DeviceAddress}
 use Rattle.addresses.specs.declared.header.Header.{Header}
 use Rattle.addresses.specs.declared.header.HeaderMade.{HeaderMade}
 use Rattle.addresses.specs.declared.header.HeaderMade.the-variants as made
 use Rattle.addresses.specs.declared.header.PduType.the-variants.{AdvInd, AdvNonconnInd, AdvScanInd, ScanRsp}
-use Rattle.advertising.specs.Pdu.{outcomeNumber}
 use Rattle.advertising.specs.PduBuf.{builtOf, flagsRecord}
 use Rattle.advertising.specs.declared.pdu_buf.Built.{Built}
 use Rattle.advertising.specs.declared.pdu_buf.PduBuf.{PduBuf}

@@ -11,10 +11,8 @@ use lib.ListN.{length, getD}
 use Rattle.octets.specs.Bytes.{partOr}
 use Rattle.channels.specs.Phy.{indexOf}
 use Rattle.addresses.specs.Address.{isRandom}
-use Rattle.beacon.specs.Scanner.{configured, timerUpdated, scanned, reportNumber, isReport}
-use Rattle.beacon.specs.declared.beacon.BeaconScanner.{BeaconScanner}
-use Rattle.beacon.specs.declared.beacon.Scanned.{Scanned}
-use Rattle.beacon.specs.declared.beacon.Updated.{Updated}
+use Rattle.beacon_spec.specs.Scanner.{configured, timerUpdated, scanned, reportNumber, isReport}
+use Rattle.beacon_spec.specs.State.{BeaconScanner, Scanned, Updated}
 use Rattle.exports.specs.Air.{at}
 use Rattle.exports.specs.Lists.{timeIn, intervalIn, headerIn, octetsIn}
 use Rattle.exports.specs.declared.scans.Listened.{Listened}

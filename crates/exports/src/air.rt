@@ -2,14 +2,14 @@
 ghost use mathlib.Core.Path.{_≡_};
 ghost use Rattle.addresses.specs.Address.{kindOf, addressOf};
 ghost use Rattle.addresses.specs.Header.{parsed};
-ghost use Rattle.beacon.specs.Sending.{beaconOf};
-ghost use Rattle.beacon.specs.Scanner.{timerUpdated};
+ghost use Rattle.beacon.specs.State.{scannerState, updateStep, scanStep};
+ghost use Rattle.beacon_spec.specs.Sending.{beaconOf};
+ghost use Rattle.beacon_spec.specs.Scanner.{timerUpdated};
 ghost use mathlib.Core.Bool.{false};
 ghost use Rattle.exports.specs.Air.{broadcastSent, notSent, beaconSent, beaconAfter, scannerWith, updatedGot, heardSaid, heardFrom, judgedBy, headlessOf, unheard};
 use addresses::header::Header;
 use addresses::header::HeaderMade;
 use addresses::header::PduType;
-use advertising::pdu::Outcome;
 use answers::given::address;
 use answers::given::filter;
 use answers::got::Got;
@@ -20,7 +20,10 @@ use beacon::beacon::Broadcast;
 use beacon::beacon::Report;
 use beacon::beacon::Scanned;
 use beacon::beacon::Updated;
+use beacon::beacon::is_report;
+use beacon::beacon::report_number;
 use octets::error::Error;
+use octets::error::Outcome;
 use octets::time::Instant;
 
 // What is transmitted of a beacon.
@@ -80,7 +83,7 @@ pub extern "C" fn board_beacon(own: &[u8; 6], random: bool, records: &[u8], tx: 
 
 // A scanner after up to 3 timer updates, all at one time.
 fn scanner(filtered: bool, time: u32, interval: u32, updates: u8) -> Updated
-    ensures { λ r. ⌜ r ≡ scannerWith filtered time interval updates ⌝ }
+    ensures { λ r. ⌜ updateStep r ≡ scannerWith filtered time interval updates ⌝ }
 {
     let at = Instant::from_raw_micros(time);
     let configured = BeaconScanner::with_filter(filter(filtered)).configure(at, interval);
@@ -94,7 +97,7 @@ fn scanner(filtered: bool, time: u32, interval: u32, updates: u8) -> Updated
 }
 
 fn again(updated: Updated, at: Instant) -> Updated
-    ensures { λ r. ⌜ r ≡ timerUpdated (updated .scanner) at ⌝ }
+    ensures { λ r. ⌜ updateStep r ≡ timerUpdated (scannerState (updated .scanner)) at ⌝ }
 {
     let scanner = updated.scanner;
     scanner.timer_update(at)
@@ -127,7 +130,7 @@ pub struct Heard {
 }
 
 fn told(scanned: Scanned) -> Heard
-    ensures { λ r. ⌜ r ≡ heardSaid scanned ⌝ }
+    ensures { λ r. ⌜ r ≡ heardSaid (scanStep scanned) ⌝ }
 {
     let report = scanned.report;
     let from = scanned.sender;
@@ -135,8 +138,8 @@ fn told(scanned: Scanned) -> Heard
     let on = scanned.channel;
     let sender = from.raw();
     Heard {
-        number: report.number(),
-        reported: report.is_report(),
+        number: report_number(report),
+        reported: is_report(report),
         random: from.is_random(),
         sender,
         start: place.start,
@@ -165,7 +168,7 @@ fn no_header(e: Error) -> Heard
 
 // Without a header the scanner judges its list alone.
 fn judged(scanned: Scanned, e: Error) -> Heard
-    ensures { λ r. ⌜ r ≡ judgedBy (scanned .report) scanned e ⌝ }
+    ensures { λ r. ⌜ r ≡ judgedBy (scanned .report) (scanStep scanned) e ⌝ }
 {
     let report = scanned.report;
     match report {
@@ -177,7 +180,7 @@ fn judged(scanned: Scanned, e: Error) -> Heard
 
 // A header that is too short. A bad list is refused before it.
 fn headless(listening: BeaconScanner, list: &[u8], e: Error) -> Heard
-    ensures { λ r. ⌜ r ≡ headlessOf listening (now (list .entry)) e ⌝ }
+    ensures { λ r. ⌜ r ≡ headlessOf (scannerState listening) (now (list .entry)) e ⌝ }
 {
     let header = Header::new(PduType::AdvInd);
     judged(

@@ -8,8 +8,9 @@ ghost use mathlib.Core.Path.{_≡_};
 ghost use lib.ListN.{getD};
 ghost use Rattle.addresses.specs.Address.{kindOf, addressOf};
 ghost use Rattle.addresses.specs.Header.{parsed};
-ghost use Rattle.radio.specs.Trace.{callOf};
-ghost use Rattle.exports.specs.Lists.{headerOr, timeIn, intervalIn, callIn, bufferAfter, state, calledBy, stepOf, ranAll, answerSaid, calledSaid};
+ghost use Rattle.radio_spec.specs.Trace.{callOf};
+ghost use Rattle.radio.specs.State.{state, step};
+ghost use Rattle.exports.specs.Lists.{headerOr, timeIn, intervalIn, callIn, bufferAfter, board, calledBy, stepOf, ranAll, answerSaid, calledSaid};
 use addresses::device_address::DeviceAddress;
 use addresses::header::Header;
 use addresses::header::HeaderMade;
@@ -60,7 +61,7 @@ pub(crate) fn interval_of(call: &[u8]) -> u32
 }
 
 fn step(device: Device, call: &[u8], tx: &mut [u8]) -> Called
-    ensures { λ r. ⌜ (r ≡ callOf device (callIn (now (call .entry)) (now (tx .entry)))) × (now (tx .exit) ≡ bufferAfter device (callIn (now (call .entry)) (now (tx .entry))) (now (tx .entry))) ⌝ }
+    ensures { λ r. ⌜ (step r ≡ callOf (state device) (callIn (now (call .entry)) (now (tx .entry)))) × (now (tx .exit) ≡ bufferAfter (state device) (callIn (now (call .entry)) (now (tx .entry))) (now (tx .entry))) ⌝ }
 {
     let time = Instant::from_raw_micros(time_of(call));
     let octets = part_of(call, 14, octet(call, 3) as usize);
@@ -79,7 +80,7 @@ fn step(device: Device, call: &[u8], tx: &mut [u8]) -> Called
 
 // A call with the buffer that it names.
 fn step_with(device: Device, call: &[u8], first: &mut [u8], second: &mut [u8]) -> Called
-    ensures { λ r. ⌜ (r ≡ calledBy (now (call .entry)) (state device (now (first .entry)) (now (second .entry)))) × (now (first .exit) ≡ stepOf (now (call .entry)) (state device (now (first .entry)) (now (second .entry))) .first) × (now (second .exit) ≡ stepOf (now (call .entry)) (state device (now (first .entry)) (now (second .entry))) .second) ⌝ }
+    ensures { λ r. ⌜ (step r ≡ calledBy (now (call .entry)) (board (state device) (now (first .entry)) (now (second .entry)))) × (now (first .exit) ≡ stepOf (now (call .entry)) (board (state device) (now (first .entry)) (now (second .entry))) .first) × (now (second .exit) ≡ stepOf (now (call .entry)) (board (state device) (now (first .entry)) (now (second .entry))) .second) ⌝ }
 {
     if octet(call, 2) == 1 {
         step(device, call, second)
@@ -90,7 +91,7 @@ fn step_with(device: Device, call: &[u8], first: &mut [u8], second: &mut [u8]) -
 
 // The device after a list of calls.
 fn after(own: DeviceAddress, calls: &[u8], first: &mut [u8], second: &mut [u8]) -> Device
-    ensures { λ r. ⌜ (r ≡ ranAll own (now (calls .entry)) (now (first .entry)) (now (second .entry)) .device) × (now (first .exit) ≡ ranAll own (now (calls .entry)) (now (first .entry)) (now (second .entry)) .first) × (now (second .exit) ≡ ranAll own (now (calls .entry)) (now (first .entry)) (now (second .entry)) .second) ⌝ }
+    ensures { λ r. ⌜ (state r ≡ ranAll own (now (calls .entry)) (now (first .entry)) (now (second .entry)) .device) × (now (first .exit) ≡ ranAll own (now (calls .entry)) (now (first .entry)) (now (second .entry)) .first) × (now (second .exit) ≡ ranAll own (now (calls .entry)) (now (first .entry)) (now (second .entry)) .second) ⌝ }
 {
     let mut device = Device::new(own);
     let n = calls.len() / 272;

@@ -4,7 +4,8 @@
 //
 // Kinds: 0 configure, with a time and an interval; 1 timer update, at a time; otherwise a packet.
 ghost use mathlib.Core.Path.{_≡_};
-ghost use Rattle.beacon.specs.Scanner.{scannerOf};
+ghost use Rattle.beacon.specs.State.{scannerState, updateStep, scanStep};
+ghost use Rattle.beacon_spec.specs.Scanner.{scannerOf};
 ghost use Rattle.answers.specs.Given.{filterFor};
 ghost use Rattle.exports.specs.Scans.{listenSaid, hearSaid, entryAfter, entriesAfter, entrySaid};
 use crate::lists::header_of;
@@ -15,6 +16,8 @@ use answers::given::filter;
 use beacon::beacon::BeaconScanner;
 use beacon::beacon::Scanned;
 use beacon::beacon::Updated;
+use beacon::beacon::is_report;
+use beacon::beacon::report_number;
 use octets::bytes::part_of;
 use octets::time::Instant;
 
@@ -34,7 +37,7 @@ pub struct Listened {
 }
 
 fn listens(updated: Updated) -> Listened
-    ensures { λ r. ⌜ r ≡ listenSaid updated ⌝ }
+    ensures { λ r. ⌜ r ≡ listenSaid (updateStep updated) ⌝ }
 {
     let cmd = updated.cmd;
     let on = cmd.channel;
@@ -54,7 +57,7 @@ fn listens(updated: Updated) -> Listened
 }
 
 fn hears(scanned: Scanned) -> Listened
-    ensures { λ r. ⌜ r ≡ hearSaid scanned ⌝ }
+    ensures { λ r. ⌜ r ≡ hearSaid (scanStep scanned) ⌝ }
 {
     let report = scanned.report;
     let from = scanned.sender;
@@ -62,8 +65,8 @@ fn hears(scanned: Scanned) -> Listened
     let on = scanned.channel;
     let sender = from.raw();
     Listened {
-        number: report.number(),
-        reported: report.is_report(),
+        number: report_number(report),
+        reported: is_report(report),
         random: from.is_random(),
         sender,
         start: place.start,
@@ -77,7 +80,7 @@ fn hears(scanned: Scanned) -> Listened
 
 // The scanner after an entry. A packet hands none back: it leaves the scanner as it is.
 fn moved(scanner: BeaconScanner, entry: &[u8]) -> BeaconScanner
-    ensures { λ r. ⌜ r ≡ entryAfter (now (entry .entry)) scanner ⌝ }
+    ensures { λ r. ⌜ scannerState r ≡ entryAfter (now (entry .entry)) (scannerState scanner) ⌝ }
 {
     let at = Instant::from_raw_micros(time_of(entry));
     match octet(entry, 0) {
@@ -89,7 +92,7 @@ fn moved(scanner: BeaconScanner, entry: &[u8]) -> BeaconScanner
 
 // The scanner after a list of entries.
 fn moved_by(scanner: BeaconScanner, entries: &[u8]) -> BeaconScanner
-    ensures { λ r. ⌜ r ≡ entriesAfter scanner (now (entries .entry)) ⌝ }
+    ensures { λ r. ⌜ scannerState r ≡ entriesAfter (scannerState scanner) (now (entries .entry)) ⌝ }
 {
     let mut listening = scanner;
     let n = entries.len() / 272;
@@ -102,7 +105,7 @@ fn moved_by(scanner: BeaconScanner, entries: &[u8]) -> BeaconScanner
 }
 
 fn answered(scanner: BeaconScanner, list: &[u8], entry: &[u8]) -> Listened
-    ensures { λ r. ⌜ r ≡ entrySaid (now (entry .entry)) (now (list .entry)) scanner ⌝ }
+    ensures { λ r. ⌜ r ≡ entrySaid (now (entry .entry)) (now (list .entry)) (scannerState scanner) ⌝ }
 {
     let at = Instant::from_raw_micros(time_of(entry));
     match octet(entry, 0) {

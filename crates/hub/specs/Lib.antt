@@ -1,6 +1,1 @@
-pub mod Line
-pub mod Log
-pub mod Reads
-pub mod Reported
-pub mod Sample
-pub mod Examples
+pub mod State

@@ -8,8 +8,10 @@ ghost use Rattle.channels.specs.Phy.{indexOf};
 ghost use Rattle.addresses.specs.Address.{kindNumber};
 ghost use Rattle.columns.specs.Column.{leading, column};
 ghost use Rattle.columns.specs.Table.{octetColumns};
-ghost use Rattle.hub.specs.Line.{reportLine, line, reportsIn, lineSize, lastSize, roomFor, SentIn};
-ghost use Rattle.hub.specs.Log.{start, heardIn, scannerAfter, leftOver, lastLine, fresh, isStuck, loggedOf, turnOf, RunCounts, isReady, takenIn, restIn, linesIn, restAfter, linesAfter};
+ghost use Rattle.beacon.specs.State.{scannerState, scanStep};
+ghost use Rattle.hub_spec.specs.Line.{reportLine, line, reportsIn, lineSize, lastSize, roomFor, SentIn};
+ghost use Rattle.hub_spec.specs.Log.{start, heardIn, scannerAfter, leftOver, lastLine, fresh, isStuck, loggedOf, turnOf, RunCounts, isReady, takenIn, restIn, linesIn, restAfter, linesAfter};
+ghost use Rattle.hub.specs.State.{hubState, loggedStep, turnStep, takenStep};
 use addresses::device_address::DeviceAddress;
 use addresses::header::Header;
 use addresses::header::HeaderMade;
@@ -208,8 +210,8 @@ fn log_scanned(
     out: &mut [u8],
     at: usize,
 ) -> usize
-    requires { ⌜ (now table ≡ octetColumns) × (SentIn scanned (now item) × (at + lineSize * reportsIn scanned ≤ length (now out))) ⌝ }
-    ensures { λ r. ⌜ (r ≡ reportsIn scanned) × (now (out .exit) ≡ written (line number scanned) (now (out .entry)) at) ⌝ }
+    requires { ⌜ (now table ≡ octetColumns) × (SentIn (scanStep scanned) (now item) × (at + lineSize * reportsIn (scanStep scanned) ≤ length (now out))) ⌝ }
+    ensures { λ r. ⌜ (r ≡ reportsIn (scanStep scanned)) × (now (out .exit) ≡ written (line number (scanStep scanned)) (now (out .entry)) at) ⌝ }
 {
     let report = scanned.report;
     match report {
@@ -244,7 +246,7 @@ fn log_item(
     at: usize,
 ) -> usize
     requires { ⌜ (now table ≡ octetColumns) × (at + roomFor (length (now item)) ≤ length (now out)) ⌝ }
-    ensures { λ r. ⌜ (r ≡ reportsIn (heardIn scanner (now (item .entry)))) × (now (out .exit) ≡ written (line number (heardIn scanner (now (item .entry)))) (now (out .entry)) at) ⌝ }
+    ensures { λ r. ⌜ (r ≡ reportsIn (heardIn (scannerState scanner) (now (item .entry)))) × (now (out .exit) ≡ written (line number (heardIn (scannerState scanner) (now (item .entry)))) (now (out .entry)) at) ⌝ }
 {
     if item.len() < 3 {
         return 0;
@@ -272,7 +274,7 @@ fn start() -> Instant
 
 // The scanner after an item: a tick moves it to the next channel.
 fn listen(scanner: BeaconScanner, item: &[u8]) -> BeaconScanner
-    ensures { λ r. ⌜ r ≡ scannerAfter scanner (now (item .entry)) ⌝ }
+    ensures { λ r. ⌜ scannerState r ≡ scannerAfter (scannerState scanner) (now (item .entry)) ⌝ }
 {
     if item.len() == 0 {
         return scanner;
@@ -286,8 +288,8 @@ fn listen(scanner: BeaconScanner, item: &[u8]) -> BeaconScanner
 
 // Logs the whole items at the front of s.
 fn log_items(table: &[u8], hub: Hub, s: &[u8], out: &mut [u8]) -> Logged
-    requires { ⌜ (now table ≡ octetColumns) × (RunCounts hub × (roomFor (length (now s)) ≤ length (now out))) ⌝ }
-    ensures { λ r. ⌜ (r ≡ loggedOf hub (now (s .entry))) × (now (out .exit) ≡ linesIn hub (now (s .entry)) (now (out .entry))) ⌝ }
+    requires { ⌜ (now table ≡ octetColumns) × (RunCounts (hubState hub) × (roomFor (length (now s)) ≤ length (now out))) ⌝ }
+    ensures { λ r. ⌜ (loggedStep r ≡ loggedOf (hubState hub) (now (s .entry))) × (now (out .exit) ≡ linesIn (hubState hub) (now (s .entry)) (now (out .entry))) ⌝ }
 {
     let mut items = hub.items;
     let mut reports = hub.reports;
@@ -346,8 +348,8 @@ fn keep(buf: &mut [u8], from: usize, end: usize)
 
 // `take_in` where all is ready.
 fn take_turn(hub: Hub, buf: &mut [u8], filled: usize, out: &mut [u8]) -> Turn
-    requires { ⌜ RunCounts hub × ((filled ≤ length (now buf)) × (roomFor filled ≤ length (now out))) ⌝ }
-    ensures { λ r. ⌜ (r ≡ turnOf hub (take filled (now (buf .entry)))) × ((now (buf .exit) ≡ restIn hub (now (buf .entry)) filled) × (now (out .exit) ≡ linesIn hub (take filled (now (buf .entry))) (now (out .entry)))) ⌝ }
+    requires { ⌜ RunCounts (hubState hub) × ((filled ≤ length (now buf)) × (roomFor filled ≤ length (now out))) ⌝ }
+    ensures { λ r. ⌜ (turnStep r ≡ turnOf (hubState hub) (take filled (now (buf .entry)))) × ((now (buf .exit) ≡ restIn (hubState hub) (now (buf .entry)) filled) × (now (out .exit) ≡ linesIn (hubState hub) (take filled (now (buf .entry))) (now (out .entry)))) ⌝ }
 {
     let table = columns::octets();
     let logged = log_items(&table, hub, &buf[..filled], out);
@@ -366,7 +368,7 @@ fn take_turn(hub: Hub, buf: &mut [u8], filled: usize, out: &mut [u8]) -> Turn
 // Writes the last line to all of `out`.
 fn put_last_line(hub: Hub, kept: usize, out: &mut [u8])
     requires { ⌜ length (now out) ≡ lastSize ⌝ }
-    ensures { λ _. ⌜ now (out .exit) ≡ lastLine hub kept ⌝ }
+    ensures { λ _. ⌜ now (out .exit) ≡ lastLine (hubState hub) kept ⌝ }
 {
     let mut next = put_next(hub.items, 6, out, 0);
     next = put_next(hub.reports, 6, out, next);
@@ -384,7 +386,7 @@ fn left_over(kept: usize) -> usize
 impl Hub {
     // A hub that has heard nothing, and listens on the first channel for every sender.
     pub fn new() -> Hub
-        ensures { λ r. ⌜ r ≡ fresh ⌝ }
+        ensures { λ r. ⌜ hubState r ≡ fresh ⌝ }
     {
         let configured = BeaconScanner::new().configure(start(), 0);
         let scanner = configured.scanner;
@@ -397,7 +399,7 @@ impl Hub {
 
     // Whether the hub counts as a run does, `filled` octets are there and so is room for their lines.
     fn is_ready(self, filled: usize, size: usize, space: usize) -> bool
-        ensures { λ r. ⌜ r ≡ isReady self filled size space ⌝ }
+        ensures { λ r. ⌜ r ≡ isReady (hubState self) filled size space ⌝ }
     {
         if MOST_ITEMS < self.items {
             return false;
@@ -414,7 +416,7 @@ impl Hub {
     // Takes in the first `filled` octets of `buf`: writes the lines of the whole items among them to the front of `out`, and moves the octets
     // behind these items to the front of `buf`.
     pub fn take_in(self, buf: &mut [u8], filled: usize, out: &mut [u8]) -> TakenIn
-        ensures { λ r. ⌜ (r ≡ takenIn self (now (buf .entry)) filled (now (out .entry))) × ((now (buf .exit) ≡ restAfter self (now (buf .entry)) filled (now (out .entry))) × (now (out .exit) ≡ linesAfter self (now (buf .entry)) filled (now (out .entry)))) ⌝ }
+        ensures { λ r. ⌜ (takenStep r ≡ takenIn (hubState self) (now (buf .entry)) filled (now (out .entry))) × ((now (buf .exit) ≡ restAfter (hubState self) (now (buf .entry)) filled (now (out .entry))) × (now (out .exit) ≡ linesAfter (hubState self) (now (buf .entry)) filled (now (out .entry)))) ⌝ }
     {
         if self.is_ready(filled, buf.len(), out.len()) {
             return TakenIn::Turn(take_turn(self, buf, filled, out));
@@ -424,7 +426,7 @@ impl Hub {
 
     // The last line, where `kept` octets are left over.
     pub fn last_line(self, kept: usize) -> [u8; 15]
-        ensures { λ r. ⌜ r ≡ lastLine self kept ⌝ }
+        ensures { λ r. ⌜ r ≡ lastLine (hubState self) kept ⌝ }
     {
         let mut out = [0u8; LAST];
         put_last_line(self, kept, &mut out);

@@ -12,9 +12,10 @@ ghost use mathlib.Core.Path.{_≡_};
 ghost use mathlib.Core.Bool.{false};
 ghost use Prim.Native.Nat.{_≤_};
 ghost use lib.ListN.{length, take};
-ghost use Rattle.hub.specs.Line.{roomFor};
-ghost use Rattle.hub.specs.Log.{restOf, turnOf, RunCounts};
-ghost use Rattle.hub.specs.Reads.{Next};
+ghost use Rattle.hub.specs.State.{hubState, turnStep};
+ghost use Rattle.hub_spec.specs.Line.{roomFor};
+ghost use Rattle.hub_spec.specs.Log.{restOf, turnOf, RunCounts};
+ghost use Rattle.hub_spec.specs.Reads.{Next};
 
 // How many octets a buffer holds after a read, or how many of its octets are written after a write.
 struct Moved {
@@ -109,8 +110,8 @@ fn write_out(s: &[u8]) -> Moved
 }
 // Takes in the first `filled` octets, and writes their lines. What is left over of them stands at the front of `buf` then.
 fn log_read(hub: Hub, buf: &mut [u8], filled: usize, out: &mut [u8]) -> Step
-    requires { ⌜ RunCounts hub × ((filled ≤ length (now buf)) × (roomFor filled ≤ length (now out))) ⌝ }
-    ensures { λ r. ⌜ (r .turn ≡ turnOf hub (take filled (now (buf .entry)))) × (take (r .turn .kept) (now (buf .exit)) ≡ restOf hub (take filled (now (buf .entry)))) ⌝ }
+    requires { ⌜ RunCounts (hubState hub) × ((filled ≤ length (now buf)) × (roomFor filled ≤ length (now out))) ⌝ }
+    ensures { λ r. ⌜ (turnStep (r .turn) ≡ turnOf (hubState hub) (take filled (now (buf .entry)))) × (take (r .turn .kept) (now (buf .exit)) ≡ restOf (hubState hub) (take filled (now (buf .entry)))) ⌝ }
 {
     match hub.take_in(buf, filled, out) {
         TakenIn::Turn(turn) => {
@@ -181,8 +182,8 @@ fn unread(hub: Hub, kept: usize) -> Step
 
 // Reads once, and writes the lines. The end of the input stops reading too.
 fn next_turn(hub: Hub, kept: usize, buf: &mut [u8], out: &mut [u8]) -> Step
-    requires { ⌜ RunCounts hub × ((kept ≤ length (now buf)) × (roomFor (length (now buf)) ≤ length (now out))) ⌝ }
-    ensures { λ r. ⌜ (RunCounts (r .turn .hub) × (r .turn .kept ≤ length (now (buf .entry)))) × Next hub (take kept (now (buf .entry))) (r .turn) (take (r .turn .kept) (now (buf .exit))) ⌝ }
+    requires { ⌜ RunCounts (hubState hub) × ((kept ≤ length (now buf)) × (roomFor (length (now buf)) ≤ length (now out))) ⌝ }
+    ensures { λ r. ⌜ (RunCounts (hubState (r .turn .hub)) × (r .turn .kept ≤ length (now (buf .entry)))) × Next (hubState hub) (take kept (now (buf .entry))) (turnStep (r .turn)) (take (r .turn .kept) (now (buf .exit))) ⌝ }
 {
     let read = read_more(buf, kept);
     if read.is_failed {

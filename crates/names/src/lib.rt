@@ -3,8 +3,10 @@ ghost use mathlib.Core.Path.{_≡_};
 ghost use Prim.Native.Nat.{_+_, _-_, _≤_};
 ghost use lib.ListN.{length};
 ghost use Rattle.octets.specs.Bytes.{part};
-ghost use Rattle.records.specs.Area.{AcceptedFrom};
-ghost use Rattle.names.specs.Name.{isName, nameIn, chosen, nameOf, handedFrom, handedOn, nameFrom, nameOctets};
+ghost use Rattle.records_spec.specs.Area.{AcceptedFrom};
+ghost use Rattle.names_spec.specs.Name.{isName, nameIn, chosen, nameOf, handedFrom, handedOn, nameFrom, nameOctets};
+use names_spec::Found;
+pub use names_spec::NamePlace;
 use octets::bytes::part_of;
 use octets::error::Error;
 use records::ad_structure::Type;
@@ -12,29 +14,14 @@ use records::area::PaddedArea;
 use records::area::read_padded_area;
 use utf8::is_utf8;
 
-// Where a search of one area finds a name.
-enum Found {
-    At { start: usize, len: usize },
-    Nothing,
-}
-
-// Which of the two lent areas holds the name, where it begins there, and how many octets it has.
-pub enum NamePlace {
-    InReply { start: usize, len: usize },
-    InAdvertisement { start: usize, len: usize },
-    Refused(Error),
-}
-
-impl NamePlace {
-    // The name's own octets in the area that holds them; none, at the start of the advertisement, where there is no name.
-    pub fn octets<'a>(self, advertisement: &'a [u8], reply: &'a [u8]) -> &'a [u8]
-        ensures { λ r. ⌜ (r .ptr ≡ handedFrom self (advertisement .entry) (reply .entry)) × (now r ≡ handedOn self (now (advertisement .entry)) (now (reply .entry))) ⌝ }
-    {
-        match self {
-            NamePlace::InReply { start, len } => part_of(reply, start, len),
-            NamePlace::InAdvertisement { start, len } => part_of(advertisement, start, len),
-            NamePlace::Refused(_) => &advertisement[..0],
-        }
+// The name's own octets in the area that holds them; none, at the start of the advertisement, where there is no name.
+pub fn octets<'a>(place: NamePlace, advertisement: &'a [u8], reply: &'a [u8]) -> &'a [u8]
+    ensures { λ r. ⌜ (r .ptr ≡ handedFrom place (advertisement .entry) (reply .entry)) × (now r ≡ handedOn place (now (advertisement .entry)) (now (reply .entry))) ⌝ }
+{
+    match place {
+        NamePlace::InReply { start, len } => part_of(reply, start, len),
+        NamePlace::InAdvertisement { start, len } => part_of(advertisement, start, len),
+        NamePlace::Refused(_) => &advertisement[..0],
     }
 }
 
@@ -106,5 +93,5 @@ pub fn find_name(advertisement: &[u8], reply: &[u8]) -> NamePlace
 pub fn name<'a>(advertisement: &'a [u8], reply: &'a [u8]) -> &'a [u8]
     ensures { λ r. ⌜ (r .ptr ≡ nameFrom (advertisement .entry) (reply .entry)) × (now r ≡ nameOctets (now (advertisement .entry)) (now (reply .entry))) ⌝ }
 {
-    find_name(advertisement, reply).octets(advertisement, reply)
+    octets(find_name(advertisement, reply), advertisement, reply)
 }

@@ -1,9 +1,1 @@
-pub mod Answers
-pub mod Demand
-pub mod Example
-pub mod Packets
-pub mod Replies
-pub mod Runs
-pub mod Steps
-pub mod Table
-pub mod Words
+pub mod Whole

@@ -1,35 +1,27 @@
 // The link layer: a device in standby, advertising or connected. It goes into each call by value and comes back beside the answer.
 ghost use mathlib.Core.Path.{_≡_};
 ghost use Rattle.advertising.specs.PduBuf.{payloadTo, payloadAfter};
-ghost use Rattle.advertising.specs.Settings.{Within};
+ghost use Rattle.settings.specs.Settings.{Within};
 ghost use mathlib.Core.Bool.{_&&_};
-ghost use Rattle.radio.specs.Calls.{fresh, isAdvertising, isConnected, isScanRequest, refusal, listens, responds, repliesWith, repliedIf, connectsTo, addressed, advertised, sent, isFor, heard, hops, startOf, startAfter, tickOf, tickAfter, packetOf, packetAfter, scanDataOf, eventOf, stopOf, begun};
+ghost use Rattle.radio_spec.specs.Calls.{fresh, isAdvertising, isConnected, isScanRequest, refusal, listens, responds, repliesWith, repliedIf, connectsTo, addressed, advertised, sent, isFor, heard, hops, startOf, startAfter, tickOf, tickAfter, packetOf, packetAfter, scanDataOf, eventOf, stopOf, begun};
+ghost use Rattle.radio.specs.State.{advertisement, state, step};
 use addresses::device_address::DeviceAddress;
 use addresses::header::Header;
 use addresses::header::PduType;
 use advertising::pdu::ConnectRequestData;
-use advertising::pdu::Outcome;
 use advertising::pdu::Pdu;
 use advertising::pdu_buf::PduBuf;
-use advertising::settings::ConnectionSettings;
 use channels::channel_map::ChannelMap;
 use channels::connection::Hop;
 use channels::connection::hop_channel;
 use channels::phy::AdvertisingChannel;
-use channels::phy::DataChannel;
 use octets::bytes::Written;
 use octets::error::Error;
+use octets::error::Outcome;
 use octets::time::Instant;
-
-// Which of the two states below has a meaning, if any.
-pub enum Mode {
-    // The radio is off.
-    Standby,
-    // Advertising, and ready for a connection.
-    Advertising,
-    // In a connection, whose events are asked for one by one.
-    Connected,
-}
+pub use radio_spec::link::Answer;
+pub use radio_spec::link::Mode;
+use settings::ConnectionSettings;
 
 // What a start sets up.
 pub struct Advertisement {
@@ -62,37 +54,6 @@ pub struct Device {
     conn: Connection,
 }
 
-// What a call answers.
-pub enum Answer {
-    Refused(Error),
-    // Transmit this header and the transmit buffer on the channel, listen there, and tick again at `next_adv`.
-    Sent {
-        header: Header,
-        channel: AdvertisingChannel,
-        next_adv: Instant,
-    },
-    // Keep listening on the channel.
-    Listen(AdvertisingChannel),
-    // Transmit this header and the transmit buffer on the channel, then keep listening there.
-    Respond {
-        header: Header,
-        channel: AdvertisingChannel,
-    },
-    // A connection began: listen on the data channel, until `at` if nothing is heard.
-    FirstEvent {
-        channel: DataChannel,
-        at: Instant,
-        access_address: u32,
-        crc_init: u32,
-    },
-    // Listen on the data channel for the next event.
-    NextEvent(DataChannel),
-    // Standby: nothing is sent, and nothing listened for.
-    Stopped,
-    // The scan response has these data from now on.
-    ScanDataSet,
-}
-
 // What a call answers, and the device after it.
 pub struct Called {
     pub answer: Answer,
@@ -102,7 +63,7 @@ pub struct Called {
 impl Device {
     // A device in standby, without scan data.
     pub fn new(dev_addr: DeviceAddress) -> Device
-        ensures { λ r. ⌜ r ≡ fresh «dev_addr» ⌝ }
+        ensures { λ r. ⌜ state r ≡ fresh «dev_addr» ⌝ }
     {
         let bare = PduBuf::scan_response(dev_addr, &[0u8; 0]);
         let scan_response = bare.pdu;
@@ -148,7 +109,7 @@ impl Device {
 
     // Starts advertising with records, which are lent encoded, and makes the first tick. An accepted start ends a connection; a refused one ends nothing.
     pub fn start_advertise(self, time: Instant, interval: u32, data: &[u8], tx: &mut [u8]) -> Called
-        ensures { λ r. ⌜ (r ≡ startOf self time interval (now («data» .entry)) (now (tx .entry))) × (now (tx .exit) ≡ startAfter self (now («data» .entry)) (now (tx .entry))) ⌝ }
+        ensures { λ r. ⌜ (step r ≡ startOf (state self) time interval (now («data» .entry)) (now (tx .entry))) × (now (tx .exit) ≡ startAfter (state self) (now («data» .entry)) (now (tx .entry))) ⌝ }
     {
         let own = self.dev_addr;
         let built = PduBuf::discoverable(own, data);
@@ -169,7 +130,7 @@ impl Device {
 
     // Sets the records of the scan response, which are lent encoded, in any mode; none make it bare. They outlive start and stop.
     pub fn set_scan_data(self, data: &[u8]) -> Called
-        ensures { λ r. ⌜ r ≡ scanDataOf self (now («data» .entry)) ⌝ }
+        ensures { λ r. ⌜ step r ≡ scanDataOf (state self) (now («data» .entry)) ⌝ }
     {
         let own = self.dev_addr;
         let built = PduBuf::scan_response(own, data);
@@ -190,7 +151,7 @@ impl Device {
         crc_ok: bool,
         tx: &mut [u8],
     ) -> Called
-        ensures { λ r. ⌜ (r ≡ packetOf self «rx_end» header (now (payload .entry)) «crc_ok» (now (tx .entry))) × (now (tx .exit) ≡ packetAfter self header (now (payload .entry)) «crc_ok» (now (tx .entry))) ⌝ }
+        ensures { λ r. ⌜ (step r ≡ packetOf (state self) «rx_end» header (now (payload .entry)) «crc_ok» (now (tx .entry))) × (now (tx .exit) ≡ packetAfter (state self) header (now (payload .entry)) «crc_ok» (now (tx .entry))) ⌝ }
     {
         if self.is_advertising() {
             if crc_ok {
@@ -205,7 +166,7 @@ impl Device {
 
     // A tick: transmits on the next channel.
     pub fn update_timer(self, tx: &mut [u8]) -> Called
-        ensures { λ r. ⌜ (r ≡ tickOf self (now (tx .entry))) × (now (tx .exit) ≡ tickAfter self (now (tx .entry))) ⌝ }
+        ensures { λ r. ⌜ (step r ≡ tickOf (state self) (now (tx .entry))) × (now (tx .exit) ≡ tickAfter (state self) (now (tx .entry))) ⌝ }
     {
         if self.is_advertising() {
             let adv = self.adv;
@@ -216,7 +177,7 @@ impl Device {
 
     // The channel of the next connection event.
     pub fn event(self) -> Called
-        ensures { λ r. ⌜ r ≡ eventOf self ⌝ }
+        ensures { λ r. ⌜ step r ≡ eventOf (state self) ⌝ }
     {
         if self.is_connected() {
             return self.hop();
@@ -225,7 +186,7 @@ impl Device {
     }
 
     pub fn stop(self) -> Called
-        ensures { λ r. ⌜ r ≡ stopOf self ⌝ }
+        ensures { λ r. ⌜ step r ≡ stopOf (state self) ⌝ }
     {
         let dev_addr = self.dev_addr;
         // Scan data outlive a stop.
@@ -246,7 +207,7 @@ impl Device {
 
     // A refusal changes nothing.
     fn refused(self, e: Error) -> Called
-        ensures { λ r. ⌜ r ≡ refusal self e ⌝ }
+        ensures { λ r. ⌜ step r ≡ refusal (state self) e ⌝ }
     {
         Called {
             answer: Answer::Refused(e),
@@ -255,7 +216,7 @@ impl Device {
     }
 
     fn listen(self) -> Called
-        ensures { λ r. ⌜ r ≡ listens self ⌝ }
+        ensures { λ r. ⌜ step r ≡ listens (state self) ⌝ }
     {
         let adv = self.adv;
         let channel = adv.channel;
@@ -267,7 +228,7 @@ impl Device {
 
     // The device with another scan response.
     fn reply_with(self, scan_response: PduBuf) -> Called
-        ensures { λ r. ⌜ r ≡ repliesWith self «scan_response» ⌝ }
+        ensures { λ r. ⌜ step r ≡ repliesWith (state self) «scan_response» ⌝ }
     {
         let mode = self.mode;
         let dev_addr = self.dev_addr;
@@ -287,7 +248,7 @@ impl Device {
 
     // Makes a tick of an advertisement where the transmit buffer has room for its payload.
     fn transmit(self, adv: Advertisement, tx: &mut [u8]) -> Called
-        ensures { λ r. ⌜ (r ≡ sent self adv (payloadTo (adv .pdu) (now (tx .entry)))) × (now (tx .exit) ≡ payloadAfter (adv .pdu) (now (tx .entry))) ⌝ }
+        ensures { λ r. ⌜ (step r ≡ sent (state self) (advertisement adv) (payloadTo (adv .pdu) (now (tx .entry)))) × (now (tx .exit) ≡ payloadAfter (adv .pdu) (now (tx .entry))) ⌝ }
     {
         let pdu = adv.pdu;
         match pdu.write_payload(tx) {
@@ -298,7 +259,7 @@ impl Device {
 
     // The device after a tick of an advertisement.
     fn advertise(self, adv: Advertisement) -> Called
-        ensures { λ r. ⌜ r ≡ advertised self adv ⌝ }
+        ensures { λ r. ⌜ step r ≡ advertised (state self) (advertisement adv) ⌝ }
     {
         let pdu = adv.pdu;
         let last = adv.channel;
@@ -331,7 +292,7 @@ impl Device {
 
     // A CRC-good packet.
     fn hear(self, rx_end: Instant, pdu: Pdu, tx: &mut [u8]) -> Called
-        ensures { λ r. ⌜ (r ≡ heard self «rx_end» pdu (now (tx .entry))) × (now (tx .exit) ≡ repliedIf (isFor (self .«dev_addr») pdu && isScanRequest (pdu .ty)) self (now (tx .entry))) ⌝ }
+        ensures { λ r. ⌜ (step r ≡ heard (state self) «rx_end» pdu (now (tx .entry))) × (now (tx .exit) ≡ repliedIf (isFor (self .«dev_addr») pdu && isScanRequest (pdu .ty)) (state self) (now (tx .entry))) ⌝ }
     {
         let own = self.dev_addr;
         if is_for(own, pdu) {
@@ -342,7 +303,7 @@ impl Device {
 
     // Of the packets to this device only the two requests are answered.
     fn take(self, rx_end: Instant, pdu: Pdu, tx: &mut [u8]) -> Called
-        ensures { λ r. ⌜ (r ≡ addressed self «rx_end» (pdu .lldata) (now (tx .entry)) (pdu .ty)) × (now (tx .exit) ≡ repliedIf (isScanRequest (pdu .ty)) self (now (tx .entry))) ⌝ }
+        ensures { λ r. ⌜ (step r ≡ addressed (state self) «rx_end» (pdu .lldata) (now (tx .entry)) (pdu .ty)) × (now (tx .exit) ≡ repliedIf (isScanRequest (pdu .ty)) (state self) (now (tx .entry))) ⌝ }
     {
         match pdu.ty() {
             PduType::ScanReq => self.respond(tx),
@@ -356,7 +317,7 @@ impl Device {
 
     // Answers a scan request where the transmit buffer has room for the scan response's payload.
     fn respond(self, tx: &mut [u8]) -> Called
-        ensures { λ r. ⌜ (r ≡ responds self (payloadTo (self .«scan_response») (now (tx .entry)))) × (now (tx .exit) ≡ payloadAfter (self .«scan_response») (now (tx .entry))) ⌝ }
+        ensures { λ r. ⌜ (step r ≡ responds (state self) (payloadTo (self .«scan_response») (now (tx .entry)))) × (now (tx .exit) ≡ payloadAfter (self .«scan_response») (now (tx .entry))) ⌝ }
     {
         let response = self.scan_response;
         let adv = self.adv;
@@ -375,7 +336,7 @@ impl Device {
 
     // Takes the settings of a connect request, and with them begins the connection that it asks for.
     fn connect(self, rx_end: Instant, lldata: ConnectRequestData) -> Called
-        ensures { λ r. ⌜ r ≡ connectsTo self «rx_end» lldata ⌝ }
+        ensures { λ r. ⌜ step r ≡ connectsTo (state self) «rx_end» lldata ⌝ }
     {
         let taken = ConnectionSettings::of(lldata);
         let settings = taken.settings;
@@ -394,7 +355,7 @@ impl Device {
         settings: ConnectionSettings,
     ) -> Called
         requires { ⌜ Within settings ⌝ }
-        ensures { λ r. ⌜ r ≡ begun self «rx_end» lldata settings ⌝ }
+        ensures { λ r. ⌜ step r ≡ begun (state self) «rx_end» lldata settings ⌝ }
     {
         let channel_map = settings.channel_map();
         let hop = settings.hop();
@@ -435,7 +396,7 @@ impl Device {
 
     // Hops to the next event of the connection.
     fn hop(self) -> Called
-        ensures { λ r. ⌜ r ≡ hops self ⌝ }
+        ensures { λ r. ⌜ step r ≡ hops (state self) ⌝ }
     {
         let conn = self.conn;
         let channel_map = conn.channel_map;

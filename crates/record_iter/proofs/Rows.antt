@@ -4,7 +4,8 @@ use mathlib.Core.Path.{refl}
 use mathlib.Core.List.{List}
 use Prim.Native.Nat.{ℕ}
 use denote.Ref.{RefT}
-use Rattle.records.specs.Record.{named, flagsRead, uuidsRead, dataRead, upTo, recordRead, first, recordAt}
+use Rattle.records_spec.specs.Record.{flagsRead, uuidsRead, dataRead, upTo, recordRead, first, recordAt}
+use Rattle.flags.specs.Flags.{named}
 use Rattle.record_iter.specs.Laws.{movedBy, Rows}
 
 pub rows : (r : RefT (List ℕ)) → Rows r

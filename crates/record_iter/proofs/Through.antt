@@ -8,14 +8,14 @@ use native.Mathlib.Numerals.{add-one}
 use lib.ListN.{length, drop, length-drop}
 use denote.Ref.{RefT, now}
 use Rattle.octets.specs.declared.error.Error.{Error}
-use Rattle.records.specs.declared.ad_structure.AdStructure.{AdStructure}
-use Rattle.records.specs.declared.ad_structure.Read.{Read}
-use Rattle.records.specs.declared.ad_structure.Read.the-variants.{Record, End}
-use Rattle.records.specs.declared.area.Area.{Area}
-use Rattle.records.specs.declared.area.Area.the-variants.{Accepted}
-use Rattle.records.specs.Record.{recordRead, first, recordAt}
-use Rattle.records.specs.Area.{cut, records, reads, withFirst, areaOf, readArea}
-use Rattle.records.proofs.Cuts.{Sized, sized, here, at-here, Step, stepped, ended}
+use Rattle.records_spec.specs.declared.ad_structure.AdStructure.{AdStructure}
+use Rattle.records_spec.specs.declared.ad_structure.Read.{Read}
+use Rattle.records_spec.specs.declared.ad_structure.Read.the-variants.{Record, End}
+use Rattle.records_spec.specs.declared.area.Area.{Area}
+use Rattle.records_spec.specs.declared.area.Area.the-variants.{Accepted}
+use Rattle.records_spec.specs.Record.{recordRead, first, recordAt}
+use Rattle.records_spec.specs.Area.{cut, records, reads, withFirst, areaOf, readArea}
+use Rattle.records_spec.proofs.Cuts.{Sized, sized, here, at-here, Step, stepped, ended}
 use Rattle.record_iter.specs.Iter.{after}
 use Rattle.record_iter.specs.Laws.{nextOf, restOf, movedBy, answerAt, IsRecord, nextAfter, Through, AreaCounted, GoesThrough, RestPlaced}
 use Rattle.record_iter.specs.declared.Records.{Records}

@@ -7,9 +7,9 @@ use Prim.Native.Nat.{ℕ, _+_, min}
 use mathlib.Core.List.{List}
 use lib.ListN.{length}
 use denote.Ref.{RefT, now}
-use Rattle.records.specs.declared.ad_structure.Read.{Read}
-use Rattle.records.specs.declared.ad_structure.Read.the-variants.{Record, End}
-use Rattle.records.specs.Record.{recordAt}
+use Rattle.records_spec.specs.declared.ad_structure.Read.{Read}
+use Rattle.records_spec.specs.declared.ad_structure.Read.the-variants.{Record, End}
+use Rattle.records_spec.specs.Record.{recordAt}
 use Rattle.record_iter.specs.declared.Records.{Records}
 
 -- by what was read at `at`

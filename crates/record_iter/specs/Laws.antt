@@ -13,13 +13,13 @@ use mathlib.Core.List.{List, [], _∷_}
 use lib.ListN.{length, drop}
 use denote.Ref.{RefT, now}
 use Rattle.octets.specs.declared.error.Error.{Error}
-use Rattle.records.specs.declared.ad_structure.AdStructure.the-variants.{Flags, ServiceUuids16}
-use Rattle.records.specs.declared.ad_structure.Read.{Read}
-use Rattle.records.specs.declared.ad_structure.Read.the-variants.{Record, End}
-use Rattle.records.specs.declared.area.Area.{Area}
-use Rattle.records.specs.declared.area.Area.the-variants.{Accepted}
-use Rattle.records.specs.Record.{recordAt}
-use Rattle.records.specs.Area.{records, reads, readArea}
+use Rattle.records_spec.specs.declared.ad_structure.AdStructure.the-variants.{Flags, ServiceUuids16}
+use Rattle.records_spec.specs.declared.ad_structure.Read.{Read}
+use Rattle.records_spec.specs.declared.ad_structure.Read.the-variants.{Record, End}
+use Rattle.records_spec.specs.declared.area.Area.{Area}
+use Rattle.records_spec.specs.declared.area.Area.the-variants.{Accepted}
+use Rattle.records_spec.specs.Record.{recordAt}
+use Rattle.records_spec.specs.Area.{records, reads, readArea}
 use Rattle.record_iter.specs.Iter.{front, onward, restPlace}
 use Rattle.record_iter.specs.declared.Records.{Records}
 

@@ -2,8 +2,8 @@
 // and calls a function on the slice and the position. `new` and `moved` alone make one: it stands at the front of its area or behind a record.
 ghost use mathlib.Core.Path.{_≡_};
 ghost use lib.ListN.{drop};
-ghost use Rattle.records.specs.Record.{recordAt};
-ghost use Rattle.records.specs.Area.{readArea};
+ghost use Rattle.records_spec.specs.Record.{recordAt};
+ghost use Rattle.records_spec.specs.Area.{readArea};
 ghost use Rattle.record_iter.specs.Iter.{positionAfter, restPlace, front, onward};
 use records::ad_structure::Read;
 use records::ad_structure::read_record;

@@ -1,16 +1,1 @@
-pub mod Types
-pub mod Record
-pub mod Uuids
-pub mod Write
-pub mod Layout
-pub mod ReadAs
-pub mod Order
-pub mod Outlines
-pub mod Area
-pub mod Accepted
-pub mod Padding
-pub mod Padded
-pub mod RoundTrip
-pub mod ReadBack
-pub mod Flags
-pub mod Examples
+pub mod State

@@ -1,14 +1,15 @@
-// AD structures, here called records: a length octet, a type octet and data (the Core, Vol 3 Part C, 11; the Supplement, Part A, 1).
+// AD structures, here called records, read and written.
 ghost use mathlib.Core.Path.{_≡_};
 ghost use mathlib.Core.List.{_++_};
 ghost use mathlib.Core.Bool.{cond};
 ghost use Prim.Native.Nat.{_+_, _≤_, _<_, _^_};
 ghost use lib.ListN.{length, getD, drop};
 ghost use Rattle.octets.specs.Bytes.{written};
-ghost use Rattle.records.specs.Record.{recordOf, named, uuidList, flagsRead, uuidsRead, localName, nameRead, pairKind, pairRead, dataRead, kindRead, first, recordRead, knownRead, recordAt};
-ghost use Rattle.records.specs.Flags.{limitedDiscoverable, generalDiscoverable, supportsClassic, bothByController, bothByHost, discoverableFlags, broadcastFlags};
-ghost use Rattle.records.specs.Uuids.{uuid16At};
-ghost use Rattle.records.specs.Write.{IsOutline, lentOutline, lentCheck, spaceIn, andThen, lentTo, lentAfter, writtenTo, writtenAfter};
+ghost use Rattle.records_spec.specs.Record.{recordOf, uuidList, flagsRead, uuidsRead, localName, nameRead, pairKind, pairRead, dataRead, kindRead, first, recordRead, knownRead, recordAt};
+ghost use Rattle.records_spec.specs.Uuids.{uuid16At};
+ghost use Rattle.records_spec.specs.Write.{IsOutline, lentOutline, lentCheck, spaceIn, andThen, lentTo, lentAfter, writtenTo, writtenAfter};
+ghost use Rattle.records.specs.State.{outlined};
+pub use flags::Flags;
 use octets::bytes::ByteReader;
 use octets::bytes::ByteWriter;
 use octets::bytes::Written;
@@ -17,79 +18,15 @@ use octets::bytes::u16_from_le_bytes;
 use octets::bytes::u16_to_le_bytes;
 use octets::comp_id::CompanyId;
 use octets::error::Error;
+use octets::error::Outcome;
 use octets::uuid::Uuid16;
 use octets::uuid::Uuid16Read;
 use octets::uuid::UuidKind;
+pub use records_spec::ad_structure::AdStructure;
+pub use records_spec::ad_structure::NextUuid16;
+pub use records_spec::ad_structure::Parsed;
+pub use records_spec::ad_structure::Read;
 use utf8::is_utf8;
-
-// A record. rubble's holds its data; here `start` and `len` say where they lie in octets that are lent beside it.
-pub enum AdStructure {
-    // Five bits: how the device may be found, and what else it speaks.
-    Flags(Flags),
-    ServiceUuids16 {
-        complete: bool,
-        start: usize,
-        len: usize,
-    },
-    ServiceUuids32 {
-        complete: bool,
-        start: usize,
-        len: usize,
-    },
-    ServiceUuids128 {
-        complete: bool,
-        start: usize,
-        len: usize,
-    },
-    // What a service says, after its UUID of 16 bits; that may be nothing.
-    ServiceData16 {
-        uuid: u16,
-        start: usize,
-        len: usize,
-    },
-    // The device's whole name, in UTF-8.
-    CompleteLocalName {
-        start: usize,
-        len: usize,
-    },
-    // The beginning of that name.
-    ShortenedLocalName {
-        start: usize,
-        len: usize,
-    },
-    ManufacturerSpecificData {
-        company_identifier: CompanyId,
-        start: usize,
-        len: usize,
-    },
-    // A record of another type, or one that is not read further.
-    Unknown {
-        ty: u8,
-        start: usize,
-        len: usize,
-    },
-}
-
-// What reading a record's data finds.
-pub enum Parsed {
-    Structure(AdStructure),
-    Refused(Error),
-}
-
-// What reading at a position finds.
-pub enum Read {
-    // A record, and the position after it.
-    Record(AdStructure, usize),
-    // Nothing is left.
-    End,
-    Refused(Error),
-}
-
-// Whether data may be written.
-enum Checked {
-    Fine,
-    Refused(Error),
-}
 
 // What is written of a record.
 struct Outline {
@@ -105,92 +42,90 @@ struct Outline {
     unit: usize,
 }
 
-impl AdStructure {
-    fn outline(self) -> Outline
-        ensures { λ r. ⌜ IsOutline self r ⌝ }
-    {
-        match self {
-            AdStructure::Flags(flags) => Outline {
-                ty: Type::FLAGS,
-                own: flags.to_u8() as u16,
-                held: 1,
-                start: 0,
-                len: 0,
-                name: false,
-                unit: 1,
-            },
-            AdStructure::ServiceUuids16 {
+fn outline_of(ad: AdStructure) -> Outline
+    ensures { λ r. ⌜ IsOutline ad (outlined r) ⌝ }
+{
+    match ad {
+        AdStructure::Flags(flags) => Outline {
+            ty: Type::FLAGS,
+            own: flags.to_u8() as u16,
+            held: 1,
+            start: 0,
+            len: 0,
+            name: false,
+            unit: 1,
+        },
+        AdStructure::ServiceUuids16 {
+            complete,
+            start,
+            len,
+        } => {
+            let ty = either(
                 complete,
-                start,
-                len,
-            } => {
-                let ty = either(
-                    complete,
-                    Type::COMPLETE_LIST_OF_16BIT_SERVICE_UUIDS,
-                    Type::INCOMPLETE_LIST_OF_16BIT_SERVICE_UUIDS,
-                );
-                lent(ty, start, len, false, 2)
-            }
-            AdStructure::ServiceUuids32 {
-                complete,
-                start,
-                len,
-            } => {
-                let ty = either(
-                    complete,
-                    Type::COMPLETE_LIST_OF_32BIT_SERVICE_UUIDS,
-                    Type::INCOMPLETE_LIST_OF_32BIT_SERVICE_UUIDS,
-                );
-                lent(ty, start, len, false, 4)
-            }
-            AdStructure::ServiceUuids128 {
-                complete,
-                start,
-                len,
-            } => {
-                let ty = either(
-                    complete,
-                    Type::COMPLETE_LIST_OF_128BIT_SERVICE_UUIDS,
-                    Type::INCOMPLETE_LIST_OF_128BIT_SERVICE_UUIDS,
-                );
-                lent(ty, start, len, false, 16)
-            }
-            AdStructure::ServiceData16 { uuid, start, len } => Outline {
-                ty: Type::SERVICE_DATA_16BIT_UUID,
-                own: uuid,
-                held: 2,
-                start,
-                len,
-                name: false,
-                unit: 1,
-            },
-            AdStructure::CompleteLocalName { start, len } => {
-                lent(Type::COMPLETE_LOCAL_NAME, start, len, true, 1)
-            }
-            AdStructure::ShortenedLocalName { start, len } => {
-                lent(Type::SHORTENED_LOCAL_NAME, start, len, true, 1)
-            }
-            AdStructure::ManufacturerSpecificData {
-                company_identifier,
-                start,
-                len,
-            } => Outline {
-                ty: Type::MANUFACTURER_SPECIFIC_DATA,
-                own: company_identifier.as_u16(),
-                held: 2,
-                start,
-                len,
-                name: false,
-                unit: 1,
-            },
-            AdStructure::Unknown { ty, start, len } => lent(ty, start, len, false, 1),
+                Type::COMPLETE_LIST_OF_16BIT_SERVICE_UUIDS,
+                Type::INCOMPLETE_LIST_OF_16BIT_SERVICE_UUIDS,
+            );
+            lent(ty, start, len, false, 2)
         }
+        AdStructure::ServiceUuids32 {
+            complete,
+            start,
+            len,
+        } => {
+            let ty = either(
+                complete,
+                Type::COMPLETE_LIST_OF_32BIT_SERVICE_UUIDS,
+                Type::INCOMPLETE_LIST_OF_32BIT_SERVICE_UUIDS,
+            );
+            lent(ty, start, len, false, 4)
+        }
+        AdStructure::ServiceUuids128 {
+            complete,
+            start,
+            len,
+        } => {
+            let ty = either(
+                complete,
+                Type::COMPLETE_LIST_OF_128BIT_SERVICE_UUIDS,
+                Type::INCOMPLETE_LIST_OF_128BIT_SERVICE_UUIDS,
+            );
+            lent(ty, start, len, false, 16)
+        }
+        AdStructure::ServiceData16 { uuid, start, len } => Outline {
+            ty: Type::SERVICE_DATA_16BIT_UUID,
+            own: uuid,
+            held: 2,
+            start,
+            len,
+            name: false,
+            unit: 1,
+        },
+        AdStructure::CompleteLocalName { start, len } => {
+            lent(Type::COMPLETE_LOCAL_NAME, start, len, true, 1)
+        }
+        AdStructure::ShortenedLocalName { start, len } => {
+            lent(Type::SHORTENED_LOCAL_NAME, start, len, true, 1)
+        }
+        AdStructure::ManufacturerSpecificData {
+            company_identifier,
+            start,
+            len,
+        } => Outline {
+            ty: Type::MANUFACTURER_SPECIFIC_DATA,
+            own: company_identifier.as_u16(),
+            held: 2,
+            start,
+            len,
+            name: false,
+            unit: 1,
+        },
+        AdStructure::Unknown { ty, start, len } => lent(ty, start, len, false, 1),
     }
 }
 
 // The outline of a record that holds nothing itself.
 fn lent(ty: u8, start: usize, len: usize, name: bool, unit: usize) -> Outline
-    ensures { λ r. ⌜ r ≡ lentOutline ty start len name unit ⌝ }
+    ensures { λ r. ⌜ outlined r ≡ lentOutline ty start len name unit ⌝ }
 {
     Outline {
         ty,
@@ -211,24 +146,24 @@ fn either(first: bool, a: u8, b: u8) -> u8
 }
 
 // Whether `len` octets of data may be written at position `at` of `size` octets, with a length and a type before them.
-fn space_for(len: usize, at: usize, size: usize) -> Checked
+fn space_for(len: usize, at: usize, size: usize) -> Outcome
     requires { ⌜ len + 2 < 2 ^ 64 ⌝ }
     ensures { λ r. ⌜ r ≡ spaceIn len size at ⌝ }
 {
     if size < at {
-        return Checked::Refused(Error::Eof);
+        return Outcome::Refused(Error::Eof);
     }
     if size - at < len + 2 {
-        return Checked::Refused(Error::Eof);
+        return Outcome::Refused(Error::Eof);
     }
     if 255 < len + 1 {
-        return Checked::Refused(Error::RecordLength);
+        return Outcome::Refused(Error::RecordLength);
     }
-    Checked::Fine
+    Outcome::Accepted
 }
 
 // Refuses a name that is not UTF-8 and data that are not whole units, then too little space and a record that is too long.
-fn may_write(name: bool, unit: usize, data: &[u8], len: usize, at: usize, size: usize) -> Checked
+fn may_write(name: bool, unit: usize, data: &[u8], len: usize, at: usize, size: usize) -> Outcome
     requires { ⌜ (0 < unit) × (len + 2 < 2 ^ 64) ⌝ }
     ensures { λ r. ⌜ r ≡ andThen (lentCheck name unit (now («data» .entry))) (spaceIn len size at) ⌝ }
 {
@@ -236,12 +171,12 @@ fn may_write(name: bool, unit: usize, data: &[u8], len: usize, at: usize, size: 
         if is_utf8(data) {
             return space_for(len, at, size);
         }
-        return Checked::Refused(Error::InvalidValue);
+        return Outcome::Refused(Error::InvalidValue);
     }
     if data.len() % unit == 0 {
         return space_for(len, at, size);
     }
-    Checked::Refused(Error::Eof)
+    Outcome::Refused(Error::Eof)
 }
 
 // Writes length, type, a record's own octets and its data at position `at`.
@@ -261,12 +196,12 @@ fn put_raw(len: u8, ty: u8, own: &[u8], data: &[u8], at: usize, out: &mut [u8])
 // Writes a record whose lent data are given, where these may be written.
 fn write_lent(outline: Outline, data: &[u8], writer: ByteWriter, out: &mut [u8]) -> Written
     requires { ⌜ (outline .held ≤ 2) × (0 < outline .unit) ⌝ }
-    ensures { λ r. ⌜ (r ≡ lentTo outline (now («data» .entry)) (now (out .entry)) (writer .at)) × (now (out .exit) ≡ lentAfter outline (now («data» .entry)) (now (out .entry)) (writer .at)) ⌝ }
+    ensures { λ r. ⌜ (r ≡ lentTo (outlined outline) (now («data» .entry)) (now (out .entry)) (writer .at)) × (now (out .exit) ≡ lentAfter (outlined outline) (now («data» .entry)) (now (out .entry)) (writer .at)) ⌝ }
 {
     let at = writer.at;
     let held = outline.held;
     let len = held + data.len();
-    if let Checked::Refused(e) = may_write(outline.name, outline.unit, data, len, at, out.len()) {
+    if let Outcome::Refused(e) = may_write(outline.name, outline.unit, data, len, at, out.len()) {
         return Written::Refused(e);
     }
     let own = u16_to_le_bytes(outline.own);
@@ -278,7 +213,7 @@ fn write_lent(outline: Outline, data: &[u8], writer: ByteWriter, out: &mut [u8])
 pub fn write_record(ad: AdStructure, s: &[u8], writer: ByteWriter, out: &mut [u8]) -> Written
     ensures { λ r. ⌜ (r ≡ writtenTo ad (now (s .entry)) (now (out .entry)) (writer .at)) × (now (out .exit) ≡ writtenAfter ad (now (s .entry)) (now (out .entry)) (writer .at)) ⌝ }
 {
-    let outline = ad.outline();
+    let outline = outline_of(ad);
     let start = outline.start;
     let len = outline.len;
     if has_octets(s, start, len) {
@@ -476,14 +411,6 @@ fn pair(service: bool, number: u16, start: usize, len: usize) -> AdStructure
     }
 }
 
-// The next UUID of a list, and the position after it.
-pub enum NextUuid16 {
-    Uuid(Uuid16, usize),
-    // The list ends here.
-    End,
-    Refused(Error),
-}
-
 // The UUID at position `at` of a list's data, in the place of rubble's iterator.
 pub fn next_uuid16(data: &[u8], at: usize) -> NextUuid16
     ensures { λ r. ⌜ r ≡ uuid16At (now («data» .entry)) at ⌝ }
@@ -494,90 +421,6 @@ pub fn next_uuid16(data: &[u8], at: usize) -> NextUuid16
     match Uuid16::from_bytes(ByteReader { at }, data) {
         Uuid16Read::Value(uuid, next) => NextUuid16::Uuid(uuid, next.at),
         Uuid16Read::Refused(e) => NextUuid16::Refused(e),
-    }
-}
-
-// The octet of a Flags record: discoverable modes, and BR/EDR beside LE (the Supplement, Part A, 1.3).
-pub struct Flags {
-    bits: u8,
-}
-
-impl Flags {
-    pub const LE_LIMITED_DISCOVERABLE: u8 = 0x01;
-
-    pub const LE_GENERAL_DISCOVERABLE: u8 = 0x02;
-
-    pub const BR_EDR_NOT_SUPPORTED: u8 = 0x04;
-
-    pub const SIMUL_LE_BR_CONTROLLER: u8 = 0x08;
-
-    pub const SIMUL_LE_BR_HOST: u8 = 0x10;
-    // The bits above.
-    const ALL: u8 = 0x1F;
-
-    // The flags of an octet, whose bits without a name are cleared.
-    pub fn from_bits_truncate(bits: u8) -> Flags
-        ensures { λ r. ⌜ r .bits ≡ named bits ⌝ }
-    {
-        Flags {
-            bits: bits & Flags::ALL,
-        }
-    }
-
-    // The Flags of a start: general discoverable, no BR/EDR.
-    pub fn discoverable() -> Flags
-        ensures { λ r. ⌜ r .bits ≡ discoverableFlags ⌝ }
-    {
-        Flags {
-            bits: Flags::BR_EDR_NOT_SUPPORTED | Flags::LE_GENERAL_DISCOVERABLE,
-        }
-    }
-
-    // The Flags of a beacon: not discoverable, no BR/EDR.
-    pub fn broadcast() -> Flags
-        ensures { λ r. ⌜ r .bits ≡ broadcastFlags ⌝ }
-    {
-        Flags {
-            bits: Flags::BR_EDR_NOT_SUPPORTED,
-        }
-    }
-
-    // The octet of the flags.
-    pub fn to_u8(self) -> u8
-        ensures { λ r. ⌜ r ≡ named (self .bits) ⌝ }
-    {
-        self.bits & Flags::ALL
-    }
-
-    // As the Core has it; rubble answers the opposite (D21).
-    pub fn supports_classic_bluetooth(self) -> bool
-        ensures { λ r. ⌜ r ≡ supportsClassic (self .bits) ⌝ }
-    {
-        self.bits / Flags::BR_EDR_NOT_SUPPORTED % 2 == 0
-    }
-
-    pub fn le_limited_discoverable(self) -> bool
-        ensures { λ r. ⌜ r ≡ limitedDiscoverable (self .bits) ⌝ }
-    {
-        self.bits / Flags::LE_LIMITED_DISCOVERABLE % 2 == 1
-    }
-
-    pub fn le_general_discoverable(self) -> bool
-        ensures { λ r. ⌜ r ≡ generalDiscoverable (self .bits) ⌝ }
-    {
-        self.bits / Flags::LE_GENERAL_DISCOVERABLE % 2 == 1
-    }
-
-    pub fn simul_le_br_controller(self) -> bool
-        ensures { λ r. ⌜ r ≡ bothByController (self .bits) ⌝ }
-    {
-        self.bits / Flags::SIMUL_LE_BR_CONTROLLER % 2 == 1
-    }
-
-    pub fn simul_le_br_host(self) -> bool
-        ensures { λ r. ⌜ r ≡ bothByHost (self .bits) ⌝ }
-    {
-        self.bits / Flags::SIMUL_LE_BR_HOST % 2 == 1
     }
 }
 

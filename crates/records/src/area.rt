@@ -1,41 +1,20 @@
-// The area that records tile, in an advertisement or a scan response.
+// Areas of records, read and rewritten.
 ghost use mathlib.Core.Path.{_≡_};
 ghost use mathlib.Core.List.{_++_};
 ghost use Prim.Native.Nat.{_≤_};
 ghost use lib.ListN.{length, drop};
-ghost use Rattle.records.specs.Area.{AcceptedFrom, readArea, rewritten, rewrittenTo, rewrittenAfter};
-ghost use Rattle.records.specs.Padding.{isZeros, readPadded};
-ghost use Rattle.records.specs.Accepted.{FrontOf};
+ghost use Rattle.records_spec.specs.Area.{AcceptedFrom, readArea, rewritten, rewrittenTo, rewrittenAfter};
+ghost use Rattle.records_spec.specs.Padding.{isZeros, readPadded};
+ghost use Rattle.records_spec.specs.Accepted.{FrontOf};
 use crate::ad_structure::Read;
 use crate::ad_structure::read_record;
 use crate::ad_structure::write_record;
 use octets::bytes::ByteWriter;
 use octets::bytes::Written;
 use octets::error::Error;
-
-// What reading a whole area finds.
-pub enum Area {
-    // The number of records.
-    Accepted(usize),
-    // The refusal of the first bad record.
-    Refused(Error),
-}
-
-// What the hub's reading of an area finds: a zero length may end the records, with zeros alone behind it (the Core, Vol 3 Part C, 11).
-pub enum PaddedArea {
-    // The number of records, and how many octets they took.
-    Accepted(usize, usize),
-    // The refusal of the first fault.
-    Refused(Error),
-}
-
-// The good records that an area begins with.
-enum Front {
-    // They are the whole area: their number.
-    Whole(usize),
-    // Their number, where the first bad record stands, and its refusal.
-    Bad(usize, usize, Error),
-}
+pub use records_spec::area::Area;
+use records_spec::area::Front;
+pub use records_spec::area::PaddedArea;
 
 // Reads an area up to its first bad record: what both readings share.
 fn read_front(s: &[u8]) -> Front

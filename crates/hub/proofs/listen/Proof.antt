@@ -9,10 +9,9 @@ use lib.Dec.{eqb}
 use borrow.Author.Needs.{needs}
 use borrow.Author.Tests.{eq-eqb, ne-eqb}
 use Rattle.octets.specs.declared.time.Instant.{Instant}
-use Rattle.beacon.specs.Scanner.{timerUpdated}
-use Rattle.beacon.specs.declared.beacon.BeaconScanner.{BeaconScanner}
-use Rattle.beacon.specs.declared.beacon.Updated.{Updated}
-use Rattle.hub.specs.Log.{start, scannerAfter}
+use Rattle.beacon_spec.specs.Scanner.{timerUpdated}
+use Rattle.beacon_spec.specs.State.{BeaconScanner, Updated}
+use Rattle.hub_spec.specs.Log.{start, scannerAfter}
 use Rattle.hub.proofs.listen.Statement.{statement}
 use Rattle.hub.proofs.listen.Tie as tie
 

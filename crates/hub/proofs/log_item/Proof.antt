@@ -12,13 +12,13 @@ use Rattle.addresses.specs.Header.{parsed}
 use Rattle.addresses.specs.declared.header.Header.{Header}
 use Rattle.addresses.specs.declared.header.HeaderMade.{HeaderMade}
 use Rattle.addresses.specs.declared.header.HeaderMade.the-variants as made
-use Rattle.beacon.specs.Scanner.{scanned}
-use Rattle.beacon.specs.declared.beacon.BeaconScanner.{BeaconScanner}
-use Rattle.beacon.specs.declared.beacon.Scanned.{Scanned}
-use Rattle.hub.specs.Line.{line, reportsIn, SentIn}
-use Rattle.hub.specs.Log.{isCrcGood, heardIn}
-use Rattle.hub.proofs.Pieces.{nothing-yet}
-use Rattle.hub.proofs.Reports.{heard-sent, line-room}
+use Rattle.beacon.specs.State.{scannerState, scanStep}
+use Rattle.beacon_spec.specs.Scanner.{scanned}
+use Rattle.beacon_spec.specs.State.{BeaconScanner, Scanned}
+use Rattle.hub_spec.specs.Line.{line, reportsIn, SentIn}
+use Rattle.hub_spec.specs.Log.{isCrcGood, heardIn}
+use Rattle.hub_spec.proofs.Pieces.{nothing-yet}
+use Rattle.hub_spec.proofs.Reports.{heard-sent, line-room}
 use Rattle.hub.proofs.log_item.Statement.{statement}
 use Rattle.hub.proofs.log_item.Tie as tie
 
@@ -50,7 +50,7 @@ no-refusal (a ∷ b ∷ []) e long of is = omega arith
 no-refusal (a ∷ b ∷ d ∷ payload) e long of is = let z : _≡_ {A = ℕ} 0 1 = cc in omega arith
 
 -- what the scanner answers is what the item gives
-answered : (c : tie.After-process-adv-packet) → let a = c .before .before .before .before .before .before .before .before .before .before .before .before .before .args in heardIn (a .scanner) (a .item .now) ≡ c .«process-adv-packet» .result
+answered : (c : tie.After-process-adv-packet) → let a = c .before .before .before .before .before .before .before .before .before .before .before .before .before .args in heardIn (scannerState (a .scanner)) (a .item .now) ≡ scanStep (c .«process-adv-packet» .result)
 answered c =
     let at-header = c .before .before .before .before .before in
     let at-test = at-header .before .before .before .before in
@@ -60,9 +60,9 @@ log-scanned-requires : tie.Need-log-scanned-requires
 log-scanned-requires c κs =
     let start = c .before .before .before .before .before .before .before .before .before .before .before .before .before .before in
     let a = start .args in
-    let room = line-room (a .scanner) (a .item .now) in
-    let same : reportsIn (heardIn (a .scanner) (a .item .now)) ≡ reportsIn (c .before .«process-adv-packet» .result) = ap reportsIn (answered (c .before)) in
-    (start .pre .0, (subst (λ (x : Scanned). SentIn x (a .item .now)) (answered (c .before)) (heard-sent (a .scanner) (a .item .now)), omega (arith, room, same, start .pre .1)))
+    let room = line-room (scannerState (a .scanner)) (a .item .now) in
+    let same : reportsIn (heardIn (scannerState (a .scanner)) (a .item .now)) ≡ reportsIn (scanStep (c .before .«process-adv-packet» .result)) = ap reportsIn (answered (c .before)) in
+    (start .pre .0, (subst (λ (x : Scanned). SentIn x (a .item .now)) (answered (c .before)) (heard-sent (scannerState (a .scanner)) (a .item .now)), omega (arith, room, same, start .pre .1)))
 
 carried : (number : ℕ) (out : List ℕ) (at : ℕ) {x y : Scanned} {r : ℕ} {out′ : List ℕ} → x ≡ y → (r ≡ reportsIn y) × (out′ ≡ written (line number y) out at)
     → (r ≡ reportsIn x) × (out′ ≡ written (line number x) out at)
@@ -80,7 +80,7 @@ pub log-item-spec : {M : Type 1} → statement M
 log-item-spec =
     tie.close
     (tie.spec
-    (λ c. let a = c .before .before .before .before .args in short (a .number) (a .scanner) (a .item .now) (a .out .now) (a .at) (c .if1 .taken))
+    (λ c. let a = c .before .before .before .before .args in short (a .number) (scannerState (a .scanner)) (a .item .now) (a .out .now) (a .at) (c .if1 .taken))
     (λ c. search needs)
     (λ c. search needs)
     (λ c. search needs)

@@ -8,14 +8,15 @@ use lib.ListN.{length, take, drop, length-append, length-take, length-drop}
 use lib.Seq.{drop-drop}
 use borrow.Author.Needs.{needs}
 use Rattle.octets.specs.Bytes.{written}
-use Rattle.beacon.specs.declared.beacon.BeaconScanner.{BeaconScanner}
+use Rattle.beacon_spec.specs.State.{BeaconScanner}
+use Rattle.beacon.specs.State.{scannerState}
 use Rattle.items.specs.Item.{wholeSize, items}
-use Rattle.hub.specs.Line.{lineSize, roomFor, line, reportsIn}
-use Rattle.hub.specs.Log.{mostItems, heardIn, after, printed, afterAll, printedAll, itemsFor, linesOf, hubOf, loggedOf, RunCounts, linesIn}
-use Rattle.hub.specs.declared.Hub.{Hub}
+use Rattle.hub_spec.specs.Line.{lineSize, roomFor, line, reportsIn}
+use Rattle.hub_spec.specs.Log.{mostItems, heardIn, after, printed, afterAll, printedAll, itemsFor, linesOf, hubOf, loggedOf, RunCounts, linesIn}
+use Rattle.hub_spec.specs.State.{Hub}
 use Rattle.items.proofs.Items.{whole-fits, none-whole, one-whole, none-more}
-use Rattle.hub.proofs.Pieces.{Wrote, nothing-yet, as-long, then-piece}
-use Rattle.hub.proofs.Reports.{line-size, line-room, one-report}
+use Rattle.hub_spec.proofs.Pieces.{Wrote, nothing-yet, as-long, then-piece}
+use Rattle.hub_spec.proofs.Reports.{line-size, line-room, one-report}
 use Rattle.hub.proofs.log_items.Statement.{statement}
 use Rattle.hub.proofs.log_items.Tie as tie
 
@@ -115,7 +116,7 @@ module _ {h : Hub} {s out₀ out : List ℕ} {count found : ℕ} {scanner : Beac
 
 abbrev Inv-loop : tie.InvT-loop
 Inv-loop table s out₀ items₀ reports₀ scanner₀ at₀ written₀ out items reports scanner at to =
-    Progress (hub items₀ reports₀ scanner₀) s out₀ out items reports scanner at to
+    Progress (hub items₀ reports₀ (scannerState scanner₀)) s out₀ out items reports (scannerState scanner) at to
 
 abbrev μ-loop : tie.MeasureT-loop
 μ-loop table s out₀ items₀ reports₀ scanner₀ at₀ written₀ out items reports scanner at to = mostItems - items

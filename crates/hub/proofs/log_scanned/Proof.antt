@@ -6,13 +6,14 @@ use Prim.Native.Nat.{ℕ}
 use native.Mathlib.Omega.{arith}
 use borrow.Author.Needs.{needs}
 use Rattle.octets.specs.Bytes.{written}
-use Rattle.beacon.specs.declared.beacon.Report.{Report}
-use Rattle.beacon.specs.declared.beacon.Report.the-variants as report
-use Rattle.beacon.specs.declared.beacon.Scanned.{Scanned}
-use Rattle.beacon.specs.Scanner.{isReport}
-use Rattle.hub.specs.Line.{reportLine, line, reportsIn}
-use Rattle.hub.proofs.Pieces.{nothing-yet}
-use Rattle.hub.proofs.Reports.{sent-long}
+use Rattle.beacon_spec.specs.declared.beacon.Report.{Report}
+use Rattle.beacon_spec.specs.declared.beacon.Report.the-variants as report
+use Rattle.beacon_spec.specs.State.{Scanned}
+use Rattle.beacon.specs.State.{scanStep}
+use Rattle.beacon_spec.specs.Scanner.{isReport}
+use Rattle.hub_spec.specs.Line.{reportLine, line, reportsIn}
+use Rattle.hub_spec.proofs.Pieces.{nothing-yet}
+use Rattle.hub_spec.proofs.Reports.{sent-long}
 use Rattle.hub.proofs.log_scanned.Statement.{statement}
 use Rattle.hub.proofs.log_scanned.Tie as tie
 
@@ -43,23 +44,23 @@ put-line-requires c κs =
     let told = c .before .before .before .before in
     let start = told .before .before .before .before .before in
     let sent = start .pre .1 .0 in
-    (start .pre .0, (sent (heard told) .1, (sent-long (start .args .item .now) (sent (heard told) .0), omega (arith, one (start .args .number) (start .args .scanned) (start .args .out .now) (start .args .at) (told .enum-told .given .1), start .pre .1 .1))))
+    (start .pre .0, (sent (heard told) .1, (sent-long (start .args .item .now) (sent (heard told) .0), omega (arith, one (start .args .number) (scanStep (start .args .scanned)) (start .args .out .now) (start .args .at) (told .enum-told .given .1), start .pre .1 .1))))
 
 returns : tie.Need-returns
 returns c =
     let told = c .before .before .before .before .before .before .before in
     let a = told .before .before .before .before .before .args in
-    reported (a .number) (a .scanned) (a .out .now) (a .at) (told .enum-told .given .1) (c .before .before .put-line .ensures)
+    reported (a .number) (scanStep (a .scanned)) (a .out .now) (a .at) (told .enum-told .given .1) (c .before .before .put-line .ensures)
 
 returns-2 : tie.Need-returns-2
 returns-2 c =
     let a = c .before .before .before .before .before .args in
-    unheard (a .number) (a .scanned) (a .out .now) (a .at) (ap isReport (c .enum-told2 .given .1))
+    unheard (a .number) (scanStep (a .scanned)) (a .out .now) (a .at) (ap isReport (c .enum-told2 .given .1))
 
 returns-3 : tie.Need-returns-3
 returns-3 c =
     let a = c .before .before .before .before .before .args in
-    unheard (a .number) (a .scanned) (a .out .now) (a .at) (ap isReport (c .enum-told3 .given .1))
+    unheard (a .number) (scanStep (a .scanned)) (a .out .now) (a .at) (ap isReport (c .enum-told3 .given .1))
 
 pub log-scanned-spec : {M : Type 1} → statement M
 log-scanned-spec =

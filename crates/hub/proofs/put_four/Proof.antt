@@ -10,7 +10,7 @@ use Rattle.octets.specs.Bytes.{written}
 use Rattle.columns.specs.Column.{leading, column}
 use Rattle.columns.proofs.Pairs.{leading-pair, leading-some}
 use Rattle.columns.proofs.Widths.{column-length}
-use Rattle.hub.proofs.Pieces.{column-behind}
+use Rattle.hub_spec.proofs.Pieces.{column-behind}
 use Rattle.hub.proofs.put_four.Statement.{statement}
 use Rattle.hub.proofs.put_four.Tie as tie
 

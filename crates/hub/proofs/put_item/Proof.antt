@@ -5,7 +5,7 @@ use Prim.Native.Nat.{ℕ}
 use borrow.Author.Needs.{needs}
 use Rattle.columns.specs.Column.{column}
 use Rattle.columns.proofs.Widths.{column-length}
-use Rattle.hub.proofs.Pieces.{column-behind}
+use Rattle.hub_spec.proofs.Pieces.{column-behind}
 use Rattle.hub.proofs.put_item.Statement.{statement}
 use Rattle.hub.proofs.put_item.Tie as tie
 

@@ -7,10 +7,11 @@ use lib.ListN.{length, set, drop-of-length-le}
 use borrow.Author.Needs.{needs}
 use Rattle.octets.specs.Bytes.{written}
 use Rattle.columns.specs.Column.{column}
-use Rattle.hub.specs.Line.{lastSize}
-use Rattle.hub.specs.Log.{leftOver, lastLine}
-use Rattle.hub.specs.declared.Hub.{Hub}
-use Rattle.hub.proofs.Pieces.{last-length, nothing-yet, then-column, then-octet}
+use Rattle.hub_spec.specs.Line.{lastSize}
+use Rattle.hub_spec.specs.Log.{leftOver, lastLine}
+use Rattle.hub_spec.specs.State.{Hub}
+use Rattle.hub_spec.proofs.Pieces.{last-length, nothing-yet, then-column, then-octet}
+use Rattle.hub.specs.State.{hubState}
 use Rattle.hub.proofs.put_last_line.Statement.{statement}
 use Rattle.hub.proofs.put_last_line.Tie as tie
 
@@ -35,7 +36,7 @@ returns c =
     let reports = c .before .before .before .before .before .before .before in
     let items = reports .before .before .before .before in
     let start = items .before .before .before in
-    all-columns (start .args .hub) (start .args .kept) (start .args .out .now) (start .pre) (c .before .before .before .before .left-over .ensures) (items .put-next .ensures)
+    all-columns (hubState (start .args .hub)) (start .args .kept) (start .args .out .now) (start .pre) (c .before .before .before .before .left-over .ensures) (items .put-next .ensures)
     (reports .put-next2 .ensures) (c .before .before .put-next3 .ensures)
 
 same-length : tie.Need-same-length

@@ -13,8 +13,8 @@ use Rattle.addresses.specs.Address.{kindNumber}
 use Rattle.addresses.specs.declared.device_address.DeviceAddress.{DeviceAddress}
 use Rattle.columns.proofs.Widths.{column-length}
 use Rattle.columns.specs.Column.{column}
-use Rattle.hub.specs.Line.{lineSize, reportLine}
-use Rattle.hub.proofs.Pieces.{octets-length, line-length, nothing-yet, then-piece, then-column, then-octet}
+use Rattle.hub_spec.specs.Line.{lineSize, reportLine}
+use Rattle.hub_spec.proofs.Pieces.{octets-length, line-length, nothing-yet, then-piece, then-column, then-octet}
 use Rattle.hub.proofs.put_line.Statement.{statement}
 use Rattle.hub.proofs.put_line.Tie as tie
 

@@ -1,7 +1,7 @@
 -- `hub::put_next` meets its contract. Assumes nothing.
 use mathlib.Core.Path.{refl}
 use borrow.Author.Needs.{needs}
-use Rattle.hub.proofs.Pieces.{put-column}
+use Rattle.hub_spec.proofs.Pieces.{put-column}
 use Rattle.hub.proofs.put_next.Statement.{statement}
 use Rattle.hub.proofs.put_next.Tie as tie
 

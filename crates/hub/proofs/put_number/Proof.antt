@@ -6,7 +6,7 @@ use borrow.Author.Needs.{needs}
 use Rattle.columns.specs.Column.{leading, column}
 use Rattle.columns.proofs.Pairs.{column-pair}
 use Rattle.columns.proofs.Widths.{leading-length}
-use Rattle.hub.proofs.Pieces.{column-behind}
+use Rattle.hub_spec.proofs.Pieces.{column-behind}
 use Rattle.hub.proofs.put_number.Statement.{statement}
 use Rattle.hub.proofs.put_number.Tie as tie
 

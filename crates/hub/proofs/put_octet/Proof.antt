@@ -11,7 +11,7 @@ use Rattle.octets.specs.Bytes.{written}
 use Rattle.columns.specs.Column.{column}
 use Rattle.columns.specs.Table.{octetColumns}
 use Rattle.columns.proofs.Table.{copied}
-use Rattle.hub.proofs.Pieces.{Wrote, nothing-yet, as-long, then-octet}
+use Rattle.hub_spec.proofs.Pieces.{Wrote, nothing-yet, as-long, then-octet}
 use Rattle.hub.proofs.put_octet.Statement.{statement}
 use Rattle.hub.proofs.put_octet.Tie as tie
 

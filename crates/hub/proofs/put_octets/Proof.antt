@@ -9,7 +9,7 @@ use lib.Seq.{take-suc, take-all}
 use borrow.Author.Needs.{needs}
 use Rattle.octets.specs.Bytes.{written}
 use Rattle.columns.specs.Column.{column}
-use Rattle.hub.proofs.Pieces.{Wrote, nothing-yet, as-long, then-column}
+use Rattle.hub_spec.proofs.Pieces.{Wrote, nothing-yet, as-long, then-column}
 use Rattle.hub.proofs.put_octets.Statement.{statement}
 use Rattle.hub.proofs.put_octets.Tie as tie
 

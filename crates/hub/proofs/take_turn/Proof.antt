@@ -7,10 +7,10 @@ use native.Mathlib.Omega.{arith}
 use lib.ListN.{length, take, drop, length-take, length-drop}
 use borrow.Author.Needs.{needs}
 use Rattle.items.specs.Item.{behind}
-use Rattle.hub.specs.Log.{mostItems, hubOf, restOf, isStuck, loggedOf, turnOf, restIn}
-use Rattle.hub.specs.declared.Hub.{Hub}
-use Rattle.hub.specs.declared.Logged.{Logged}
+use Rattle.hub_spec.specs.Log.{mostItems, hubOf, restOf, isStuck, loggedOf, turnOf, restIn}
+use Rattle.hub_spec.specs.State.{Hub, Logged}
 use Rattle.items.proofs.Items.{items-fit}
+use Rattle.hub.specs.State.{hubState, loggedStep}
 use Rattle.hub.proofs.take_turn.Statement.{statement}
 use Rattle.hub.proofs.take_turn.Tie as tie
 use Rattle.octets.proofs.Places.{drop-take}
@@ -46,16 +46,16 @@ module _ (h : Hub) (buf : List ℕ) (filled : ℕ) (g : Logged) (inside : filled
 short : (c : tie.After-log-items) → c .log-items .result .taken ≤ c .before .before .before .before .before .before .before .args .filled
 short c =
     let start = c .before .before .before .before .before .before .before in
-    taken-short (start .args .hub) (start .args .buf .now) (start .args .filled) (c .log-items .result) (start .pre .1 .0) (c .log-items .ensures .0)
+    taken-short (hubState (start .args .hub)) (start .args .buf .now) (start .args .filled) (loggedStep (c .log-items .result)) (start .pre .1 .0) (c .log-items .ensures .0)
 
 returns : tie.Need-returns
 unfolding left
 returns c =
-    let logged = c .before .before .before .before .before .before .before .before .before .before in
-    let start = logged .before .before .before .before .before .before .before in
+    let at-items = c .before .before .before .before .before .before .before .before .before .before in
+    let start = at-items .before .before .before .before .before .before .before in
     let a = start .args in
-    let e = logged .log-items .ensures in
-    (answer (a .hub) (a .buf .now) (a .filled) (logged .log-items .result) (start .pre .1 .0) (e .0) (c .before .before .before .before .is-stuck .ensures), (moved (a .hub) (a .buf .now) (a .filled) (logged .log-items .result) (start .pre .1 .0) (e .0) (c .before .before .keep .ensures), e .1))
+    let e = at-items .log-items .ensures in
+    (answer (hubState (a .hub)) (a .buf .now) (a .filled) (loggedStep (at-items .log-items .result)) (start .pre .1 .0) (e .0) (c .before .before .before .before .is-stuck .ensures), (moved (hubState (a .hub)) (a .buf .now) (a .filled) (loggedStep (at-items .log-items .result)) (start .pre .1 .0) (e .0) (c .before .before .keep .ensures), e .1))
 
 pub take-turn-spec : {M : Type 1} → statement M
 take-turn-spec =

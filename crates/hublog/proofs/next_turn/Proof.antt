@@ -6,21 +6,27 @@ use mathlib.Core.List.{List, _++_}
 use lib.ListN.{take, drop, length-take, take-append-drop}
 use lib.Seq.{take-take}
 use borrow.Author.Needs.{needs}
-use Rattle.hub.proofs.AnyReads.{turning}
-use Rattle.hub.specs.Log.{restOf, turnOf, RunCounts}
-use Rattle.hub.specs.Reads.{Next, nothing-read, took}
-use Rattle.hub.specs.declared.Hub.{Hub}
-use Rattle.hub.specs.declared.Turn.{Turn}
+use Rattle.hub.specs.State.{hubState, turnStep}
+use Rattle.hub.specs.declared.Hub as hub
+use Rattle.hub.specs.declared.Turn as block
+use Rattle.hub_spec.proofs.AnyReads.{turning}
+use Rattle.hub_spec.specs.Log.{restOf, turnOf, RunCounts}
+use Rattle.hub_spec.specs.Reads.{Next, nothing-read, took}
+use Rattle.hub_spec.specs.State.{Hub, Turn}
 use Rattle.hublog.proofs.next_turn.Statement.{statement}
 use Rattle.hublog.proofs.next_turn.Tie as tie
+
+-- the hub of a turn that took nothing in
+same-hub : (t : block.Turn) {h : hub.Hub} {kept : ℕ} → (t .hub ≡ h) × (t .kept ≡ kept) → (turnStep t .hub ≡ hubState h) × (t .kept ≡ kept)
+same-hub t is = (ap hubState (is .0), is .1)
 
 at-end : (t : Turn) {h : Hub} {kept size : ℕ} → (t .hub ≡ h) × (t .kept ≡ kept) → RunCounts h → kept ≤ size → RunCounts (t .hub) × (t .kept ≤ size)
 at-end t is counted fits = rw (is .0, is .1) (counted, fits)
 
 turned : {t : Turn} (h : Hub) (buf : List ℕ) (filled : ℕ) {size : ℕ} → t ≡ turnOf h (take filled buf) → RunCounts h → filled ≤ size → RunCounts (t .hub) × (t .kept ≤ size)
 turned h buf filled is counted fits =
-    let turn = turning h (take filled buf) in
-    rw is (turn .counted counted, omega (arith, turn .kept, length-take filled buf))
+    let next = turning h (take filled buf) in
+    rw is (next .counted counted, omega (arith, next .kept, length-take filled buf))
 
 -- nothing was read: the octets that were kept stay
 still : (t : Turn) (h : Hub) (buf buf′ : List ℕ) {kept : ℕ} → (t .hub ≡ h) × (t .kept ≡ kept) → take kept buf′ ≡ take kept buf → Next h (take kept buf) t (take (t .kept) buf′)
@@ -38,13 +44,13 @@ returns : tie.Need-returns
 returns c =
     let read = c .before .before .before .before in
     let start = read .before .before .before .before in
-    (at-end (c .unread .result .turn) (c .unread .ensures) (start .pre .0) (start .pre .1 .0), still (c .unread .result .turn) _ _ _ (c .unread .ensures) (read .read-more .ensures .1))
+    (at-end (turnStep (c .unread .result .turn)) (same-hub (c .unread .result .turn) (c .unread .ensures)) (start .pre .0) (start .pre .1 .0), still (turnStep (c .unread .result .turn)) _ _ _ (same-hub (c .unread .result .turn) (c .unread .ensures)) (read .read-more .ensures .1))
 
 returns-2 : tie.Need-returns-2
 returns-2 c =
     let read = c .before .before .before .before .before in
     let start = read .before .before .before .before in
-    (at-end (c .no-turn .result) (c .no-turn .ensures) (start .pre .0) (start .pre .1 .0), still (c .no-turn .result) _ _ _ (c .no-turn .ensures) (read .read-more .ensures .1))
+    (at-end (turnStep (c .no-turn .result)) (same-hub (c .no-turn .result) (c .no-turn .ensures)) (start .pre .0) (start .pre .1 .0), still (turnStep (c .no-turn .result)) _ _ _ (same-hub (c .no-turn .result) (c .no-turn .ensures)) (read .read-more .ensures .1))
 
 returns-3 : tie.Need-returns-3
 returns-3 c =

@@ -1,7 +1,7 @@
 -- `names::choose` meets its contract: each search that finds nothing leaves the next. Assumes nothing.
 use mathlib.Core.Path.{sym, _∙_}
 use borrow.Author.Needs.{needs}
-use Rattle.names.proofs.Search.{in-first, in-second, in-third, in-fourth, in-none}
+use Rattle.names_spec.proofs.Search.{in-first, in-second, in-third, in-fourth, in-none}
 use Rattle.names.proofs.choose.Statement.{statement}
 use Rattle.names.proofs.choose.Tie as tie
 

@@ -1,6 +1,6 @@
 -- `names::is_name` meets its contract, by the record's type and then by its data. Assumes nothing.
 use borrow.Author.Needs.{needs}
-use Rattle.names.proofs.Search.{other-type, of-type}
+use Rattle.names_spec.proofs.Search.{other-type, of-type}
 use Rattle.names.proofs.is_name.Statement.{statement}
 use Rattle.names.proofs.is_name.Tie as tie
 

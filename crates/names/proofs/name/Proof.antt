@@ -2,8 +2,8 @@
 use mathlib.Core.Path.{ap, _∙_}
 use denote.Ref.{now}
 use borrow.Author.Needs.{needs}
-use Rattle.names.specs.Name.{handedFrom, handedOn}
-use Rattle.names.specs.declared.NamePlace.{NamePlace}
+use Rattle.names_spec.specs.Name.{handedFrom, handedOn}
+use Rattle.names_spec.specs.declared.NamePlace.{NamePlace}
 use Rattle.names.proofs.name.Statement.{statement}
 use Rattle.names.proofs.name.Tie as tie
 

@@ -7,12 +7,12 @@ use native.Mathlib.Omega.{arith}
 use lib.ListN.{length, drop, drop-of-length-le}
 use borrow.Author.Needs.{needs}
 use Rattle.octets.specs.Bytes.{part}
-use Rattle.records.specs.Area.{records, AcceptedFrom}
-use Rattle.records.proofs.Cuts.{Step}
-use Rattle.records.proofs.Restored.{Whole, whole-at}
-use Rattle.names.specs.Name.{isName, firstName, nameIn}
-use Rattle.names.specs.declared.Found.the-variants.{At}
-use Rattle.names.proofs.Search.{goes-on, at-end}
+use Rattle.records_spec.specs.Area.{records, AcceptedFrom}
+use Rattle.records_spec.proofs.Cuts.{Step}
+use Rattle.records_spec.proofs.Restored.{Whole, whole-at}
+use Rattle.names_spec.specs.Name.{isName, firstName, nameIn}
+use Rattle.names_spec.specs.declared.Found.the-variants.{At}
+use Rattle.names_spec.proofs.Search.{goes-on, at-end}
 use Rattle.names.proofs.name_in.Statement.{statement}
 use Rattle.names.proofs.name_in.Tie as tie
 

@@ -47,23 +47,23 @@ use denote.Triple.Table.{entered, cited}
 use denote.Triple.Walked.{says, Stays, stay-none-slice, walkOf, goes-none-slice, Walks, ends-at, walked, walk-meets}
 use denote.Exit.{yes}
 use denote.Triple.Clauses.{ensured, lasts}
-use Rattle.records.specs.Record.{recordAt}
-use Rattle.records.specs.Area.{records, reads, areaOf, readArea}
+use Rattle.records_spec.specs.Record.{recordAt}
+use Rattle.records_spec.specs.Area.{records, reads, areaOf, readArea}
 use Rattle.record_iter.specs.Iter.{after, front, onward}
 use Rattle.record_iter.specs.declared.Records.{Records}
-use Rattle.records.specs.declared.ad_structure.Read.{Read}
-use Rattle.records.specs.declared.ad_structure.Read.the-variants.{Record, End}
-use Rattle.records.specs.declared.area.Area.{Area}
-use Rattle.records.specs.declared.area.Area.the-variants.{Accepted}
-use Rattle.records.proofs.Cuts.{here, at-here, Step, stepped, counting, counting-none, area-more, area-end, area-refused}
+use Rattle.records_spec.specs.declared.ad_structure.Read.{Read}
+use Rattle.records_spec.specs.declared.ad_structure.Read.the-variants.{Record, End}
+use Rattle.records_spec.specs.declared.area.Area.{Area}
+use Rattle.records_spec.specs.declared.area.Area.the-variants.{Accepted}
+use Rattle.records_spec.proofs.Cuts.{here, at-here, Step, stepped, counting, counting-none, area-more, area-end, area-refused}
 use Rattle.record_iter.proofs.Records as T
 use Rattle.record_iter.proofs.Records.Laws as T′
-use Rattle.records.proofs.ad_structure.Read as R
-use Rattle.records.proofs.ad_structure.Read.Laws as R′
+use Rattle.records_spec.proofs.ad_structure.Read as R
+use Rattle.records_spec.proofs.ad_structure.Read.Laws as R′
 use Rattle.octets.proofs.error.Error as Er
 use Rattle.octets.proofs.error.Error.Laws as Er′
-use Rattle.records.proofs.area.Area as Ar
-use Rattle.records.proofs.area.Area.Laws as Ar′
+use Rattle.records_spec.proofs.area.Area as Ar
+use Rattle.records_spec.proofs.area.Area.Laws as Ar′
 use Rattle.record_iter.proofs.Records.new as new
 use Rattle.record_iter.proofs.Records.new.Symbol as new-def
 use Rattle.record_iter.proofs.Records.new.Symbol.{name as #new}

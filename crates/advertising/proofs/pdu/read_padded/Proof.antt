@@ -8,10 +8,10 @@ use lib.ListN.{length, take, drop, length-drop}
 use lib.Seq.{take-all}
 use borrow.Author.Needs.{needs}
 use Rattle.octets.specs.declared.error.Error.{Error}
-use Rattle.records.specs.Padding.{readPadded}
-use Rattle.records.specs.declared.area.Area.the-variants as area
-use Rattle.records.specs.declared.area.PaddedArea.{PaddedArea}
-use Rattle.records.specs.declared.area.PaddedArea.the-variants as padded
+use Rattle.records_spec.specs.Padding.{readPadded}
+use Rattle.records_spec.specs.declared.area.Area.the-variants as area
+use Rattle.records_spec.specs.declared.area.PaddedArea.{PaddedArea}
+use Rattle.records_spec.specs.declared.area.PaddedArea.the-variants as padded
 use Rattle.addresses.specs.Header.{typeOf}
 use Rattle.addresses.specs.declared.header.Header.{Header}
 use Rattle.addresses.specs.declared.header.PduType.{PduType}

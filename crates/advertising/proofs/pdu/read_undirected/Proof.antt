@@ -10,7 +10,7 @@ use borrow.Author.Needs.{needs}
 use Rattle.advertising.specs.Pdu.{withArea, undirected}
 use Rattle.addresses.specs.declared.header.Header.{Header}
 use Rattle.addresses.specs.declared.header.PduType.{PduType}
-use Rattle.records.specs.Area.{readArea}
+use Rattle.records_spec.specs.Area.{readArea}
 use Rattle.advertising.proofs.pdu.read_undirected.Statement.{statement}
 use Rattle.advertising.proofs.pdu.read_undirected.Tie as tie
 

@@ -5,8 +5,8 @@ use borrow.Author.Needs.{needs}
 use Rattle.addresses.specs.Header.{isBeacon, bits, typeOf}
 use Rattle.addresses.specs.declared.header.Header.{Header}
 use Rattle.addresses.specs.declared.header.PduType.{PduType}
-use Rattle.beacon.specs.Scanner.{isType2, unfiltered}
-use Rattle.beacon.proofs.Filtering.{beacon-type}
+use Rattle.beacon_spec.specs.Scanner.{isType2, unfiltered}
+use Rattle.beacon_spec.proofs.Filtering.{beacon-type}
 use Rattle.beacon.proofs.beacon.unfiltered.Statement.{statement}
 use Rattle.beacon.proofs.beacon.unfiltered.Tie as tie
 

@@ -1,13 +1,14 @@
 -- `board_scanner` meets its contract. Assumes nothing.
-use mathlib.Core.Path.{_∙_}
+use mathlib.Core.Path.{ap, _∙_}
 use borrow.Author.Needs.{needs}
+use Rattle.exports.specs.Air.{updatedGot}
 use Rattle.exports.proofs.air.board_scanner.Statement.{statement}
 use Rattle.exports.proofs.air.board_scanner.Tie as tie
 
 returns : tie.Need-returns
 returns c =
     c .found .ensures
-    ∙ rw (c .before .raw-micros .ensures, c .before .before .channel .ensures, c .before .before .before .before .before .scanner .ensures)
+    ∙ rw (c .before .raw-micros .ensures, c .before .before .channel .ensures) (ap updatedGot (c .before .before .before .before .before .scanner .ensures))
 
 pub board-scanner-spec : {M : Type 1} → statement M
 board-scanner-spec =

@@ -1,6 +1,6 @@
 -- `say` meets its contract. Assumes nothing.
 use mathlib.Core.Path.{sym, ap}
-use Rattle.radio.specs.declared.link.Answer.{Answer}
+use Rattle.radio_spec.specs.declared.link.Answer.{Answer}
 use Rattle.exports.specs.Lists.{answerSaid}
 use borrow.Author.Needs.{needs}
 use Rattle.exports.proofs.lists.say.Statement.{statement}

@@ -1,7 +1,7 @@
 -- `board_scanner_call` meets its contract: one more entry after a list. Assumes nothing.
 use mathlib.Core.Path.{ap, _∙_}
-use Rattle.beacon.specs.Scanner.{scannerOf}
-use Rattle.beacon.specs.declared.beacon.BeaconScanner.{BeaconScanner}
+use Rattle.beacon_spec.specs.Scanner.{scannerOf}
+use Rattle.beacon_spec.specs.State.{BeaconScanner}
 use Rattle.exports.specs.Scans.{entriesAfter, entrySaid}
 use borrow.Author.Needs.{needs}
 use Rattle.exports.proofs.scans.board_scanner_call.Statement.{statement}

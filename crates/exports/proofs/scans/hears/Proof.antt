@@ -7,7 +7,7 @@ returns : tie.Need-returns
 returns c =
     let a = c .before .before .before .before .before .before .before .args in
     λ i. record {
-      number = c .before .before .before .number .ensures i;
+      number = c .before .before .before .report-number .ensures i;
       reported = c .before .before .is-report .ensures i;
       random = c .before .is-random .ensures i;
       sender = c .before .before .before .before .raw .ensures i;

@@ -5,12 +5,13 @@ use native.Mathlib.Omega.{arith}
 use lib.ListN.{length}
 use Rattle.exports.specs.Scans.{entriesUpTo, entriesAfter}
 use Rattle.exports.proofs.Entries.{Given, one-more}
+use Rattle.beacon.specs.State.{scannerState}
 use borrow.Author.Needs.{needs}
 use Rattle.exports.proofs.scans.moved_by.Statement.{statement}
 use Rattle.exports.proofs.scans.moved_by.Tie as tie
 
 abbrev Inv-loop : tie.InvT-loop
-Inv-loop entries listening₀ n i₀ listening i = Given listening₀ entries n listening i
+Inv-loop entries listening₀ n i₀ listening i = Given (scannerState listening₀) entries n (scannerState listening) i
 
 abbrev μ-loop : tie.MeasureT-loop
 μ-loop entries listening₀ n i₀ listening i = n - i
@@ -34,7 +35,7 @@ returns c =
     let turn = c .before .loop .inv in
     let a = c .before .before .before .args in
     let all : c .before .loop .i ≡ length (a .entries .now) / 272 = omega (arith, turn .below) in
-    turn .reached ∙ ap (entriesUpTo (a .scanner) (a .entries .now)) all
+    turn .reached ∙ ap (entriesUpTo (scannerState (a .scanner)) (a .entries .now)) all
 
 pub moved-by-spec : {M : Type 1} → statement M
 moved-by-spec =

@@ -5,7 +5,7 @@ use mathlib.Core.Bool.{Bool, true, false}
 use native.Mathlib.Omega.{arith}
 use lib.Dec.{leb}
 use borrow.Author.Tests.{le-leb, lt-leb, leb-true, leb-false}
-use Rattle.hub.specs.Line.{lineSize, shortest, roomFor}
+use Rattle.hub_spec.specs.Line.{lineSize, shortest, roomFor}
 use Rattle.hub.proofs.Hub.is_ready.Statement.{statement}
 use Rattle.hub.proofs.Hub.is_ready.Tie as tie
 

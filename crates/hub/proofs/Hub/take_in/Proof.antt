@@ -5,12 +5,11 @@ use mathlib.Core.List.{List}
 use Prim.Native.Nat.{ℕ}
 use lib.ListN.{length, take}
 use borrow.Author.Needs.{needs}
-use Rattle.hub.specs.Log.{turnOf, isReady, restIn, linesIn, takenIn, restAfter, linesAfter}
-use Rattle.hub.specs.declared.Hub.{Hub}
-use Rattle.hub.specs.declared.TakenIn.{TakenIn}
-use Rattle.hub.specs.declared.TakenIn.the-variants as taken
-use Rattle.hub.specs.declared.Turn.{Turn}
-use Rattle.hub.proofs.AnyReads.{all-ready}
+use Rattle.hub_spec.specs.Log.{turnOf, isReady, restIn, linesIn, takenIn, restAfter, linesAfter}
+use Rattle.hub_spec.specs.State.{Hub, TakenIn, Turn}
+use Rattle.hub_spec.specs.State as taken
+use Rattle.hub_spec.proofs.AnyReads.{all-ready}
+use Rattle.hub.specs.State.{hubState}
 use Rattle.hub.proofs.Hub.take_in.Statement.{statement}
 use Rattle.hub.proofs.Hub.take_in.Tie as tie
 
@@ -23,32 +22,32 @@ module _ (h : Hub) (buf : List ℕ) (filled : ℕ) (out : List ℕ) where
   Takes r buf′ out′ = (r ≡ takenIn h buf filled out) × ((buf′ ≡ restAfter h buf filled out) × (out′ ≡ linesAfter h buf filled out))
 
   turned : {t : Turn} {buf′ out′ : List ℕ} → ready ≡ true → (t ≡ turnOf h (take filled buf)) × ((buf′ ≡ restIn h buf filled) × (out′ ≡ linesIn h (take filled buf) out))
-      → Takes (taken.Turn t) buf′ out′
+      → Takes (taken.turned t) buf′ out′
   unfolding Takes
   turned is e =
-      (ap taken.Turn (e .0) ∙ ap (λ (b : Bool). cond b (taken.Turn (turnOf h (take filled buf))) taken.Refused) (sym is), (e .1 .0 ∙ ap (λ (b : Bool). cond b (restIn h buf filled) buf) (sym is), e .1 .1 ∙ ap (λ (b : Bool). cond b (linesIn h (take filled buf) out) out) (sym is)))
+      (ap taken.turned (e .0) ∙ ap (λ (b : Bool). cond b (taken.turned (turnOf h (take filled buf))) taken.refused) (sym is), (e .1 .0 ∙ ap (λ (b : Bool). cond b (restIn h buf filled) buf) (sym is), e .1 .1 ∙ ap (λ (b : Bool). cond b (linesIn h (take filled buf) out) out) (sym is)))
 
-  refused : ready ≡ false → Takes taken.Refused buf out
+  refused : ready ≡ false → Takes taken.refused buf out
   unfolding Takes
   refused is =
-      (ap (λ (b : Bool). cond b (taken.Turn (turnOf h (take filled buf))) taken.Refused) (sym is), (ap (λ (b : Bool). cond b (restIn h buf filled) buf) (sym is), ap (λ (b : Bool). cond b (linesIn h (take filled buf) out) out) (sym is)))
+      (ap (λ (b : Bool). cond b (taken.turned (turnOf h (take filled buf))) taken.refused) (sym is), (ap (λ (b : Bool). cond b (restIn h buf filled) buf) (sym is), ap (λ (b : Bool). cond b (linesIn h (take filled buf) out) out) (sym is)))
 
 take-turn-requires : tie.Need-take-turn-requires
 take-turn-requires c κs =
     let start = c .before .before .before .before .before .before in
-    all-ready (start .args .self) (start .args .buf .now) (start .args .filled) (start .args .out .now) (sym (c .before .before .before .is-ready .ensures) ∙ c .before .before .if1 .taken)
+    all-ready (hubState (start .args .self)) (start .args .buf .now) (start .args .filled) (start .args .out .now) (sym (c .before .before .before .is-ready .ensures) ∙ c .before .before .if1 .taken)
 
 returns : tie.Need-returns
 unfolding Takes
 returns c =
     let a = c .before .before .before .before .before .before .before .before .before .before .before .args in
-    turned (a .self) (a .buf .now) (a .filled) (a .out .now) (sym (c .before .before .before .before .before .before .before .before .is-ready .ensures) ∙ c .before .before .before .before .before .before .before .if1 .taken) (c .before .before .before .before .take-turn .ensures)
+    turned (hubState (a .self)) (a .buf .now) (a .filled) (a .out .now) (sym (c .before .before .before .before .before .before .before .before .is-ready .ensures) ∙ c .before .before .before .before .before .before .before .if1 .taken) (c .before .before .before .before .take-turn .ensures)
 
 returns-2 : tie.Need-returns-2
 unfolding Takes
 returns-2 c =
     let a = c .before .before .before .before .args in
-    refused (a .self) (a .buf .now) (a .filled) (a .out .now) (sym (c .before .is-ready .ensures) ∙ c .if1 .left)
+    refused (hubState (a .self)) (a .buf .now) (a .filled) (a .out .now) (sym (c .before .is-ready .ensures) ∙ c .if1 .left)
 
 pub take-in-spec : {M : Type 1} → statement M
 take-in-spec = tie.close (tie.spec (λ c κs. search needs) take-turn-requires (λ c. search needs) (λ c. search needs) returns returns-2)

@@ -1,7 +1,7 @@
 -- `is_for` meets its contract. Assumes nothing.
 use mathlib.Core.Path.{_∙_}
 use borrow.Author.Needs.{needs}
-use Rattle.radio.specs.Calls.{isFor}
+use Rattle.radio_spec.specs.Calls.{isFor}
 use Rattle.radio.proofs.link.is_for.Statement.{statement}
 use Rattle.radio.proofs.link.is_for.Tie as tie
 

@@ -8,10 +8,10 @@ use denote.Ref.{now}
 use denote.Enum.Laws as EL
 use denote.Triple.Spec.{tripleOf}
 use denote.Triple.Table.{entered, cited}
-use Rattle.records.specs.Record.{recordAt}
+use Rattle.records_spec.specs.Record.{recordAt}
 use Rattle.record_iter.proofs.TakenApart.{meets}
-use Rattle.records.proofs.ad_structure.Read as R
-use Rattle.records.proofs.ad_structure.Read.Laws as R′
+use Rattle.records_spec.proofs.ad_structure.Read as R
+use Rattle.records_spec.proofs.ad_structure.Read.Laws as R′
 use Rattle.records.proofs.ad_structure.read_record as read
 use Rattle.records.proofs.ad_structure.read_record.Symbol as read-def
 use Rattle.records.proofs.ad_structure.read_record.Symbol.{name as #read-record}

@@ -2,7 +2,7 @@
 -- Assumes nothing.
 use borrow.Author.Needs.{needs}
 use borrow.Author.Tests.{eq-eqb, ne-eqb}
-use Rattle.records.specs.Uuids.{uuid16At}
+use Rattle.records_spec.specs.Uuids.{uuid16At}
 use Rattle.records.proofs.ad_structure.next_uuid16.Statement.{statement}
 use Rattle.records.proofs.ad_structure.next_uuid16.Tie as tie
 

@@ -4,7 +4,7 @@ use mathlib.Core.Path.{ap}
 use Prim.Native.Nat.{ℕ}
 use borrow.Author.Needs.{needs}
 use mathlib.Core.Bool.{false}
-use Rattle.records.specs.Record.{pairKind}
+use Rattle.records_spec.specs.Record.{pairKind}
 use Rattle.records.proofs.ad_structure.pair.Statement.{statement}
 use Rattle.records.proofs.ad_structure.pair.Tie as tie
 

@@ -10,7 +10,7 @@ use borrow.Author.Needs.{needs}
 use borrow.Rule.Slice.PartMut.{putMid}
 use Rattle.octets.specs.Bytes.{written}
 use Rattle.octets.proofs.Laws.{written-keeps}
-use Rattle.records.specs.Record.{recordOf}
+use Rattle.records_spec.specs.Record.{recordOf}
 use Rattle.octets.proofs.Laws.{set-written, part-written, written-written}
 use Rattle.records.proofs.ad_structure.put_raw.Statement.{statement}
 use Rattle.records.proofs.ad_structure.put_raw.Tie as tie

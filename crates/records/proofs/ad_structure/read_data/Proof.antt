@@ -2,7 +2,7 @@
 -- Assumes nothing.
 use borrow.Author.Needs.{needs}
 use borrow.Author.Tests.{ne-eqb}
-use Rattle.records.specs.Record.{dataRead}
+use Rattle.records_spec.specs.Record.{dataRead}
 use Rattle.records.proofs.ad_structure.read_data.Statement.{statement}
 use Rattle.records.proofs.ad_structure.read_data.Tie as tie
 

@@ -2,7 +2,7 @@
 -- Assumes nothing.
 use borrow.Author.Needs.{needs}
 use borrow.Author.Tests.{eq-eqb, ne-eqb}
-use Rattle.records.specs.Record.{flagsRead}
+use Rattle.records_spec.specs.Record.{flagsRead}
 use Rattle.records.proofs.ad_structure.read_flags.Statement.{statement}
 use Rattle.records.proofs.ad_structure.read_flags.Tie as tie
 

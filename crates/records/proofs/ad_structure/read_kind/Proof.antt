@@ -2,7 +2,7 @@
 -- Assumes nothing.
 use borrow.Author.Needs.{needs}
 use borrow.Author.Tests.{ne-eqb}
-use Rattle.records.specs.Record.{kindRead}
+use Rattle.records_spec.specs.Record.{kindRead}
 use Rattle.records.proofs.ad_structure.read_kind.Statement.{statement}
 use Rattle.records.proofs.ad_structure.read_kind.Tie as tie
 

@@ -11,12 +11,12 @@ use lib.ListN.{length, take, drop, length-take, length-drop}
 use borrow.Author.Needs.{needs}
 use borrow.Author.Tests.{leb-true}
 use Rattle.octets.specs.Bytes.{has}
-use Rattle.records.specs.declared.ad_structure.AdStructure.{AdStructure}
-use Rattle.records.specs.declared.ad_structure.AdStructure.the-variants as ad
-use Rattle.records.specs.declared.ad_structure.Parsed.{Parsed}
-use Rattle.records.specs.declared.ad_structure.Parsed.the-variants.{Structure}
-use Rattle.records.specs.Record.{kindRead, lentRead, knownRead}
-use Rattle.records.proofs.ad_structure.AdStructure.{the-type}
+use Rattle.records_spec.specs.declared.ad_structure.AdStructure.{AdStructure}
+use Rattle.records_spec.specs.declared.ad_structure.AdStructure.the-variants as ad
+use Rattle.records_spec.specs.declared.ad_structure.Parsed.{Parsed}
+use Rattle.records_spec.specs.declared.ad_structure.Parsed.the-variants.{Structure}
+use Rattle.records_spec.specs.Record.{kindRead, lentRead, knownRead}
+use Rattle.records_spec.proofs.ad_structure.AdStructure.{the-type}
 use Rattle.records.proofs.ad_structure.read_known.Statement.{statement}
 use Rattle.records.proofs.ad_structure.read_known.Tie as tie
 

@@ -1,7 +1,7 @@
 -- `records::ad_structure::read_name` meets its contract.
 -- Assumes nothing.
 use borrow.Author.Needs.{needs}
-use Rattle.records.specs.Record.{nameRead}
+use Rattle.records_spec.specs.Record.{nameRead}
 use Rattle.records.proofs.ad_structure.read_name.Statement.{statement}
 use Rattle.records.proofs.ad_structure.read_name.Tie as tie
 

@@ -3,9 +3,9 @@
 use mathlib.Core.Path.{ap, _∙_}
 use borrow.Author.Needs.{needs}
 use borrow.Author.Tests.{lt-ltb}
-use Rattle.records.specs.declared.ad_structure.Parsed.the-variants.{Structure}
-use Rattle.records.specs.Record.{pairKind, pairRead}
-use Rattle.records.proofs.Pairs.{pair-is}
+use Rattle.records_spec.specs.declared.ad_structure.Parsed.the-variants.{Structure}
+use Rattle.records_spec.specs.Record.{pairKind, pairRead}
+use Rattle.records_spec.proofs.Pairs.{pair-is}
 use Rattle.records.proofs.ad_structure.read_pair.Statement.{statement}
 use Rattle.records.proofs.ad_structure.read_pair.Tie as tie
 

@@ -5,7 +5,7 @@ use native.Mathlib.Omega.{arith}
 use lib.ListN.{length, drop-of-length-le}
 use borrow.Author.Needs.{needs}
 use borrow.Author.Tests.{lt-ltb, le-ltb}
-use Rattle.records.specs.Record.{recordRead, first, recordAt}
+use Rattle.records_spec.specs.Record.{recordRead, first, recordAt}
 use Rattle.records.proofs.ad_structure.read_record.Statement.{statement}
 use Rattle.records.proofs.ad_structure.read_record.Tie as tie
 

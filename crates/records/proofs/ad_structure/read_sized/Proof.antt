@@ -8,7 +8,7 @@ use lib.ListN.{length, getD, take, drop, length-drop, length-take}
 use lib.Seq.{getD-drop, getD-take, drop-drop}
 use borrow.Author.Needs.{needs}
 use borrow.Author.Tests.{eq-eqb, ne-eqb, lt-ltb, le-ltb}
-use Rattle.records.specs.Record.{dataRead, upTo, recordRead, first}
+use Rattle.records_spec.specs.Record.{dataRead, upTo, recordRead, first}
 use Rattle.octets.proofs.Places.{front, drop-take}
 use Rattle.records.proofs.ad_structure.read_sized.Statement.{statement}
 use Rattle.records.proofs.ad_structure.read_sized.Tie as tie

@@ -2,8 +2,8 @@
 -- Assumes nothing.
 use borrow.Author.Needs.{needs}
 use borrow.Author.Tests.{eq-eqb, ne-eqb}
-use Rattle.records.specs.Record.{uuidsRead}
-use Rattle.records.proofs.Uuids.{uuidSize-positive}
+use Rattle.records_spec.specs.Record.{uuidsRead}
+use Rattle.records_spec.proofs.Uuids.{uuidSize-positive}
 use Rattle.records.proofs.ad_structure.read_uuids.Statement.{statement}
 use Rattle.records.proofs.ad_structure.read_uuids.Tie as tie
 

@@ -10,12 +10,12 @@ use Rattle.octets.specs.declared.bytes.Written.{Written}
 use Rattle.octets.specs.declared.bytes.Written.the-variants.{To}
 use Rattle.octets.specs.declared.error.Error.{Error}
 use Rattle.octets.specs.Bytes.{written}
-use Rattle.records.specs.declared.ad_structure.Checked.{Checked}
-use Rattle.records.specs.declared.ad_structure.Checked.the-variants.{Fine}
-use Rattle.records.specs.declared.ad_structure.Outline.{Outline}
-use Rattle.records.specs.Record.{recordOf}
-use Rattle.records.specs.Write.{ownIn, lentCheck, spaceIn, spaceFor, andThen, checkedTo, checkedAfter, lentTo, lentAfter}
-use Rattle.records.proofs.Space.{space-fine}
+use Rattle.octets.specs.declared.error.Outcome.{Outcome}
+use Rattle.octets.specs.declared.error.Outcome.the-variants as outcome
+use Rattle.records_spec.specs.Write.{Outline, ownIn, lentCheck, spaceIn, spaceFor, andThen, checkedTo, checkedAfter, lentTo, lentAfter}
+use Rattle.records_spec.specs.Record.{recordOf}
+use Rattle.records_spec.proofs.Space.{space-fine}
+use Rattle.records.specs.State.{outlined}
 use Rattle.records.proofs.ad_structure.write_lent.Statement.{statement}
 use Rattle.records.proofs.ad_structure.write_lent.Tie as tie
 
@@ -23,7 +23,7 @@ own-size : (o : Outline) (d : List ℕ) → o .held ≤ 2 → length (ownIn o ++
 own-size o d short = simp (length-append, length-take) (omega arith)
 
 -- a record that may not be written
-not-put : (check : Checked) (xs d out : List ℕ) (at n : ℕ) {may : Checked} {e : Error} → length d ≡ n → may ≡ andThen check (spaceIn n (length out) at) → may ≡ Checked.Refused e
+not-put : (check : Outcome) (xs d out : List ℕ) (at n : ℕ) {may : Outcome} {e : Error} → length d ≡ n → may ≡ andThen check (spaceIn n (length out) at) → may ≡ outcome.Refused e
     → (Written.Refused e ≡ checkedTo (andThen check (spaceFor d out at)) xs at) × (out ≡ checkedAfter (andThen check (spaceFor d out at)) xs out at)
 not-put check xs d out at n size is why = rw (size, ← is, why) (refl, refl)
 
@@ -32,13 +32,13 @@ unfolding lentTo lentAfter
 refused c =
     let entry = c .before .before .before .before .before .before in
     let a = entry .args in
-    let o = a .outline in
+    let o = outlined (a .outline) in
     let d = a .«data» .now in
     not-put (lentCheck (o .name) (o .unit) d) (recordOf (o .ty) (ownIn o ++ d)) (ownIn o ++ d) (a .out .now) (a .writer .at) (o .held + length d) (own-size o d (entry .pre .0)) (c .before .before .before .may-write .ensures) (c .before .e .given .1)
 
 told : (c : tie.After-enum-told)
     → let a = c .before .before .before .before .before .args in
-    Fine ≡ andThen (lentCheck (a .outline .name) (a .outline .unit) (a .«data» .now)) (spaceIn (a .outline .held + length (a .«data» .now)) (length (a .out .now)) (a .writer .at))
+    outcome.Accepted ≡ andThen (lentCheck (a .outline .name) (a .outline .unit) (a .«data» .now)) (spaceIn (a .outline .held + length (a .«data» .now)) (length (a .out .now)) (a .writer .at))
 told c = sym (c .enum-told .given .1) ∙ c .before .before .may-write .ensures
 
 space : (c : tie.After-enum-told)
@@ -69,14 +69,14 @@ own-fits c κs =
     (omega (arith, fits, two, held), omega (arith, two, held))
 
 -- a record that may be written, and was put
-put : (check : Checked) (ty : ℕ) (own d out : List ℕ) (at n end : ℕ) {own₁ l : List ℕ} → length (own ++ d) ≡ n → end ≡ at + 2 + n → Fine ≡ andThen check (spaceIn n (length out) at)
+put : (check : Outcome) (ty : ℕ) (own d out : List ℕ) (at n end : ℕ) {own₁ l : List ℕ} → length (own ++ d) ≡ n → end ≡ at + 2 + n → outcome.Accepted ≡ andThen check (spaceIn n (length out) at)
     → own₁ ≡ own → l ≡ written (recordOf ty (own₁ ++ d)) out at
     → let may = andThen check (spaceFor (own ++ d) out at) in
     (To (record { at = end }) ≡ checkedTo may (recordOf ty (own ++ d)) at) × (l ≡ checkedAfter may (recordOf ty (own ++ d)) out at)
 unfolding recordOf
 put check ty own d out at n end size ends fine is e =
     let next : end ≡ at + suc (suc (length (own ++ d))) = omega arith in
-    let may : Fine ≡ andThen check (spaceFor (own ++ d) out at) = rw size fine in
+    let may : outcome.Accepted ≡ andThen check (spaceFor (own ++ d) out at) = rw size fine in
     rw (← may) (ap (λ (next : ℕ). To (record { at = next })) next, e ∙ ap (λ (o : List ℕ). written (recordOf ty (o ++ d)) out at) is)
 
 done : tie.Need-returns-2
@@ -85,7 +85,7 @@ done c =
     let at-own = c .before .before .before .before .before in
     let entry = at-own .before .before .before .before .before .before in
     let a = entry .args in
-    let o = a .outline in
+    let o = outlined (a .outline) in
     let size : length (ownIn o ++ a .«data» .now) ≡ o .held + length (a .«data» .now) = own-size o (a .«data» .now) (entry .pre .0) in
     put (lentCheck (o .name) (o .unit) (a .«data» .now)) (o .ty) (ownIn o) (a .«data» .now) (a .out .now) (a .writer .at) _ _ size refl (told (at-own .before)) (ap (take (o .held)) (at-own .u16-to-le-bytes .ensures)) (c .before .before .put-raw .ensures)
 

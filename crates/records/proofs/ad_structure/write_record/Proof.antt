@@ -11,12 +11,11 @@ use borrow.Author.Tests.{leb-true}
 use Rattle.octets.specs.declared.error.Error.the-variants.{Eof}
 use Rattle.octets.specs.declared.bytes.Written.{Written}
 use Rattle.octets.specs.Bytes.{has}
-use Rattle.records.specs.declared.ad_structure.AdStructure.{AdStructure}
-use Rattle.records.specs.declared.ad_structure.AdStructure.the-variants as ad
-use Rattle.records.specs.declared.ad_structure.Outline.{Outline}
-use Rattle.records.specs.Write.{ownOf, IsOutline, mayWrite, lentTo, lentAfter, writtenTo, writtenAfter}
-use Rattle.records.specs.Order.{Lends, lentOctets}
-use Rattle.records.proofs.Outlines.{written-by-outline}
+use Rattle.records_spec.specs.declared.ad_structure.AdStructure.{AdStructure}
+use Rattle.records_spec.specs.declared.ad_structure.AdStructure.the-variants as ad
+use Rattle.records_spec.specs.Write.{Outline, ownOf, IsOutline, mayWrite, lentTo, lentAfter, writtenTo, writtenAfter}
+use Rattle.records_spec.specs.Order.{Lends, lentOctets}
+use Rattle.records_spec.proofs.Outlines.{written-by-outline}
 use Rattle.records.proofs.ad_structure.write_record.Statement.{statement}
 use Rattle.records.proofs.ad_structure.write_record.Tie as tie
 
@@ -51,21 +50,21 @@ lent a s out at {o} is there wrote =
     (wrote .0 ∙ ap (λ (d : List ℕ). lentTo o d out at) octets ∙ by .answers s out at lends, wrote .1 ∙ ap (λ (d : List ℕ). lentAfter o d out at) octets ∙ by .after s out at lends)
 
 fits : (c : tie.Then1)
-    → let o = c .before .before .outline .result in
+    → let o = c .before .before .outline-of .result in
     o .start + o .len ≤ length (c .before .before .before .before .before .args .s .now)
 fits c = leb-true _ _ (sym (c .before .has-octets .ensures) ∙ c .if1 .taken)
 
 written : tie.Need-returns
 written c =
     let taken = c .before .before .before .before .before in
-    lent _ _ _ _ (taken .before .before .outline .ensures) (sym (taken .before .has-octets .ensures) ∙ taken .if1 .taken) (c .before .before .write-lent .ensures)
+    lent _ _ _ _ (taken .before .before .outline-of .ensures) (sym (taken .before .has-octets .ensures) ∙ taken .if1 .taken) (c .before .before .write-lent .ensures)
 
 refused : tie.Need-returns-2
-refused c = no-data _ _ _ _ (c .before .before .outline .ensures) (sym (c .before .has-octets .ensures) ∙ c .if1 .left)
+refused c = no-data _ _ _ _ (c .before .before .outline-of .ensures) (sym (c .before .has-octets .ensures) ∙ c .if1 .left)
 
 short : tie.Need-write-lent-requires
 short c κs =
-    let outline = c .before .before .before .before .outline in
+    let outline = c .before .before .before .before .outline-of in
     (rw (outline .ensures .many) (own-short (c .before .before .before .before .before .before .before .args .ad)), outline .ensures .units)
 
 pub write-record-spec : {M : Type 1} → statement M

@@ -2,9 +2,9 @@
 -- Assumes nothing.
 use mathlib.Core.Path.{_≡_, sym, subst}
 use borrow.Author.Needs.{needs}
-use Rattle.records.specs.Accepted.{FrontOf}
-use Rattle.records.proofs.Accepted.{decided}
-use Rattle.records.proofs.Fronts.{first-bad}
+use Rattle.records_spec.specs.Accepted.{FrontOf}
+use Rattle.records_spec.proofs.Accepted.{decided}
+use Rattle.records_spec.proofs.Fronts.{first-bad}
 use Rattle.records.proofs.area.read_area.Statement.{statement}
 use Rattle.records.proofs.area.read_area.Tie as tie
 

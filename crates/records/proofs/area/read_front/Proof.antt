@@ -5,10 +5,10 @@ use Prim.Native.Nat.{_-_, _≤_}
 use native.Mathlib.Omega.{arith}
 use borrow.Author.Needs.{needs}
 use lib.ListN.{length, take}
-use Rattle.records.specs.Accepted.{Tiling}
-use Rattle.records.specs.declared.ad_structure.Read.the-variants.{Record}
-use Rattle.records.proofs.Cuts.{here, at-here, Step, stepped}
-use Rattle.records.proofs.Fronts.{one-more, none-yet, all-of-it, bad-at}
+use Rattle.records_spec.specs.Accepted.{Tiling}
+use Rattle.records_spec.specs.declared.ad_structure.Read.the-variants.{Record}
+use Rattle.records_spec.proofs.Cuts.{here, at-here, Step, stepped}
+use Rattle.records_spec.proofs.Fronts.{one-more, none-yet, all-of-it, bad-at}
 use Rattle.records.proofs.area.read_front.Statement.{statement}
 use Rattle.records.proofs.area.read_front.Tie as tie
 

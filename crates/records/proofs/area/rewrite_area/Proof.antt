@@ -8,9 +8,9 @@ use lib.ListN.{length, drop}
 use borrow.Author.Needs.{needs}
 use borrow.Author.Tests.{lt-ltb, le-ltb}
 use Rattle.octets.specs.declared.bytes.Written.the-variants.{To}
-use Rattle.records.specs.declared.area.Area.the-variants.{Accepted}
-use Rattle.records.specs.Area.{readArea, rewritten, mayRewrite, rewrittenTo, rewrittenAfter}
-use Rattle.records.proofs.Rewritten.{rewritten-length}
+use Rattle.records_spec.specs.declared.area.Area.the-variants.{Accepted}
+use Rattle.records_spec.specs.Area.{readArea, rewritten, mayRewrite, rewrittenTo, rewrittenAfter}
+use Rattle.records_spec.proofs.Rewritten.{rewritten-length}
 use Rattle.records.proofs.area.rewrite_area.Statement.{statement}
 use Rattle.records.proofs.area.rewrite_area.Tie as tie
 

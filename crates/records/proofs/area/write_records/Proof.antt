@@ -8,14 +8,14 @@ use native.Mathlib.Omega.{arith}
 use lib.ListN.{length, getD, drop, length-append, length-drop}
 use lib.Seq.{take-at, drop-append-add, drop-drop}
 use Rattle.octets.specs.Bytes.{written}
-use Rattle.records.specs.declared.ad_structure.AdStructure.{AdStructure}
-use Rattle.records.specs.declared.ad_structure.Read.the-variants.{Record}
-use Rattle.records.specs.Record.{first}
-use Rattle.records.specs.Write.{writtenAfter}
-use Rattle.records.specs.Area.{cut, AcceptedFrom, clean, rewritten}
-use Rattle.records.proofs.Cuts.{here, at-here, Step, stepped, accepted-more, accepted-end}
-use Rattle.records.proofs.Again.{written-again}
-use Rattle.records.proofs.Rewritten.{clean-length, rewritten-step}
+use Rattle.records_spec.specs.declared.ad_structure.AdStructure.{AdStructure}
+use Rattle.records_spec.specs.declared.ad_structure.Read.the-variants.{Record}
+use Rattle.records_spec.specs.Record.{first}
+use Rattle.records_spec.specs.Write.{writtenAfter}
+use Rattle.records_spec.specs.Area.{cut, AcceptedFrom, clean, rewritten}
+use Rattle.records_spec.proofs.Cuts.{here, at-here, Step, stepped, accepted-more, accepted-end}
+use Rattle.records_spec.proofs.Again.{written-again}
+use Rattle.records_spec.proofs.Rewritten.{clean-length, rewritten-step}
 use borrow.Author.Needs.{needs}
 use Rattle.records.proofs.area.write_records.Statement.{statement}
 use Rattle.records.proofs.area.write_records.Tie as tie

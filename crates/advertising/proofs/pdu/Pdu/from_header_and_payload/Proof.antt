@@ -11,7 +11,7 @@ use borrow.Author.Tests.{eq-eqb, ne-eqb}
 use borrow.Author.Needs.{needs}
 use Rattle.advertising.proofs.Accepting.{arm-undirected}
 use Rattle.advertising.specs.Pdu.{byType, directed, decodeBy, decodeOf}
-use Rattle.records.specs.Area.{readArea}
+use Rattle.records_spec.specs.Area.{readArea}
 use Rattle.addresses.specs.Header.{allowsAdvData, lengthOf}
 use Rattle.addresses.specs.declared.header.Header.{Header}
 use Rattle.addresses.specs.declared.header.PduType.{PduType}

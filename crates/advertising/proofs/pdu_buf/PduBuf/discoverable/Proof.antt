@@ -3,7 +3,7 @@ use mathlib.Core.List.{_++_}
 use mathlib.Core.Path.{_≡_, ap, _∙_}
 use lib.ListN.{length, length-append}
 use borrow.Author.Needs.{needs}
-use Rattle.records.specs.Record.{named}
+use Rattle.flags.specs.Flags.{named}
 use Rattle.advertising.specs.PduBuf.{padded, flagsRecord}
 use Rattle.advertising.proofs.Buffers.{placed-first, placed-behind, front-of}
 use Rattle.advertising.proofs.pdu_buf.PduBuf.discoverable.Statement.{statement}

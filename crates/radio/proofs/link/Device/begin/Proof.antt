@@ -8,31 +8,31 @@ use Rattle.channels.specs.Hop.{hopped}
 use Rattle.channels.specs.declared.connection.Hop.{Hop}
 use Rattle.channels.specs.declared.connection.Hop.the-variants as hop
 use Rattle.advertising.specs.declared.pdu.ConnectRequestData.{ConnectRequestData}
-use Rattle.advertising.specs.declared.settings.ConnectionSettings.{ConnectionSettings}
-use Rattle.radio.specs.Calls.{refusal, firstEventAt, connectedAt, begun}
-use Rattle.radio.specs.declared.link.Called.{Called}
-use Rattle.radio.specs.declared.link.Device.{Device}
-use Rattle.radio.proofs.Answers.{first-event}
-use Rattle.radio.proofs.Steps.{hop-there}
+use Rattle.settings.specs.declared.ConnectionSettings.{ConnectionSettings}
+use Rattle.radio_spec.specs.Calls.{refusal, firstEventAt, connectedAt, begun}
+use Rattle.radio_spec.specs.State.{State, Step}
+use Rattle.radio_spec.proofs.Answers.{first-event}
+use Rattle.radio_spec.proofs.Steps.{hop-there}
+use Rattle.radio.specs.State.{state}
 use Rattle.radio.proofs.link.Device.begin.Statement.{statement}
 use Rattle.radio.proofs.link.Device.begin.Tie as tie
 
 -- what the code makes of a hop
-abbrev after : Device → Instant → ConnectRequestData → ConnectionSettings → Hop → Called
+abbrev after : State → Instant → ConnectRequestData → ConnectionSettings → Hop → Step
 after d end l s (hop.To unmapped channel) = connectedAt d end l s unmapped channel
 after d end l s (hop.Refused e) = refusal d e
 
 -- what the first hop came to
 is : (c : tie.After-hop-channel)
     → let a = c .before .before .before .args in
-    begun (a .self) (a .rx-end) (a .lldata) (a .settings) ≡ after (a .self) (a .rx-end) (a .lldata) (a .settings) (c .hop-channel .result)
+    begun (state (a .self)) (a .rx-end) (a .lldata) (a .settings) ≡ after (state (a .self)) (a .rx-end) (a .lldata) (a .settings) (c .hop-channel .result)
 is c =
     let start = c .before .before .before in
     let a = start .args in
     let hop-is : c .hop-channel .result ≡ hopped (a .settings .chm) 0 (a .settings .hop) =
     c .hop-channel .ensures ∙ rw (c .before .before .channel-map .ensures, c .before .hop .ensures) in
     let there = hop-there (a .settings .chm) 0 (a .settings .hop) (omega arith) (omega (arith, start .pre .two-channels)) in
-    ap (after (a .self) (a .rx-end) (a .lldata) (a .settings)) (sym (hop-is ∙ there))
+    ap (after (state (a .self)) (a .rx-end) (a .lldata) (a .settings)) (sym (hop-is ∙ there))
 
 returns : tie.Need-returns
 returns c =

@@ -1,6 +1,6 @@
 -- `Device::event` meets its contract. Assumes nothing.
 use mathlib.Core.Path.{_∙_}
-use Rattle.radio.specs.Calls.{eventOf}
+use Rattle.radio_spec.specs.Calls.{eventOf}
 use borrow.Author.Needs.{needs}
 use Rattle.radio.proofs.link.Device.event.Statement.{statement}
 use Rattle.radio.proofs.link.Device.event.Tie as tie

@@ -2,17 +2,18 @@
 use mathlib.Core.Path.{_≡_, sym, ap, _∙_}
 use borrow.Author.Needs.{needs}
 use Rattle.channels.specs.Hop.{hopped}
-use Rattle.radio.specs.Calls.{hoppedTo, hops}
+use Rattle.radio_spec.specs.Calls.{hoppedTo, hops}
+use Rattle.radio.specs.State.{state}
 use Rattle.radio.proofs.link.Device.hop.Statement.{statement}
 use Rattle.radio.proofs.link.Device.hop.Tie as tie
 
 -- what the connection's hop came to
 is : (c : tie.After-hop-channel)
-    → let d = c .before .before .before .args .self in
+    → let d = state (c .before .before .before .args .self) in
     hops d ≡ hoppedTo d (c .hop-channel .result)
 unfolding hops
 is c =
-    let d = c .before .before .before .args .self in
+    let d = state (c .before .before .before .args .self) in
     let hop : c .hop-channel .result ≡ hopped (d .conn .«channel_map») (d .conn .«unmapped_channel») (d .conn .hop) = c .hop-channel .ensures in
     ap (hoppedTo d) (sym hop)
 

@@ -1,6 +1,6 @@
 -- `Device::process_adv_packet` meets its contract. Assumes nothing.
 use mathlib.Core.Path.{_∙_}
-use Rattle.radio.specs.Calls.{packetOf, packetAfter}
+use Rattle.radio_spec.specs.Calls.{packetOf, packetAfter}
 use borrow.Author.Needs.{needs}
 use Rattle.radio.proofs.link.Device.process_adv_packet.Statement.{statement}
 use Rattle.radio.proofs.link.Device.process_adv_packet.Tie as tie

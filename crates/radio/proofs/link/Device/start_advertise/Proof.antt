@@ -1,6 +1,6 @@
 -- `Device::start_advertise` meets its contract. Assumes nothing.
 use mathlib.Core.Path.{_∙_}
-use Rattle.radio.specs.Calls.{startOf, startAfter}
+use Rattle.radio_spec.specs.Calls.{startOf, startAfter}
 use borrow.Author.Needs.{needs}
 use Rattle.radio.proofs.link.Device.start_advertise.Statement.{statement}
 use Rattle.radio.proofs.link.Device.start_advertise.Tie as tie

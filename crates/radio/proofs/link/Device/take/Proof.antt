@@ -9,9 +9,10 @@ use Rattle.addresses.specs.declared.header.PduType.{PduType}
 use Rattle.addresses.specs.declared.header.PduType.the-variants.{AdvInd, AdvDirectInd, AdvNonconnInd, AdvScanInd, ScanReq, ScanRsp, ConnectReq, Unknown}
 use Rattle.addresses.proofs.header.PduType.{the-type}
 use Rattle.advertising.specs.declared.pdu.ConnectRequestData.{ConnectRequestData}
-use Rattle.radio.specs.declared.link.Device.{Device}
-use Rattle.radio.specs.Calls.{isScanRequest, listens, repliedIf, addressed}
+use Rattle.radio_spec.specs.State.{State}
+use Rattle.radio_spec.specs.Calls.{isScanRequest, listens, repliedIf, addressed}
 use borrow.Author.Needs.{needs}
+use Rattle.radio.specs.State.{state}
 use Rattle.radio.proofs.link.Device.take.Statement.{statement}
 use Rattle.radio.proofs.link.Device.take.Tie as tie
 
@@ -30,7 +31,7 @@ returns-2 c = (
 )
 
 -- another type than the two requests
-other : (d : Device) (end : Instant) (l : ConnectRequestData) (tx : List ℕ) (ty : PduType) → OneOf (0 ∷ 1 ∷ 2 ∷ 3 ∷ 5 ∷ 7 ∷ []) (tagOf the-type ty)
+other : (d : State) (end : Instant) (l : ConnectRequestData) (tx : List ℕ) (ty : PduType) → OneOf (0 ∷ 1 ∷ 2 ∷ 3 ∷ 5 ∷ 7 ∷ []) (tagOf the-type ty)
     → (listens d ≡ addressed d end l tx ty) × (tx ≡ repliedIf (isScanRequest ty) d tx)
 unfolding addressed
 other d end l tx AdvInd is = (refl, refl)
@@ -45,7 +46,7 @@ other d end l tx ConnectReq is = absurd (miss (0 ∷ 1 ∷ 2 ∷ 3 ∷ 5 ∷ 7 �
 returns-3 : tie.Need-returns-3
 returns-3 c =
     let a = c .before .before .before .before .args in
-    let unasked = other (a .self) (a .rx-end) (a .pdu .lldata) (a .tx .now) (c .before .before .ty .result) (c .before .match .keys3) in
+    let unasked = other (state (a .self)) (a .rx-end) (a .pdu .lldata) (a .tx .now) (c .before .before .ty .result) (c .before .match .keys3) in
     (c .listen .ensures ∙ rw (← c .before .before .ty .ensures) (unasked .0), rw (← c .before .before .ty .ensures) (unasked .1))
 
 pub take-spec : {M : Type 1} → statement M

@@ -1,6 +1,6 @@
 -- `Device::update_timer` meets its contract. Assumes nothing.
 use mathlib.Core.Path.{_∙_}
-use Rattle.radio.specs.Calls.{tickOf, tickAfter}
+use Rattle.radio_spec.specs.Calls.{tickOf, tickAfter}
 use borrow.Author.Needs.{needs}
 use Rattle.radio.proofs.link.Device.update_timer.Statement.{statement}
 use Rattle.radio.proofs.link.Device.update_timer.Tie as tie

@@ -1,0 +1,5 @@
+pub mod Broadcasts
+pub mod Filtering
+pub mod Reports
+pub mod Rows
+pub mod Runs

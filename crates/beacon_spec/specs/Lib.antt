@@ -1,0 +1,4 @@
+pub mod Laws
+pub mod Scanner
+pub mod Sending
+pub mod State

@@ -1,0 +1,36 @@
+-- Reading a hub and what its calls return as records leaves nothing out. Assumes nothing.
+use mathlib.Core.Path.{_≡_, refl, sym, ap, _∙_}
+use Rattle.hub_spec.specs.State as spec
+use Rattle.hub.specs.State.{takenStep, Whole}
+use Rattle.hub.specs.declared.Hub.{Hub}
+use Rattle.hub.specs.declared.TakenIn.{TakenIn}
+use Rattle.hub.specs.declared.TakenIn.the-variants as code
+use Rattle.hub.specs.declared.Turn.{Turn}
+
+-- what is read as a record, from that record
+abbrev hubOf : spec.Hub → Hub
+hubOf h =
+    record {
+      items = h .items;
+      reports = h .reports;
+      scanner = record { filter = h .scanner .filter; interval = h .scanner .interval; channel = h .scanner .channel };
+    }
+
+abbrev turnOf : spec.Turn → Turn
+turnOf r = record { hub = hubOf (r .hub); written = r .written; kept = r .kept; «is_stopped» = r .«is_stopped» }
+
+abbrev takenOf : spec.TakenIn → TakenIn
+takenOf (spec.turned t) = code.Turn (turnOf t)
+takenOf spec.refused = code.Refused
+
+again : (r : TakenIn) → takenOf (takenStep r) ≡ r
+again (code.Turn t) = refl
+again code.Refused = refl
+
+pub whole : Whole
+whole =
+    record {
+      hub = λ a b same. ap hubOf same;
+      turn = λ a b same. ap turnOf same;
+      taken = λ a b same. sym (again a) ∙ (ap takenOf same ∙ again b);
+    }

@@ -1,0 +1,79 @@
+-- The player's name beside a move (document 02, Note 4; types: Assigned Numbers, 2.3). specs/Laws says it in the Note's words.
+--   isName ty r               == a record's octets r: its type is ty, and its data are well-formed UTF-8
+--   nameIn ty s               == where the first such record of the area s, which has no padding, has its data
+--   chosen a r                == the first of the four searches that finds something, in an advertisement a and a reply r without padding
+--   nameOf a r                == the same where both are read as the hub reads them, or the refusal
+--   handedFrom p a r, handedOn p a r   == where the octets lie that a place p names in the areas a and r, and these octets
+--   nameFrom a r, nameOctets a r       == the same of the place that is found
+use mathlib.Core.Bool.{Bool, cond, _&&_}
+use mathlib.Core.List.{List, [], _∷_}
+use Prim.Native.Nat.{ℕ, _+_, _-_}
+use lib.Dec.{eqb}
+use lib.ListN.{length, getD, drop}
+use denote.Ref.{RefT, now}
+use Rattle.octets.specs.Bytes.{partOr, partPlace}
+use Rattle.octets.specs.declared.error.Error.the-variants.{NoName}
+use Rattle.utf8.specs.Utf8.{isUtf8}
+use Rattle.records_spec.specs.Types.{shortenedNameType, completeNameType}
+use Rattle.records_spec.specs.Area.{records}
+use Rattle.records_spec.specs.Padding.{unpadded, readPadded}
+use Rattle.records_spec.specs.declared.area.PaddedArea.{PaddedArea}
+use Rattle.records_spec.specs.declared.area.PaddedArea.the-variants as padded
+use Rattle.names_spec.specs.declared.Found.{Found}
+use Rattle.names_spec.specs.declared.Found.the-variants.{At, Nothing}
+use Rattle.names_spec.specs.declared.NamePlace.{NamePlace}
+use Rattle.names_spec.specs.declared.NamePlace.the-variants as place
+
+-- a record is its length, its type and its data (the Core, Vol 3 Part C, 11); those of a name are UTF-8 (the Supplement, Part A, 1.2)
+unfoldable pub isName : ℕ → List ℕ → Bool
+isName ty r = eqb (getD r 1 0) ty && isUtf8 (drop 2 r)
+
+-- the first among records of which the first stands at `at`
+unfoldable pub firstName : ℕ → List (List ℕ) → ℕ → Found
+firstName ty [] at = Nothing
+firstName ty (r ∷ rs) at = cond (isName ty r) (At (at + 2) (length r - 2)) (firstName ty rs (at + length r))
+
+unfoldable pub nameIn : ℕ → List ℕ → Found
+nameIn ty s = firstName ty (records s) 0
+
+-- what a search of the reply, or of the advertisement, finds; or else what comes behind it
+unfoldable pub inReply : Found → NamePlace → NamePlace
+inReply (At start len) else = place.InReply start len
+inReply Nothing else = else
+
+unfoldable pub inAdvertisement : Found → NamePlace → NamePlace
+inAdvertisement (At start len) else = place.InAdvertisement start len
+inAdvertisement Nothing else = else
+
+-- "A complete name in the reply comes first, then complete in the advertisement, then shortened in the reply, then shortened in the advertisement."
+unfoldable pub chosen : List ℕ → List ℕ → NamePlace
+chosen advertisement reply =
+    inReply (nameIn completeNameType reply)
+    (inAdvertisement (nameIn completeNameType advertisement)
+    (inReply (nameIn shortenedNameType reply)
+    (inAdvertisement (nameIn shortenedNameType advertisement)
+    (place.Refused NoName))))
+
+-- a reading refusal comes before anything else
+unfoldable pub afterReading : PaddedArea → NamePlace → NamePlace
+afterReading (padded.Accepted n taken) name = name
+afterReading (padded.Refused e) name = place.Refused e
+
+unfoldable pub nameOf : List ℕ → List ℕ → NamePlace
+nameOf advertisement reply = afterReading (readPadded advertisement) (afterReading (readPadded reply) (chosen (unpadded advertisement) (unpadded reply)))
+
+abbrev pub handedFrom : NamePlace → RefT (List ℕ) → RefT (List ℕ) → ℕ × ℕ
+handedFrom (place.InReply start len) advertisement reply = partPlace len reply start
+handedFrom (place.InAdvertisement start len) advertisement reply = partPlace len advertisement start
+handedFrom (place.Refused e) advertisement reply = advertisement .ptr
+
+abbrev pub handedOn : NamePlace → List ℕ → List ℕ → List ℕ
+handedOn (place.InReply start len) advertisement reply = partOr len reply start
+handedOn (place.InAdvertisement start len) advertisement reply = partOr len advertisement start
+handedOn (place.Refused e) advertisement reply = []
+
+abbrev pub nameFrom : RefT (List ℕ) → RefT (List ℕ) → ℕ × ℕ
+nameFrom advertisement reply = handedFrom (nameOf (now advertisement) (now reply)) advertisement reply
+
+abbrev pub nameOctets : List ℕ → List ℕ → List ℕ
+nameOctets advertisement reply = handedOn (nameOf advertisement reply) advertisement reply

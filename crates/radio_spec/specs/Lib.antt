@@ -1,0 +1,6 @@
+pub mod Calls
+pub mod Demand
+pub mod Laws
+pub mod State
+pub mod Table
+pub mod Trace

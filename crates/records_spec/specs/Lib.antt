@@ -1,0 +1,15 @@
+pub mod Types
+pub mod Record
+pub mod Uuids
+pub mod Write
+pub mod Layout
+pub mod ReadAs
+pub mod Order
+pub mod Outlines
+pub mod Area
+pub mod Accepted
+pub mod Padding
+pub mod Padded
+pub mod RoundTrip
+pub mod ReadBack
+pub mod Examples

@@ -1,0 +1,38 @@
+-- The UUIDs of a list of 16-bit UUIDs, one by one (the Supplement, Part A, 1.1).
+--   uuid16At d at       == what stands at position `at` of the data d
+--   uuids d             == the UUIDs that d is, as numbers
+--   OneByOne d at       == the UUID at position `at` is the first of those from there on, they go on where it ends, and the end is that of d
+use mathlib.Core.Path.{_≡_}
+use Prim.Native.Nat.{ℕ, _+_, _*_, _<_, _≤_}
+use mathlib.Core.Bool.{cond}
+use mathlib.Core.List.{List, [], _∷_}
+use lib.ListN.{length, getD, drop}
+use lib.Dec.{eqb}
+use Rattle.octets.specs.Bytes.{le, u16Read}
+use Rattle.octets.specs.declared.error.Error.the-variants.{Eof}
+use Rattle.octets.specs.Uuid.{uuid16From}
+use Rattle.octets.specs.declared.uuid.Uuid16Read.{Uuid16Read}
+use Rattle.octets.specs.declared.uuid.Uuid16Read.the-variants as read16
+use Rattle.records_spec.specs.declared.ad_structure.NextUuid16.{NextUuid16}
+use Rattle.records_spec.specs.declared.ad_structure.NextUuid16.the-variants as next16
+
+abbrev pub next16From : Uuid16Read → NextUuid16
+next16From (read16.Value uuid next) = next16.Uuid uuid (next .at)
+next16From (read16.Refused e) = next16.Refused e
+
+unfoldable pub uuid16At : List ℕ → ℕ → NextUuid16
+uuid16At d at = cond (eqb (length d) at) next16.End (next16From (uuid16From (u16Read d at)))
+
+abbrev pub uuids : List ℕ → List ℕ
+uuids [] = []
+uuids (x ∷ []) = []
+uuids (x ∷ y ∷ rest) = le (x ∷ y ∷ []) ∷ uuids rest
+
+-- by what was answered: a UUID, least significant octet first; the end of d; or 1 where one octet is left, or the position is past the end
+abbrev pub Next : List ℕ → ℕ → NextUuid16 → Type 0
+Next d at (next16.Uuid uuid next) = (uuid .0 ≡ getD d at 0 + 256 * getD d (at + 1) 0) × (at + 2 ≤ length d) × (uuids (drop at d) ≡ uuid .0 ∷ uuids (drop next d)) × (next ≡ at + 2)
+Next d at next16.End = (at ≡ length d) × (uuids (drop at d) ≡ [])
+Next d at (next16.Refused e) = (e ≡ Eof) × (length d < at + 2) × (at ≡ length d → ⊥)
+
+abbrev pub OneByOne : List ℕ → ℕ → Type 0
+OneByOne d at = Next d at (uuid16At d at)
