@@ -3,39 +3,56 @@ use mathlib.Core.List.{List, [], _∷_, _++_, append-assoc, flatten}
 use mathlib.Core.Path.{_≡_, refl, sym, ap, subst, _∙_}
 use Prim.Native.Nat.{ℕ, suc, _+_}
 use native.Mathlib.Omega.{arith}
+use lib.Dec.{eqb}
 use lib.ListN.{length, length-append}
+use borrow.Author.Tests.{eqb-true, eq-eqb}
 use denote.Ref.{RefT, now}
 use Rattle.octets.specs.Bytes.{partOr, partPlace}
 use Rattle.octets.specs.declared.error.Error.{Error}
 use Rattle.octets.specs.declared.error.Error.the-variants.{NoName}
 use Rattle.octets.proofs.PartOf.{part-is}
-use Rattle.utf8.specs.Utf8.{rowIn, utf8After}
+use Rattle.octets.proofs.Places.{both-true}
+use Rattle.utf8.specs.Utf8.{isUtf8, rowIn, utf8After}
 use Rattle.records_spec.specs.Accepted.{Bad, zero-length, too-few, wrong-flags, odd-list}
 use Rattle.records_spec.specs.Area.{cut, reads, withFirst, areaOf, readArea}
-use Rattle.records_spec.specs.Padded.{Fault, bad-record, not-zero, Found as FoundPadded}
+use Rattle.records_spec.specs.Padded.{Fault, bad-record, not-zero, PaddedVerdict}
 use Rattle.records_spec.specs.Padding.{beforeZero, unpadded, isZeros, endedBy, readPadded}
 use Rattle.records_spec.specs.Record.{flagsRead, uuidsRead, dataRead, upTo, recordRead, first}
 use Rattle.flags.specs.Flags.{named}
 use Rattle.records_spec.specs.declared.area.PaddedArea.{PaddedArea}
 use Rattle.records_spec.specs.declared.area.PaddedArea.the-variants as padded
+use Rattle.records_spec.specs.Search.{firstWhere, searched, IsRead, Stands, Told, Decides, Searching}
+use Rattle.records_spec.specs.declared.area.Found.{Found}
+use Rattle.records_spec.specs.declared.area.Found.the-variants.{At, Nothing}
 use Rattle.records_spec.proofs.Padded.{hub-reads}
-use Rattle.names_spec.specs.Laws.{IsRead, Stands, completeType, shortenedType, Answers, bad-advertisement, bad-reply, complete-in-reply, complete-in-advertisement, shortened-in-reply, shortened-in-advertisement, no-name, LooksUp, NoNames, Eleven, HandsOn, Hands, AnyPlace, NameRows, PartRows, Holds}
-use Rattle.names_spec.specs.Name.{isName, firstName, nameIn, inReply, inAdvertisement, chosen, afterReading, nameOf}
-use Rattle.names_spec.specs.declared.Found.{Found}
-use Rattle.names_spec.specs.declared.Found.the-variants.{At, Nothing}
+use Rattle.records_spec.proofs.Search.{searching}
+use Rattle.names_spec.specs.Laws.{Named, completeType, shortenedType, Answers, bad-advertisement, bad-reply, complete-in-reply, complete-in-advertisement, shortened-in-reply, shortened-in-advertisement, no-name, LooksUp, NoNames, Eleven, HandsOn, Hands, AnyPlace, NameRows, PartRows, Holds}
+use Rattle.names_spec.specs.Name.{isName, nameIn, inReply, inAdvertisement, chosen, afterReading, nameOf}
 use Rattle.names_spec.specs.declared.NamePlace.{NamePlace}
 use Rattle.names_spec.specs.declared.NamePlace.the-variants.{Refused}
-use Rattle.names_spec.proofs.Pieces.{Tells, tells, first-is, none-is}
+
+-- the test of a record is whether it is a name
+decides-name : (ty : ℕ) → Decides (isName ty) (Named ty)
+unfolding isName
+decides-name ty =
+    record {
+      sound = λ n t octets passes. let holds = both-true (eqb t ty) (isUtf8 octets) passes in (eqb-true t ty (holds .0), holds .1);
+      complete = λ n t octets is. rw (eq-eqb t ty (is .0), is .1);
+    }
+
+-- what is found of a type in an area that is read
+search : (s : List ℕ) → IsRead s → (ty : ℕ) → Searching (isName ty) (Named ty) s
+search s x ty = searching s x (decides-name ty)
 
 module _ (a r : List ℕ) where
   -- the searches of two areas that are read
   choice : IsRead a → IsRead r → Answers a r (chosen (unpadded a) (unpadded r))
-  unfolding chosen inReply inAdvertisement
+  unfolding chosen inReply inAdvertisement nameIn
   choice x y =
-      pick (nameIn completeType (unpadded r)) (tells r y completeType) (nameIn completeType (unpadded a)) (tells a x completeType) (nameIn shortenedType (unpadded r)) (tells r y shortenedType)
-      (nameIn shortenedType (unpadded a)) (tells a x shortenedType)
+      pick (nameIn completeType (unpadded r)) (search r y completeType .told) (nameIn completeType (unpadded a)) (search a x completeType .told) (nameIn shortenedType (unpadded r)) (search r y shortenedType .told)
+      (nameIn shortenedType (unpadded a)) (search a x shortenedType .told)
     where
-      pick : (f : Found) → Tells r y completeType f → (g : Found) → Tells a x completeType g → (h : Found) → Tells r y shortenedType h → (k : Found) → Tells a x shortenedType k
+      pick : (f : Found) → Told (Named completeType) r f → (g : Found) → Told (Named completeType) a g → (h : Found) → Told (Named shortenedType) r h → (k : Found) → Told (Named shortenedType) a k
           → Answers a r (inReply f (inAdvertisement g (inReply h (inAdvertisement k (Refused NoName)))))
       pick (At start len) tf g tg h th k tk = complete-in-reply start len x y tf
       pick Nothing tf (At start len) tg h th k tk = complete-in-advertisement start len x y tf tg
@@ -58,15 +75,15 @@ module _ (a r : List ℕ) where
   read-both x y = rw (x .accepted, y .accepted)
 
   only : (p : NamePlace) → Answers a r p → nameOf a r ≡ p
-  unfolding nameOf afterReading chosen inReply inAdvertisement
+  unfolding nameOf afterReading chosen inReply inAdvertisement nameIn
   only _ (bad-advertisement e is) = rw is
   only _ (bad-reply e x is) = rw (x .accepted, is)
-  only _ (complete-in-reply start len x y c) = read-both x y ∙ rw (first-is r y completeType start len c)
-  only _ (complete-in-advertisement start len x y n c) = read-both x y ∙ rw (none-is r y completeType n, first-is a x completeType start len c)
-  only _ (shortened-in-reply start len x y n m c) = read-both x y ∙ rw (none-is r y completeType n, none-is a x completeType m, first-is r y shortenedType start len c)
+  only _ (complete-in-reply start len x y c) = read-both x y ∙ rw (search r y completeType .first start len c)
+  only _ (complete-in-advertisement start len x y n c) = read-both x y ∙ rw (search r y completeType .none n, search a x completeType .first start len c)
+  only _ (shortened-in-reply start len x y n m c) = read-both x y ∙ rw (search r y completeType .none n, search a x completeType .none m, search r y shortenedType .first start len c)
   only _ (shortened-in-advertisement start len x y n m k c) =
-      read-both x y ∙ rw (none-is r y completeType n, none-is a x completeType m, none-is r y shortenedType k, first-is a x shortenedType start len c)
-  only _ (no-name x y n m k l) = read-both x y ∙ rw (none-is r y completeType n, none-is a x completeType m, none-is r y shortenedType k, none-is a x shortenedType l)
+      read-both x y ∙ rw (search r y completeType .none n, search a x completeType .none m, search r y shortenedType .none k, search a x shortenedType .first start len c)
+  only _ (no-name x y n m k l) = read-both x y ∙ rw (search r y completeType .none n, search a x completeType .none m, search r y shortenedType .none k, search a x shortenedType .none l)
 
 pub looks-up : (a r : List ℕ) → LooksUp a r
 looks-up a r = record { found = found a r; only = only a r }
@@ -79,7 +96,7 @@ no-bad _ _ (wrong-flags some there type other) is = let z : _≡_ {A = ℕ} 0 1 
 no-bad _ _ (odd-list some there type even) is = let z : _≡_ {A = ℕ} 0 1 = cc in omega arith
 
 no-fault : (s : List ℕ) → readPadded s ≡ padded.Refused NoName → ⊥
-no-fault s is = go NoName refl (subst (FoundPadded s) is (hub-reads s .found))
+no-fault s is = go NoName refl (subst (PaddedVerdict s) is (hub-reads s .found))
   where
     go : (e : Error) → e ≡ NoName → Fault s e → ⊥
     go e same (bad-record front m n rest cuts good some bad) = no-bad _ e bad same
@@ -115,11 +132,11 @@ hands s start len =
       fewer = λ few. part-is s .fewer len start few;
     }
 
-part-there : (s : RefT (List ℕ)) (ty start len : ℕ) (n : Stands ty (now s) start len) → (partOr len (now s) start ≡ n .name) × (partPlace len s start ≡ (s .ptr .0, s .ptr .1 + start))
+part-there : (s : RefT (List ℕ)) (ty start len : ℕ) (n : Stands (Named ty) (now s) start len) → (partOr len (now s) start ≡ n .octets) × (partPlace len s start ≡ (s .ptr .0, s .ptr .1 + start))
 part-there s ty start len n =
-    let ahead : List ℕ = n .before ++ (suc (length (n .name)) ∷ ty ∷ []) in
-    let cuts : now s ≡ ahead ++ (n .name ++ n .behind) = n .made-up ∙ sym (append-assoc (n .before) (suc (length (n .name)) ∷ ty ∷ []) (n .name ++ n .behind)) in
-    hands s start len .there ahead (n .name) (n .behind) cuts (length-append (n .before) (suc (length (n .name)) ∷ ty ∷ []) ∙ sym (n .begins)) (sym (n .long))
+    let ahead : List ℕ = n .before ++ (suc (length (n .octets)) ∷ n .type ∷ []) in
+    let cuts : now s ≡ ahead ++ (n .octets ++ n .behind) = n .made-up ∙ sym (append-assoc (n .before) (suc (length (n .octets)) ∷ n .type ∷ []) (n .octets ++ n .behind)) in
+    hands s start len .there ahead (n .octets) (n .behind) cuts (length-append (n .before) (suc (length (n .octets)) ∷ n .type ∷ []) ∙ sym (n .begins)) (sym (n .long))
 
 pub hands-on : (a r : RefT (List ℕ)) → HandsOn a r
 hands-on a r =
@@ -133,7 +150,7 @@ pub any-place : (a r : RefT (List ℕ)) → AnyPlace a r
 any-place a r = record { of-reply = hands r; of-advertisement = hands a; refused = λ e. (refl, refl) }
 
 pub rows : NameRows
-unfolding nameOf afterReading chosen inReply inAdvertisement nameIn firstName isName rowIn utf8After readPadded endedBy isZeros unpadded beforeZero flatten readArea areaOf reads withFirst cut first recordRead dataRead flagsRead uuidsRead upTo named
+unfolding nameOf afterReading chosen inReply inAdvertisement nameIn searched firstWhere isName rowIn utf8After readPadded endedBy isZeros unpadded beforeZero flatten readArea areaOf reads withFirst cut first recordRead dataRead flagsRead uuidsRead upTo named
 rows =
     record {
       first = refl;
@@ -159,7 +176,7 @@ rows =
     }
 
 pub part-rows : (x : RefT (List ℕ)) → PartRows x
-unfolding nameOf afterReading chosen inReply inAdvertisement nameIn firstName isName rowIn utf8After readPadded endedBy isZeros unpadded beforeZero flatten readArea areaOf reads withFirst cut first recordRead dataRead flagsRead uuidsRead upTo named
+unfolding nameOf afterReading chosen inReply inAdvertisement nameIn searched firstWhere isName rowIn utf8After readPadded endedBy isZeros unpadded beforeZero flatten readArea areaOf reads withFirst cut first recordRead dataRead flagsRead uuidsRead upTo named
 part-rows x = record { first = refl; second = refl; third = refl; fourth = refl; nothing-in-it = refl; none = refl; bad = refl }
 
 pub holds : Holds

@@ -1,5 +1,5 @@
--- How the search for a name goes on from record to record and from search to search, and what of an area is searched. Assumes nothing.
-use mathlib.Core.Bool.{Bool, false, cond}
+-- Whether a record is a name; how the search for one goes on from search to search, and what of an area is searched. Assumes nothing.
+use mathlib.Core.Bool.{Bool, false}
 use mathlib.Core.List.{List, []}
 use mathlib.Core.Path.{_≡_, sym, _∙_}
 use Prim.Native.Nat.{ℕ, _+_, _-_, _≤_}
@@ -12,29 +12,14 @@ use Rattle.octets.specs.declared.error.Error.{Error}
 use Rattle.octets.specs.declared.error.Error.the-variants.{NoName}
 use Rattle.octets.proofs.Places.{drop-take}
 use Rattle.utf8.specs.Utf8.{isUtf8}
-use Rattle.records_spec.specs.Area.{cut, records, AcceptedFrom, readArea}
+use Rattle.records_spec.specs.Area.{AcceptedFrom, readArea}
 use Rattle.records_spec.specs.Padding.{readPadded}
-use Rattle.records_spec.specs.Record.{first}
 use Rattle.records_spec.specs.Types.{shortenedNameType, completeNameType}
 use Rattle.records_spec.specs.declared.area.PaddedArea.the-variants as padded
-use Rattle.records_spec.proofs.Cuts.{Step}
 use Rattle.records_spec.proofs.Padded.{before, took}
-use Rattle.names_spec.specs.Name.{isName, firstName, nameIn, inReply, inAdvertisement, chosen, afterReading, nameOf}
-use Rattle.names_spec.specs.declared.Found.the-variants.{At, Nothing}
+use Rattle.names_spec.specs.Name.{isName, nameIn, inReply, inAdvertisement, chosen, afterReading, nameOf}
+use Rattle.records_spec.specs.declared.area.Found.the-variants.{At, Nothing}
 use Rattle.names_spec.specs.declared.NamePlace.the-variants.{InReply, InAdvertisement, Refused}
-
--- a record is the name, or the search goes on behind it
-pub goes-on : (s : List ℕ) (ty at : ℕ) {next : ℕ} → Step s at next
-    → firstName ty (records (drop at s)) at ≡ cond (isName ty (part (next - at) s at)) (At (at + 2) (next - at - 2)) (firstName ty (records (drop next s)) next)
-unfolding firstName
-goes-on s ty at {next} step =
-    let long : length (first (drop at s)) ≡ next - at = omega (arith, step .ends) in
-    rw (step .cuts, step .ends, long, step .octets)
-
--- behind the last record there is none
-pub at-end : (s : List ℕ) (ty at : ℕ) → drop at s ≡ [] → firstName ty (records (drop at s)) at ≡ Nothing
-unfolding firstName cut
-at-end s ty at none = rw none
 
 -- ---- the record from `at` up to `next`
 module _ (s : List ℕ) (ty at next : ℕ) (two : at + 2 ≤ next) where

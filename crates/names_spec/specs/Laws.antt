@@ -1,10 +1,7 @@
 -- The look-up in the words of document 02's Note 4: "The result is the name's own octets in whichever of the two lent areas holds it. A complete name in the reply comes first, then complete
 -- in the advertisement, then shortened in the reply, then shortened in the advertisement. Within an area the first such record with well-formed UTF-8 counts; others are passed over. New
 -- numbers: 11, neither area has such a record, after the reading refusals of the advertisement and then the reply."
---   IsRead s                  == the hub's reading accepts the area s
---   Stands ty s start len     == a record of type ty stands in s behind records that are accepted strictly, perhaps none; its data, `len` octets from `start` on, are well-formed UTF-8
---   First ty s start len      == so it does, and no earlier one
---   None ty s                 == there is none
+--   Named ty type octets      == a record of type ty whose data are well-formed UTF-8; `First (Named ty) s start len` (records_spec, specs/Search): the first such record of s has its data there
 --   Answers a r p             == p is the answer for the advertisement a and the reply r
 --   LooksUp a r               (Names.looks-up)       `nameOf` is that answer, and no other place is
 --   Eleven a r                (Names.eleven)         11 exactly where both are read and no such record of either type stands in either
@@ -15,43 +12,22 @@
 use mathlib.Core.Bool.{true}
 use mathlib.Core.List.{List, [], _∷_, _++_, map}
 use mathlib.Core.Path.{_≡_}
-use Prim.Native.Nat.{ℕ, suc, _+_, _≤_, _<_}
+use Prim.Native.Nat.{ℕ, _+_, _<_}
 use lib.ListN.{length, replicate}
 use denote.Ref.{RefT, now}
 use Rattle.octets.specs.declared.error.Error.{Error}
 use Rattle.octets.specs.declared.error.Error.the-variants.{Eof, InvalidLength, NoName}
 use Rattle.utf8.specs.Utf8.{isUtf8}
-use Rattle.records_spec.specs.Area.{readArea}
 use Rattle.records_spec.specs.Padding.{readPadded}
-use Rattle.records_spec.specs.declared.area.Area.the-variants as area
+use Rattle.records_spec.specs.Search.{IsRead, Stands, First, None}
 use Rattle.records_spec.specs.declared.area.PaddedArea.the-variants as padded
 use Rattle.names_spec.specs.Name.{nameOf, handedFrom, handedOn, nameFrom, nameOctets}
 use Rattle.names_spec.specs.declared.NamePlace.{NamePlace}
 use Rattle.names_spec.specs.declared.NamePlace.the-variants.{InReply, InAdvertisement, Refused}
 
-pub record IsRead (s : List ℕ) : Type 0 where
-  pub number : ℕ
-  pub taken : ℕ
-  pub accepted : readPadded s ≡ padded.Accepted number taken
-
--- its length octet counts type and data
-pub record Stands (ty : ℕ) (s : List ℕ) (start len : ℕ) : Type 0 where
-  pub before : List ℕ
-  pub name : List ℕ
-  pub behind : List ℕ
-  pub number : ℕ
-  pub made-up : s ≡ before ++ (suc (length name) ∷ ty ∷ (name ++ behind))
-  pub at-its-place : readArea before ≡ area.Accepted number
-  pub well-formed : isUtf8 name ≡ true
-  pub begins : start ≡ length before + 2
-  pub long : len ≡ length name
-
-pub record First (ty : ℕ) (s : List ℕ) (start len : ℕ) : Type 0 where
-  pub stands : Stands ty s start len
-  pub earliest : (start′ len′ : ℕ) → Stands ty s start′ len′ → start ≤ start′
-
-abbrev pub None : ℕ → List ℕ → Type 0
-None ty s = (start len : ℕ) → Stands ty s start len → ⊥
+-- a record of type ty whose data are well-formed UTF-8
+abbrev pub Named : ℕ → ℕ → List ℕ → Type 0
+Named ty type octets = (type ≡ ty) × (isUtf8 octets ≡ true)
 
 -- the type octets of names as numbers, apart from the definition's own (Assigned Numbers, 2.3)
 abbrev pub completeType : ℕ
@@ -63,12 +39,12 @@ shortenedType = 0x08
 pub data Answers (a r : List ℕ) : NamePlace → Type 0 where
   bad-advertisement : (e : Error) → readPadded a ≡ padded.Refused e → Answers a r (Refused e)
   bad-reply : (e : Error) → IsRead a → readPadded r ≡ padded.Refused e → Answers a r (Refused e)
-  complete-in-reply : (start len : ℕ) → IsRead a → IsRead r → First completeType r start len → Answers a r (InReply start len)
-  complete-in-advertisement : (start len : ℕ) → IsRead a → IsRead r → None completeType r → First completeType a start len → Answers a r (InAdvertisement start len)
-  shortened-in-reply : (start len : ℕ) → IsRead a → IsRead r → None completeType r → None completeType a → First shortenedType r start len → Answers a r (InReply start len)
-  shortened-in-advertisement : (start len : ℕ) → IsRead a → IsRead r → None completeType r → None completeType a → None shortenedType r → First shortenedType a start len
+  complete-in-reply : (start len : ℕ) → IsRead a → IsRead r → First (Named completeType) r start len → Answers a r (InReply start len)
+  complete-in-advertisement : (start len : ℕ) → IsRead a → IsRead r → None (Named completeType) r → First (Named completeType) a start len → Answers a r (InAdvertisement start len)
+  shortened-in-reply : (start len : ℕ) → IsRead a → IsRead r → None (Named completeType) r → None (Named completeType) a → First (Named shortenedType) r start len → Answers a r (InReply start len)
+  shortened-in-advertisement : (start len : ℕ) → IsRead a → IsRead r → None (Named completeType) r → None (Named completeType) a → None (Named shortenedType) r → First (Named shortenedType) a start len
       → Answers a r (InAdvertisement start len)
-  no-name : IsRead a → IsRead r → None completeType r → None completeType a → None shortenedType r → None shortenedType a → Answers a r (Refused NoName)
+  no-name : IsRead a → IsRead r → None (Named completeType) r → None (Named completeType) a → None (Named shortenedType) r → None (Named shortenedType) a → Answers a r (Refused NoName)
 
 pub record LooksUp (a r : List ℕ) : Type 0 where
   pub found : Answers a r (nameOf a r)
@@ -78,8 +54,8 @@ pub record LooksUp (a r : List ℕ) : Type 0 where
 pub record NoNames (a r : List ℕ) : Type 0 where
   pub advertisement : IsRead a
   pub reply : IsRead r
-  pub complete : None completeType a × None completeType r
-  pub shortened : None shortenedType a × None shortenedType r
+  pub complete : None (Named completeType) a × None (Named completeType) r
+  pub shortened : None (Named shortenedType) a × None (Named shortenedType) r
 
 pub record Eleven (a r : List ℕ) : Type 0 where
   pub only-then : nameOf a r ≡ Refused NoName → NoNames a r
@@ -87,10 +63,10 @@ pub record Eleven (a r : List ℕ) : Type 0 where
 
 -- the data of the record that is found, in its own area and place
 pub record HandsOn (a r : RefT (List ℕ)) : Type 0 where
-  pub of-reply : (ty start len : ℕ) → nameOf (now a) (now r) ≡ InReply start len → (n : Stands ty (now r) start len)
-      → (nameOctets (now a) (now r) ≡ n .name) × (nameFrom a r ≡ (r .ptr .0, r .ptr .1 + start))
-  pub of-advertisement : (ty start len : ℕ) → nameOf (now a) (now r) ≡ InAdvertisement start len → (n : Stands ty (now a) start len)
-      → (nameOctets (now a) (now r) ≡ n .name) × (nameFrom a r ≡ (a .ptr .0, a .ptr .1 + start))
+  pub of-reply : (ty start len : ℕ) → nameOf (now a) (now r) ≡ InReply start len → (n : Stands (Named ty) (now r) start len)
+      → (nameOctets (now a) (now r) ≡ n .octets) × (nameFrom a r ≡ (r .ptr .0, r .ptr .1 + start))
+  pub of-advertisement : (ty start len : ℕ) → nameOf (now a) (now r) ≡ InAdvertisement start len → (n : Stands (Named ty) (now a) start len)
+      → (nameOctets (now a) (now r) ≡ n .octets) × (nameFrom a r ≡ (a .ptr .0, a .ptr .1 + start))
   -- no octets, and a place of the advertisement
   pub refused : (e : Error) → nameOf (now a) (now r) ≡ Refused e → (nameFrom a r ≡ a .ptr) × (nameOctets (now a) (now r) ≡ [])
 

@@ -5,22 +5,22 @@
 --   nameOf a r                == the same where both are read as the hub reads them, or the refusal
 --   handedFrom p a r, handedOn p a r   == where the octets lie that a place p names in the areas a and r, and these octets
 --   nameFrom a r, nameOctets a r       == the same of the place that is found
-use mathlib.Core.Bool.{Bool, cond, _&&_}
-use mathlib.Core.List.{List, [], _∷_}
-use Prim.Native.Nat.{ℕ, _+_, _-_}
+use mathlib.Core.Bool.{Bool, _&&_}
+use mathlib.Core.List.{List, []}
+use Prim.Native.Nat.{ℕ}
 use lib.Dec.{eqb}
-use lib.ListN.{length, getD, drop}
+use lib.ListN.{getD, drop}
 use denote.Ref.{RefT, now}
 use Rattle.octets.specs.Bytes.{partOr, partPlace}
 use Rattle.octets.specs.declared.error.Error.the-variants.{NoName}
 use Rattle.utf8.specs.Utf8.{isUtf8}
 use Rattle.records_spec.specs.Types.{shortenedNameType, completeNameType}
-use Rattle.records_spec.specs.Area.{records}
+use Rattle.records_spec.specs.Search.{searched}
+use Rattle.records_spec.specs.declared.area.Found.{Found}
+use Rattle.records_spec.specs.declared.area.Found.the-variants.{At, Nothing}
 use Rattle.records_spec.specs.Padding.{unpadded, readPadded}
 use Rattle.records_spec.specs.declared.area.PaddedArea.{PaddedArea}
 use Rattle.records_spec.specs.declared.area.PaddedArea.the-variants as padded
-use Rattle.names_spec.specs.declared.Found.{Found}
-use Rattle.names_spec.specs.declared.Found.the-variants.{At, Nothing}
 use Rattle.names_spec.specs.declared.NamePlace.{NamePlace}
 use Rattle.names_spec.specs.declared.NamePlace.the-variants as place
 
@@ -28,13 +28,8 @@ use Rattle.names_spec.specs.declared.NamePlace.the-variants as place
 unfoldable pub isName : ℕ → List ℕ → Bool
 isName ty r = eqb (getD r 1 0) ty && isUtf8 (drop 2 r)
 
--- the first among records of which the first stands at `at`
-unfoldable pub firstName : ℕ → List (List ℕ) → ℕ → Found
-firstName ty [] at = Nothing
-firstName ty (r ∷ rs) at = cond (isName ty r) (At (at + 2) (length r - 2)) (firstName ty rs (at + length r))
-
 unfoldable pub nameIn : ℕ → List ℕ → Found
-nameIn ty s = firstName ty (records s) 0
+nameIn ty s = searched (isName ty) s
 
 -- what a search of the reply, or of the advertisement, finds; or else what comes behind it
 unfoldable pub inReply : Found → NamePlace → NamePlace

@@ -1,12 +1,6 @@
 // The player's name beside a move: where it lies, which name counts, and the laws of that. The functions are in `names`.
 use octets::error::Error;
 
-// Where a search of one area finds a name.
-pub enum Found {
-    At { start: usize, len: usize },
-    Nothing,
-}
-
 // Which of the two lent areas holds the name, where it begins there, and how many octets it has.
 pub enum NamePlace {
     InReply { start: usize, len: usize },

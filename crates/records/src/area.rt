@@ -3,9 +3,8 @@ ghost use mathlib.Core.Path.{_≡_};
 ghost use mathlib.Core.List.{_++_};
 ghost use Prim.Native.Nat.{_≤_};
 ghost use lib.ListN.{length, drop};
-ghost use Rattle.records_spec.specs.Area.{AcceptedFrom, readArea, rewritten, rewrittenTo, rewrittenAfter};
+ghost use Rattle.records_spec.specs.Area.{AcceptedFrom, frontOf, readArea, rewritten, rewrittenTo, rewrittenAfter};
 ghost use Rattle.records_spec.specs.Padding.{isZeros, readPadded};
-ghost use Rattle.records_spec.specs.Accepted.{FrontOf};
 use crate::ad_structure::Read;
 use crate::ad_structure::read_record;
 use crate::ad_structure::write_record;
@@ -13,12 +12,13 @@ use octets::bytes::ByteWriter;
 use octets::bytes::Written;
 use octets::error::Error;
 pub use records_spec::area::Area;
-use records_spec::area::Front;
+pub use records_spec::area::Found;
+pub use records_spec::area::Front;
 pub use records_spec::area::PaddedArea;
 
 // Reads an area up to its first bad record: what both readings share.
-fn read_front(s: &[u8]) -> Front
-    ensures { λ r. ⌜ FrontOf (now (s .entry)) r ⌝ }
+pub fn read_front(s: &[u8]) -> Front
+    ensures { λ r. ⌜ r ≡ frontOf (now (s .entry)) ⌝ }
 {
     let mut at = 0;
     let mut count = 0;

@@ -1,7 +1,7 @@
--- Good records one behind the other, and what reading finds behind them. Assumes nothing.
+-- Good records one after the other, and what reading finds after them; what `frontOf` tells: `fronted`. Assumes nothing.
 use mathlib.Core.Path.{_≡_, refl, sym, ap, ap₂, _∙_, subst}
 use mathlib.Core.List.{List, [], _∷_, _++_, append-assoc, append-nil, flatten}
-use Prim.Native.Nat.{ℕ, _+_, _-_}
+use Prim.Native.Nat.{ℕ, zero, suc, _+_, _-_, _≤_}
 use native.Mathlib.Omega.{arith}
 use lib.ListN.{length, take, drop, length-append, length-drop, take-append-drop}
 use lib.Seq.{take-add, take-all, take-at, drop-at}
@@ -10,8 +10,9 @@ use Rattle.records_spec.specs.declared.ad_structure.AdStructure.{AdStruc
 use Rattle.records_spec.specs.declared.ad_structure.Read.{Read}
 use Rattle.records_spec.specs.declared.ad_structure.Read.the-variants.{Record, End}
 use Rattle.records_spec.specs.Record.{recordRead, first}
-use Rattle.records_spec.specs.Area.{cut, records}
-use Rattle.records_spec.specs.Accepted.{Good, AllGood, Tiling, Bad, FirstBad}
+use Rattle.records_spec.specs.Area.{cut, records, frontAt, frontFrom, frontOf}
+use Rattle.records_spec.specs.declared.area.Front.the-variants as front
+use Rattle.records_spec.specs.Accepted.{Good, AllGood, Tiling, Bad, FirstBad, FrontOf, Fronted}
 use Rattle.records_spec.proofs.Accepted.{Class, class}
 use Rattle.records_spec.proofs.Cuts.{cut-skip, here, Step, stepped, ended}
 
@@ -92,3 +93,41 @@ bad-at s at {e} is = go (drop at s) refl
 pub first-bad : (s : List ℕ) (at : ℕ) {count : ℕ} {e : Error} → Tiling (take at s) count → Bad (drop at s) e → FirstBad s e
 first-bad s at t bad =
     record { pieces = t .pieces; rest = drop at s; tile = ap (λ (l : List ℕ). l ++ drop at s) (t .tile) ∙ take-append-drop at s; good = t .good; bad = bad }
+
+-- ---- what an area begins with, at a position, by the answer there
+module _ (s : List ℕ) (at count : ℕ) where
+  pub front-more : {a : AdStructure} {next : ℕ} → here s at ≡ Record a next → frontFrom (records (drop at s)) count at ≡ frontFrom (records (drop next s)) (count + 1) next
+  unfolding here frontFrom frontAt
+  front-more {a} {next} e =
+      let step : Step s at next = stepped s at e in
+      simp (step .cuts, e, step .ends)
+
+  pub front-end : here s at ≡ End → frontFrom (records (drop at s)) count at ≡ front.Whole count
+  unfolding frontFrom cut
+  front-end e = rw (ended s at e)
+
+  pub front-bad : {e : Error} → here s at ≡ Read.Refused e → frontFrom (records (drop at s)) count at ≡ front.Bad count at e
+  unfolding here recordRead frontFrom frontAt cut first
+  front-bad {e} = go (drop at s)
+    where
+      go : (l : List ℕ) → recordRead (first l) at ≡ Read.Refused e → frontFrom (records l) count at ≡ front.Bad count at e
+      go [] is = cc
+      go (x ∷ rest) is = rw is
+
+  -- by the answer at `at`, from what is told after a record there
+  from-here : (r : Read) → here s at ≡ r → Tiling (take at s) count → ((a : AdStructure) (next : ℕ) → here s at ≡ Record a next → FrontOf s (frontFrom (records (drop next s)) (count + 1) next))
+      → FrontOf s (frontFrom (records (drop at s)) count at)
+  from-here (Record a next) e t later = subst (FrontOf s) (sym (front-more e)) (later a next e)
+  from-here End e t later = subst (FrontOf s) (sym (front-end e)) (all-of-it s at e t)
+  from-here (Read.Refused k) e t later = subst (FrontOf s) (sym (front-bad e)) (t, bad-at s at e)
+
+told-from : (fuel : ℕ) (s : List ℕ) (at count : ℕ) → length s - at ≤ fuel → Tiling (take at s) count → FrontOf s (frontFrom (records (drop at s)) count at)
+told-from zero s at count few t =
+    from-here s at count (here s at) refl t (λ a next e. let step : Step s at next = stepped s at e in absurd (omega (arith, step .later, step .inside)))
+told-from (suc fuel) s at count few t =
+    from-here s at count (here s at) refl t
+    (λ a next e. let step : Step s at next = stepped s at e in told-from fuel s next (count + 1) (omega (arith, step .later, step .inside)) (one-more s at e t))
+
+pub fronted : (s : List ℕ) → Fronted s
+unfolding frontOf
+fronted s = record { told = told-from (length s) s 0 0 (omega arith) (none-yet s) }

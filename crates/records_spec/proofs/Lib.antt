@@ -17,3 +17,4 @@ pub mod Order
 pub mod Outlines
 pub mod Examples
 pub mod Uuids
+pub mod Search

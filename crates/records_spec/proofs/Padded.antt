@@ -20,7 +20,7 @@ use Rattle.flags.specs.Flags.{named}
 use Rattle.records_spec.specs.Area.{cut, records, reads, withFirst, areaOf, readArea}
 use Rattle.records_spec.specs.Accepted.{IsList, AllGood, Tiling, Bad, zero-length, too-few, wrong-flags, odd-list, FirstBad, Verdict}
 use Rattle.records_spec.specs.Padding.{beforeZero, unpadded, isZeros, endedBy, readPadded, areaIn}
-use Rattle.records_spec.specs.Padded.{Padding, Fault, bad-record, not-zero, Found, HubReads, ZeroLength, tookAll, Differs, WithoutSize, Took, PaddedRows}
+use Rattle.records_spec.specs.Padded.{Padding, Fault, bad-record, not-zero, PaddedVerdict, HubReads, ZeroLength, tookAll, Differs, WithoutSize, Took, PaddedRows}
 use Rattle.records_spec.proofs.Accepted.{decided}
 use Rattle.records_spec.proofs.Cuts.{cut-skip}
 use Rattle.records_spec.proofs.Restored.{rewriting}
@@ -184,16 +184,16 @@ pub hub-reads : (s : List ℕ) → HubReads s
 hub-reads s = record { found = found (cases s); accepted = accepted; refused = refused }
   where
     zeros-behind : (front rest : List ℕ) (m : ℕ) → s ≡ front ++ (0 ∷ rest) → Tiling front m → (z : Bool) → Split rest z
-        → Found s (cond z (padded.Accepted m (length front)) (padded.Refused InvalidLength))
+        → PaddedVerdict s (cond z (padded.Accepted m (length front)) (padded.Refused InvalidLength))
     zeros-behind front rest m is t true (alone n zeros) =
         record { front = front; zeros = suc n; made-up = is ∙ ap (λ (l : List ℕ). front ++ (0 ∷ l)) zeros; strict = strict front t; size = refl }
     zeros-behind front rest m is t false (another n x more zeros some) =
         not-zero front m n x more (is ∙ ap (λ (l : List ℕ). front ++ (0 ∷ l)) zeros) (strict front t) some
 
-    found : Cases s → Found s (readPadded s)
+    found : Cases s → PaddedVerdict s (readPadded s)
     found (whole m t) = rw (read-whole s t) (record { front = s; zeros = 0; made-up = sym (append-nil s); strict = strict s t; size = refl })
-    found (ended front rest m is t) = subst (Found s) (sym (ap readPadded is ∙ read-ended front t rest)) (zeros-behind front rest m is t (isZeros rest) (split rest))
-    found (bad front m n rest e is t some b) = subst (Found s) (sym (ap readPadded is ∙ read-bad front t n rest some b)) (bad-record front m n rest is (strict front t) some b)
+    found (ended front rest m is t) = subst (PaddedVerdict s) (sym (ap readPadded is ∙ read-ended front t rest)) (zeros-behind front rest m is t (isZeros rest) (split rest))
+    found (bad front m n rest e is t some b) = subst (PaddedVerdict s) (sym (ap readPadded is ∙ read-bad front t n rest some b)) (bad-record front m n rest is (strict front t) some b)
 
     with-zeros : (front : List ℕ) (m k : ℕ) → s ≡ front ++ replicate k 0 → Tiling front m → readPadded s ≡ padded.Accepted m (length front)
     with-zeros front m zero is t = ap readPadded (is ∙ append-nil front) ∙ read-whole front t
@@ -257,7 +257,7 @@ all-zero (suc k) = unpadded-zero (replicate k 0)
 -- an area that is accepted so
 module _ (s : List ℕ) (m taken : ℕ) (is : readPadded s ≡ padded.Accepted m taken) where
   padding : Padding s m taken
-  padding = subst (Found s) is (hub-reads s .found)
+  padding = subst (PaddedVerdict s) is (hub-reads s .found)
 
   front : List ℕ
   front = padding .front

@@ -6,7 +6,8 @@
 --   Bad l e           == the record that l begins with is bad, and refused with e
 --   FirstBad s e      == good records, and then a bad one, are what s begins with
 --   Decided s         == s is accepted exactly if it is tiled, and refused exactly as its first bad record is
---   FrontOf s f       == f tells the good records that s begins with, and the first bad one behind them, if there is one
+--   FrontOf s f       == f tells the good records that s begins with, and the first bad one after them, if there is one
+--   Fronted s         == `frontOf` tells so
 use mathlib.Core.Path.{_≡_}
 use mathlib.Core.Logic.{_⊎_}
 use mathlib.Core.List.{List, [], _∷_, _++_, flatten}
@@ -18,7 +19,7 @@ use Rattle.records_spec.specs.declared.area.Area.{Area}
 use Rattle.records_spec.specs.declared.area.Area.the-variants.{Accepted}
 use Rattle.records_spec.specs.declared.area.Front.{Front}
 use Rattle.records_spec.specs.declared.area.Front.the-variants as front
-use Rattle.records_spec.specs.Area.{readArea}
+use Rattle.records_spec.specs.Area.{readArea, frontOf}
 use Rattle.records_spec.specs.Types.{flagsType, incomplete16Type, complete16Type}
 
 -- the type octet is that of a list of 16-bit UUIDs
@@ -67,3 +68,6 @@ pub record Decided (s : List ℕ) : Type 0 where
 abbrev pub FrontOf : List ℕ → Front → Type 0
 FrontOf s (front.Whole m) = Tiling s m
 FrontOf s (front.Bad m at e) = Tiling (take at s) m × Bad (drop at s) e
+
+pub record Fronted (s : List ℕ) : Type 0 where
+  pub told : FrontOf s (frontOf s)

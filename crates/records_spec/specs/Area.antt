@@ -2,6 +2,8 @@
 --   records s             == the octets of each record, the last cut short where s ends within it
 --   reads rs at           == what reading each of these records finds, the first at position `at`
 --   readArea s            == the number of records, or the refusal of the first bad one
+--   AcceptedFrom s at     == from position `at` on, s is an area that is accepted
+--   frontOf s             == the good records that s begins with, and where the first bad one stands, with its refusal
 --   clean r               == a record's octets, that of Flags without the bits that have no name
 --   rewritten s           == these of each record
 --   rewrittenTo s out, rewrittenAfter s out   == what writing them to the front of `out` answers, and what `out` then holds
@@ -18,6 +20,8 @@ use Rattle.records_spec.specs.declared.ad_structure.Read.the-variants.{R
 use Rattle.octets.specs.declared.error.Outcome.{Outcome}
 use Rattle.octets.specs.declared.error.Outcome.the-variants as outcome
 use Rattle.records_spec.specs.declared.area.Area.{Area}
+use Rattle.records_spec.specs.declared.area.Front.{Front}
+use Rattle.records_spec.specs.declared.area.Front.the-variants as front
 use Rattle.records_spec.specs.declared.area.Area.the-variants.{Accepted}
 use Rattle.records_spec.specs.Record.{first, recordRead}
 use Rattle.flags.specs.Flags.{named}
@@ -55,6 +59,19 @@ readArea s = areaOf (reads (records s) 0)
 pub record AcceptedFrom (s : List ℕ) (at : ℕ) : Type 0 where
   pub count : ℕ
   pub accepted : areaOf (reads (records (drop at s)) at) ≡ Accepted count
+
+-- what an area begins with, from the answer for the record at `at`, before which `count` good ones stand, and what follows from the rest
+unfoldable pub frontAt : Read → Front → ℕ → ℕ → Front
+frontAt (Record a next) rest count at = rest
+frontAt End rest count at = rest
+frontAt (Read.Refused e) rest count at = front.Bad count at e
+
+unfoldable pub frontFrom : List (List ℕ) → ℕ → ℕ → Front
+frontFrom [] count at = front.Whole count
+frontFrom (r ∷ rs) count at = frontAt (recordRead r at) (frontFrom rs (count + 1) (at + length r)) count at
+
+unfoldable pub frontOf : List ℕ → Front
+frontOf s = frontFrom (records s) 0 0
 
 unfoldable pub clean : List ℕ → List ℕ
 clean r = cond (eqb (getD r 1 0) 1) (set r 2 (named (getD r 2 0))) r

@@ -13,3 +13,4 @@ pub mod Padded
 pub mod RoundTrip
 pub mod ReadBack
 pub mod Examples
+pub mod Search

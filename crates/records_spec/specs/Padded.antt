@@ -36,12 +36,12 @@ pub data Fault (s : List ℕ) : Error → Type 0 where
   -- a zero length there, zeros, and an octet that is not
   not-zero : (front : List ℕ) (m zeros x : ℕ) (rest : List ℕ) → s ≡ front ++ (0 ∷ (replicate zeros 0 ++ (x ∷ rest))) → readArea front ≡ area.Accepted m → 0 < x → Fault s InvalidLength
 
-abbrev pub Found : List ℕ → PaddedArea → Type 0
-Found s (padded.Accepted m taken) = Padding s m taken
-Found s (padded.Refused e) = Fault s e
+abbrev pub PaddedVerdict : List ℕ → PaddedArea → Type 0
+PaddedVerdict s (padded.Accepted m taken) = Padding s m taken
+PaddedVerdict s (padded.Refused e) = Fault s e
 
 pub record HubReads (s : List ℕ) : Type 0 where
-  pub found : Found s (readPadded s)
+  pub found : PaddedVerdict s (readPadded s)
   pub accepted : {m taken : ℕ} → Padding s m taken → readPadded s ≡ padded.Accepted m taken
   pub refused : {e : Error} → Fault s e → readPadded s ≡ padded.Refused e
 

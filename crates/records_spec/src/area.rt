@@ -17,6 +17,12 @@ pub enum PaddedArea {
     Refused(Error),
 }
 
+// Where a search of an area finds a record's data.
+pub enum Found {
+    At { start: usize, len: usize },
+    Nothing,
+}
+
 // The good records that an area begins with.
 pub enum Front {
     // They are the whole area: their number.

@@ -10,21 +10,22 @@ use Rattle.octets.specs.Bytes.{part}
 use Rattle.records_spec.specs.Area.{records, AcceptedFrom}
 use Rattle.records_spec.proofs.Cuts.{Step}
 use Rattle.records_spec.proofs.Restored.{Whole, whole-at}
-use Rattle.names_spec.specs.Name.{isName, firstName, nameIn}
-use Rattle.names_spec.specs.declared.Found.the-variants.{At}
-use Rattle.names_spec.proofs.Search.{goes-on, at-end}
+use Rattle.records_spec.specs.Search.{firstWhere, searched}
+use Rattle.records_spec.specs.declared.area.Found.the-variants.{At}
+use Rattle.records_spec.proofs.Search.{goes-on, at-end}
+use Rattle.names_spec.specs.Name.{isName, nameIn}
 use Rattle.names.proofs.name_in.Statement.{statement}
 use Rattle.names.proofs.name_in.Tie as tie
 
 record Progress (s : List ℕ) (ty at : ℕ) : Type 0 where
   from : AcceptedFrom s at
-  so-far : nameIn ty s ≡ firstName ty (records (drop at s)) at
+  so-far : nameIn ty s ≡ firstWhere (isName ty) (records (drop at s)) at
 
 -- by whether the record at `at` is a name
 turn : {s : List ℕ} {ty at next : ℕ} {b t : Bool} → Progress s ty at → Step s at next → b ≡ isName ty (part (next - at) s at) → b ≡ t
-    → nameIn ty s ≡ cond t (At (at + 2) (next - at - 2)) (firstName ty (records (drop next s)) next)
+    → nameIn ty s ≡ cond t (At (at + 2) (next - at - 2)) (firstWhere (isName ty) (records (drop next s)) next)
 turn {s} {ty} {at} {next} p step test came =
-    p .so-far ∙ goes-on s ty at step ∙ ap (λ (b : Bool). cond b (At (at + 2) (next - at - 2)) (firstName ty (records (drop next s)) next)) (sym test ∙ came)
+    p .so-far ∙ goes-on (isName ty) s at step ∙ ap (λ (b : Bool). cond b (At (at + 2) (next - at - 2)) (firstWhere (isName ty) (records (drop next s)) next)) (sym test ∙ came)
 
 abbrev Inv-loop : tie.InvT-loop
 Inv-loop s ty at₀ at = Progress s ty at
@@ -33,7 +34,7 @@ abbrev μ-loop : tie.MeasureT-loop
 μ-loop s ty at₀ at = length s - at
 
 loop-holds : tie.Need-loop-holds Inv-loop μ-loop
-unfolding nameIn
+unfolding nameIn searched
 loop-holds c = record { from = c .before .pre; so-far = refl }
 
 -- a good record stands there
@@ -57,7 +58,7 @@ nowhere : tie.Need-returns-2 Inv-loop μ-loop
 nowhere c =
     let s = c .before .before .before .args .s .now in
     let at = c .before .loop .at in
-    sym (c .before .loop .inv .so-far ∙ at-end s _ at (drop-of-length-le s {i = at} (omega arith)))
+    sym (c .before .loop .inv .so-far ∙ at-end _ s at (drop-of-length-le s {i = at} (omega arith)))
 
 pub name-in-spec : {M : Type 1} → statement M
 name-in-spec =

@@ -1,25 +1,26 @@
--- `records::area::read_front` meets its contract. The loop's invariant: so many good records tile the area up to where it stands.
+-- `records::area::read_front` meets its contract. The loop's invariant: what the area begins with is told from where it stands on.
 -- Assumes nothing.
-use mathlib.Core.Path.{_≡_, sym, _∙_}
+use mathlib.Core.Path.{_≡_, refl, sym, _∙_}
 use Prim.Native.Nat.{_-_, _≤_}
 use native.Mathlib.Omega.{arith}
 use borrow.Author.Needs.{needs}
-use lib.ListN.{length, take}
-use Rattle.records_spec.specs.Accepted.{Tiling}
+use lib.ListN.{length, drop}
+use Rattle.records_spec.specs.Area.{records, frontFrom, frontOf}
 use Rattle.records_spec.specs.declared.ad_structure.Read.the-variants.{Record}
 use Rattle.records_spec.proofs.Cuts.{here, at-here, Step, stepped}
-use Rattle.records_spec.proofs.Fronts.{one-more, none-yet, all-of-it, bad-at}
+use Rattle.records_spec.proofs.Fronts.{front-more, front-end, front-bad}
 use Rattle.records.proofs.area.read_front.Statement.{statement}
 use Rattle.records.proofs.area.read_front.Tie as tie
 
 abbrev Inv-loop : tie.InvT-loop
-Inv-loop s at₀ count₀ at count = Tiling (take at s) count × (count ≤ at) × (at ≤ length s)
+Inv-loop s at₀ count₀ at count = (frontOf s ≡ frontFrom (records (drop at s)) count at) × (count ≤ at) × (at ≤ length s)
 
 abbrev μ-loop : tie.MeasureT-loop
 μ-loop s at₀ count₀ at count = length s - at
 
 loop-holds : tie.Need-loop-holds Inv-loop μ-loop
-loop-holds c = (none-yet (c .before .args .s .now), omega arith, omega arith)
+unfolding frontOf
+loop-holds c = (refl, omega arith, omega arith)
 
 -- what a turn reads
 answered : (c : tie.After-read-record Inv-loop μ-loop) → here (c .before .before .before .args .s .now) (c .before .loop .at) ≡ c .read-record .result
@@ -41,13 +42,13 @@ loop-less : tie.Need-loop-less Inv-loop μ-loop
 loop-less c = omega (arith, on (c .before))
 
 loop-again : tie.Need-loop-again Inv-loop μ-loop
-loop-again c = (one-more _ _ (found (c .before)) (c .before .before .before .before .loop .inv .0), omega (arith, on (c .before)), on (c .before) .inside)
+loop-again c = (c .before .before .before .before .loop .inv .0 ∙ front-more _ _ _ (found (c .before)), omega (arith, on (c .before)), on (c .before) .inside)
 
 whole : tie.Need-returns Inv-loop μ-loop
-whole c = all-of-it _ _ (answered (c .before .before) ∙ c .enum-told .given .1) (c .before .before .before .loop .inv .0)
+whole c = sym (c .before .before .before .loop .inv .0 ∙ front-end _ _ _ (answered (c .before .before) ∙ c .enum-told .given .1))
 
 bad : tie.Need-returns-2 Inv-loop μ-loop
-bad c = (c .before .before .before .before .loop .inv .0, bad-at _ _ (answered (c .before .before .before) ∙ c .before .e .given .1))
+bad c = sym (c .before .before .before .before .loop .inv .0 ∙ front-bad _ _ _ (answered (c .before .before .before) ∙ c .before .e .given .1))
 
 pub read-front-spec : {M : Type 1} → statement M
 read-front-spec =

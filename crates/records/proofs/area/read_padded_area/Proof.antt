@@ -11,15 +11,17 @@ use Rattle.records_spec.specs.Padding.{isZeros, readPadded}
 use Rattle.records_spec.specs.declared.area.Front.{Front}
 use Rattle.records_spec.specs.declared.area.Front.the-variants.{Bad}
 use Rattle.records_spec.specs.declared.area.PaddedArea.the-variants.{Accepted, Refused}
+use Rattle.records_spec.specs.Area.{frontOf}
+use Rattle.records_spec.proofs.Fronts.{fronted}
 use Rattle.records_spec.proofs.Padded.{read-whole, read-behind}
 use Rattle.records.proofs.area.read_padded_area.Statement.{statement}
 use Rattle.records.proofs.area.read_padded_area.Tie as tie
 
 -- a bad record, and whether zeros alone stand from there on
-behind : (s : List ℕ) (m at : ℕ) (e : Error) {f : Front} {b t : Bool} → FrontOf s f → f ≡ Bad m at e → b ≡ isZeros (drop at s) → b ≡ t
+behind : (s : List ℕ) (m at : ℕ) (e : Error) {f : Front} {b t : Bool} → f ≡ frontOf s → f ≡ Bad m at e → b ≡ isZeros (drop at s) → b ≡ t
     → cond t (Accepted m at) (Refused e) ≡ readPadded s
 behind s m at e found is test came =
-    let told = subst (FrontOf s) is found in
+    let told = subst (FrontOf s) (sym found ∙ is) (fronted s .told) in
     sym (read-behind s at (told .0) (told .1) ∙ ap (λ (z : Bool). cond z (Accepted m at) (Refused e)) (sym test ∙ came))
 
 padded : tie.Need-returns
@@ -33,7 +35,7 @@ refused c =
     behind _ _ _ _ (found .before .before .read-front .ensures) (found .count2 .given .1) (c .before .is-zeros .ensures) (c .if1 .left)
 
 whole : tie.Need-returns-2
-whole c = sym (read-whole _ (subst (FrontOf _) (c .before .count .given .1) (c .before .before .before .read-front .ensures)))
+whole c = sym (read-whole _ (subst (FrontOf _) (sym (c .before .before .before .read-front .ensures) ∙ c .before .count .given .1) (fronted _ .told)))
 
 pub read-padded-area-spec : {M : Type 1} → statement M
 read-padded-area-spec =
