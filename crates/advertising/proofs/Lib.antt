@@ -6,3 +6,4 @@ pub mod Examples
 pub mod Figures
 pub mod Padded
 pub mod Refusals
+pub mod Table

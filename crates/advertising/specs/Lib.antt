@@ -4,3 +4,4 @@ pub mod Padded
 pub mod Pdu
 pub mod PduBuf
 pub mod Refusals
+pub mod Table

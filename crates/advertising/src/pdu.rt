@@ -21,7 +21,7 @@ use octets::bytes::part_of;
 use octets::bytes::u16_from_le_bytes;
 use octets::bytes::u32_from_le_bytes;
 use octets::error::Error;
-use octets::error::Outcome;
+pub use octets::error::Outcome;
 use records::area::Area;
 use records::area::PaddedArea;
 use records::area::read_area;

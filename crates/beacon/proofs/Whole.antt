@@ -1,7 +1,7 @@
--- Reading beacons, scanners and what their calls return as records leaves nothing out. Assumes nothing.
-use mathlib.Core.Path.{ap}
+-- Reading beacons, scanners and what their calls return as records leaves nothing out (`whole`) and changes nothing that callers see (`as-it-is`). Assumes nothing.
+use mathlib.Core.Path.{refl, ap}
 use Rattle.beacon_spec.specs.State as spec
-use Rattle.beacon.specs.State.{Whole}
+use Rattle.beacon.specs.State.{Whole, AsItIs}
 use Rattle.beacon.specs.declared.beacon.Beacon.{Beacon}
 use Rattle.beacon.specs.declared.beacon.BeaconScanner.{BeaconScanner}
 use Rattle.beacon.specs.declared.beacon.Made.{Made}
@@ -32,4 +32,18 @@ whole =
       scanner = λ a b same. ap scannerOf same;
       updated = λ a b same. ap updatedOf same;
       scan = λ a b same. ap scannedOf same;
+    }
+
+pub as-it-is : AsItIs
+as-it-is =
+    record {
+      outcome = λ r. refl;
+      beacon = λ r. refl;
+      cmd = λ r. refl;
+      scanner = λ r. refl;
+      report = λ r. refl;
+      sender = λ r. refl;
+      place = λ r. refl;
+      taken = λ r. refl;
+      channel = λ r. refl;
     }

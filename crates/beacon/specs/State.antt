@@ -1,7 +1,8 @@
 -- Beacons, scanners and what their calls return, read as records of the specification: the contracts of src/beacon.rt say of each which record it is.
 --   beaconState b, scannerState s   == the beacon b and the scanner s, whose fields are private
 --   madeStep, updateStep, scanStep  == what making a beacon, an update and a packet return
---   Whole                           == these leave nothing out: what is read as the same is the same
+--   Whole                           == nothing is left out: what is read as the same is the same
+--   AsItIs                          == what callers see is read as it is: outcomes, commands, reports and all that stands beside them
 use mathlib.Core.Path.{_≡_}
 use Rattle.beacon_spec.specs.State as spec
 use Rattle.beacon.specs.declared.beacon.Beacon.{Beacon}
@@ -31,3 +32,14 @@ pub record Whole : Type 0 where
   pub scanner : (a b : BeaconScanner) → scannerState a ≡ scannerState b → a ≡ b
   pub updated : (a b : Updated) → updateStep a ≡ updateStep b → a ≡ b
   pub scan : (a b : Scanned) → scanStep a ≡ scanStep b → a ≡ b
+
+pub record AsItIs : Type 0 where
+  pub outcome : (r : Made) → madeStep r .outcome ≡ r .outcome
+  pub beacon : (r : Made) → madeStep r .beacon ≡ beaconState (r .beacon)
+  pub cmd : (r : Updated) → updateStep r .cmd ≡ r .cmd
+  pub scanner : (r : Updated) → updateStep r .scanner ≡ scannerState (r .scanner)
+  pub report : (r : Scanned) → scanStep r .report ≡ r .report
+  pub sender : (r : Scanned) → scanStep r .sender ≡ r .sender
+  pub place : (r : Scanned) → scanStep r .«adv_data» ≡ r .«adv_data»
+  pub taken : (r : Scanned) → scanStep r .taken ≡ r .taken
+  pub channel : (r : Scanned) → scanStep r .channel ≡ r .channel

@@ -59,7 +59,7 @@ impl Beacon {
 
     // Sends the beacon on 37, 38 and 39: the payload is written to the front of `tx`, or nothing where that is too short.
     pub fn broadcast(self, tx: &mut [u8]) -> Broadcast
-        ensures { λ r. ⌜ (r ≡ broadcastOf (beaconState self) (now (tx .entry))) × (now (tx .exit) ≡ payloadAfter (self .pdu) (now (tx .entry))) ⌝ }
+        ensures { λ r. ⌜ (r ≡ broadcastOf (beaconState self) (now (tx .entry))) × (now (tx .exit) ≡ payloadAfter (beaconState self .pdu) (now (tx .entry))) ⌝ }
     {
         let pdu = self.pdu;
         match pdu.write_payload(tx) {

@@ -1,5 +1,5 @@
--- A beacon, a scanner, and what their calls return. The structs of these names in beacon, whose fields are private, are read as these records
--- (specs/State.antt there).
+-- A beacon, a scanner, and what their calls return. The structs of these names in beacon are read as these records (specs/State.antt there); a beacon and a scanner
+-- have private fields.
 --   Beacon          == what is sent of a beacon: one PDU, built once
 --   Made            == what making a beacon finds
 --   BeaconScanner   == a scanner: its filter, its interval in µs, and the channel that it listens on

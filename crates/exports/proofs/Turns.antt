@@ -9,7 +9,7 @@ use lib.Dec.{eqb}
 use lib.ListN.{length, getD}
 use Rattle.addresses.specs.declared.header.Header.{Header}
 use Rattle.radio_spec.specs.Calls.{instant}
-use Rattle.radio_spec.specs.Trace.{start, tick, packet, event, stop, setScanData}
+use Rattle.radio_spec.specs.Call.{start, tick, packet, event, stop, setScanData}
 use Rattle.radio_spec.specs.State.{State, Step}
 use Rattle.exports.specs.Lists.{timeIn, intervalIn, headerIn, octetsIn, callIn, Board, board, calledBy, stepOf, ran}
 

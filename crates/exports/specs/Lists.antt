@@ -19,7 +19,7 @@ use Rattle.addresses.specs.declared.header.Header.{Header}
 use Rattle.addresses.specs.declared.header.HeaderMade.{HeaderMade}
 use Rattle.addresses.specs.declared.header.HeaderMade.the-variants as made
 use Rattle.radio_spec.specs.Calls.{fresh, instant, isAdvertising, isConnected, startAfter, tickAfter, packetAfter}
-use Rattle.radio_spec.specs.Trace.{Call, start, tick, packet, event, stop, setScanData, callOf}
+use Rattle.radio_spec.specs.Call.{Call, start, tick, packet, event, stop, setScanData, callOf}
 use Rattle.radio_spec.specs.declared.link.Answer.{Answer}
 use Rattle.radio_spec.specs.declared.link.Answer.the-variants as answer
 use Rattle.radio_spec.specs.State.{State, Step}

@@ -8,7 +8,7 @@ ghost use mathlib.Core.Path.{_≡_};
 ghost use lib.ListN.{getD};
 ghost use Rattle.addresses.specs.Address.{kindOf, addressOf};
 ghost use Rattle.addresses.specs.Header.{parsed};
-ghost use Rattle.radio_spec.specs.Trace.{callOf};
+ghost use Rattle.radio_spec.specs.Call.{callOf};
 ghost use Rattle.radio.specs.State.{state, step};
 ghost use Rattle.exports.specs.Lists.{headerOr, timeIn, intervalIn, callIn, bufferAfter, board, calledBy, stepOf, ranAll, answerSaid, calledSaid};
 use addresses::device_address::DeviceAddress;

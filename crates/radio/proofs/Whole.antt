@@ -1,7 +1,7 @@
--- Reading a device as a state, and what a call returns as a step, leaves nothing out. Assumes nothing.
-use mathlib.Core.Path.{ap}
+-- Reading a device as a state, and what a call returns as a step, leaves nothing out (`whole`) and changes nothing that callers see (`as-it-is`). Assumes nothing.
+use mathlib.Core.Path.{refl, ap}
 use Rattle.radio_spec.specs.State as spec
-use Rattle.radio.specs.State.{Whole}
+use Rattle.radio.specs.State.{Whole, AsItIs}
 use Rattle.radio.specs.declared.link.Called.{Called}
 use Rattle.radio.specs.declared.link.Device.{Device}
 
@@ -21,3 +21,6 @@ calledOf s = record { answer = s .answer; device = deviceOf (s .state) }
 
 pub whole : Whole
 whole = record { device = λ a b same. ap deviceOf same; called = λ a b same. ap calledOf same }
+
+pub as-it-is : AsItIs
+as-it-is = record { answer = λ r. refl; device = λ r. refl }

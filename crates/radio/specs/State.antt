@@ -3,7 +3,8 @@
 --   advertisement, connection   == what a device keeps for its ticks and its events
 --   state d                     == the state of the device d
 --   step r                      == the answer of a call, and the state of the device after it
---   Whole                       == these leave nothing out: what is read as the same is the same
+--   Whole                       == nothing is left out: what is read as the same is the same
+--   AsItIs                      == what callers see is read as it is: a call's answer, and the device after it as that device's state
 use mathlib.Core.Path.{_≡_}
 use Rattle.radio_spec.specs.State as spec
 use Rattle.radio.specs.declared.link.Advertisement.{Advertisement}
@@ -34,3 +35,7 @@ step r = record { answer = r .answer; state = state (r .device) }
 pub record Whole : Type 0 where
   pub device : (a b : Device) → state a ≡ state b → a ≡ b
   pub called : (a b : Called) → step a ≡ step b → a ≡ b
+
+pub record AsItIs : Type 0 where
+  pub answer : (r : Called) → step r .answer ≡ r .answer
+  pub device : (r : Called) → step r .state ≡ state (r .device)

@@ -86,7 +86,7 @@ impl Device {
     }
 
     pub fn is_advertising(self) -> bool
-        ensures { λ r. ⌜ r ≡ isAdvertising (self .mode) ⌝ }
+        ensures { λ r. ⌜ r ≡ isAdvertising (state self .mode) ⌝ }
     {
         let mode = self.mode;
         match mode {
@@ -97,7 +97,7 @@ impl Device {
     }
 
     pub fn is_connected(self) -> bool
-        ensures { λ r. ⌜ r ≡ isConnected (self .mode) ⌝ }
+        ensures { λ r. ⌜ r ≡ isConnected (state self .mode) ⌝ }
     {
         let mode = self.mode;
         match mode {

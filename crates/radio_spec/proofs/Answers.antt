@@ -8,7 +8,7 @@ use Rattle.octets.specs.Error.{numberOf}
 use Rattle.octets.specs.Time.{later}
 use Rattle.octets.specs.declared.error.Error.{Error}
 use Rattle.octets.specs.declared.error.Error.the-variants.{Eof, InvalidLength, InvalidValue, ShortHeader, WrongMode, EmptyMap, PayloadLength, NoSuchChannel, RecordLength, NoSuchIndex, NoName, OutOfRange}
-use Rattle.radio_spec.specs.Trace.{firstOf}
+use Rattle.radio_spec.specs.SoFar.{firstOf}
 
 pub first-event : (end offset size : ℕ) → later (later end (later (later offset size) 1250)) 500 ≡ later end (offset + size + 1750)
 first-event end offset size = omega arith

@@ -12,12 +12,14 @@ use Rattle.addresses.specs.declared.header.Header.{Header}
 use Rattle.advertising.specs.Pdu.{decodeOf}
 use Rattle.radio_spec.specs.Calls.{fresh, isAdvertising, listens, refusal, addressed, packetOf}
 use Rattle.radio_spec.specs.Demand.{RefusedAt, TicksFrom, ListeningFrom, RepliesAt, SetsAt, BeginsAt, EventsFrom, StopsAt, Events, ReplyOf, Demand3}
-use Rattle.radio_spec.specs.Trace.{Call, packet, callOf, forBoard, Reading, unread, readOn, Entry, traceFrom, trace, stateFrom, stateAfter, readFrom, modeAfter, scanDataAfter, gather, tickRole, eventRole, AtEach, none, here, Strikable, crcBad, malformed, foreign, Choice, keep, strike, remaining}
+use Rattle.radio_spec.specs.Call.{Call, packet, callOf}
+use Rattle.radio_spec.specs.SoFar.{forBoard, SoFar, atFirst, thenCall, thenCalls, modeAfter, scanDataAfter}
+use Rattle.radio_spec.specs.Trace.{Entry, traceFrom, trace, stateFrom, stateAfter, gather, tickRun, eventRun, AtEach, none, here, Strikable, crcBad, malformed, foreign, Choice, keep, strike, remaining}
 use Rattle.radio_spec.specs.State.{State, Step}
 use Rattle.radio_spec.proofs.Packets.{not-for}
 use Rattle.radio_spec.proofs.Replies.{bare}
 use Rattle.radio_spec.proofs.Runs.{entryOf, traced, TicksOf, payloadIn, ticks-from, listening-from, events-from, begins-at, replies-at, sets-at, stops-at, refused-at}
-use Rattle.radio_spec.proofs.Steps.{reading, scanAfter, Sound, isSet, happens, address-kept, sound-kept, reads-on}
+use Rattle.radio_spec.proofs.Steps.{soFar, scanAfter, Sound, isSet, happens, address-kept, sound-kept, reads-on}
 
 -- a device of this address, in a list
 record Ours (own : DeviceAddress) (scan : List ℕ) (d : State) : Type 0 where
@@ -35,23 +37,23 @@ fresh-ours own six = record { sound = record { six = six; reply = bare own six; 
 -- The list's reading is the device's, with the scan data, so the trace goes by these alone
 
 module _ (own : DeviceAddress) where
-  next-reading : (l : Reading) (scan : List ℕ) (d : State) (c : Call) → Ours own scan d → l ≡ reading scan d → readOn own l c ≡ reading (scanAfter scan c) (callOf d c .state)
+  next-reading : (l : SoFar) (scan : List ℕ) (d : State) (c : Call) → Ours own scan d → l ≡ soFar scan d → thenCall own l c ≡ soFar (scanAfter scan c) (callOf d c .state)
   next-reading l scan d c ours is = rw (← ours .address, is) (reads-on (happens scan d (ours .sound) c))
 
-  trace-traced : (l : Reading) (scan : List ℕ) (d : State) (cs : List Call) → Ours own scan d → l ≡ reading scan d → traceFrom own l d cs ≡ traced scan d cs
+  trace-traced : (l : SoFar) (scan : List ℕ) (d : State) (cs : List Call) → Ours own scan d → l ≡ soFar scan d → traceFrom own l d cs ≡ traced scan d cs
   trace-traced l scan d [] ours is = refl
   trace-traced l scan d (c ∷ cs) ours is =
-      let rest = trace-traced (readOn own l c) (scanAfter scan c) (callOf d c .state) cs (next-ours c ours) (next-reading l scan d c ours is) in
+      let rest = trace-traced (thenCall own l c) (scanAfter scan c) (callOf d c .state) cs (next-ours c ours) (next-reading l scan d c ours is) in
       let address = ours .address in
       cc
 
-  same-mode : (l : Reading) (scan : List ℕ) (d : State) (cs : List Call) → Ours own scan d → l ≡ reading scan d → stateFrom d cs .mode ≡ readFrom own l cs .mode
-  same-mode l scan d [] ours is = sym (ap (λ (x : Reading). x .mode) is)
-  same-mode l scan d (c ∷ cs) ours is = same-mode (readOn own l c) (scanAfter scan c) (callOf d c .state) cs (next-ours c ours) (next-reading l scan d c ours is)
+  same-mode : (l : SoFar) (scan : List ℕ) (d : State) (cs : List Call) → Ours own scan d → l ≡ soFar scan d → stateFrom d cs .mode ≡ thenCalls own l cs .mode
+  same-mode l scan d [] ours is = sym (ap (λ (x : SoFar). x .mode) is)
+  same-mode l scan d (c ∷ cs) ours is = same-mode (thenCall own l c) (scanAfter scan c) (callOf d c .state) cs (next-ours c ours) (next-reading l scan d c ours is)
 
-  same-reply : (l : Reading) (scan : List ℕ) (d : State) (cs : List Call) → Ours own scan d → l ≡ reading scan d → ReplyOf own (readFrom own l cs .scanData) (stateFrom d cs .«scan_response»)
+  same-reply : (l : SoFar) (scan : List ℕ) (d : State) (cs : List Call) → Ours own scan d → l ≡ soFar scan d → ReplyOf own (thenCalls own l cs .scanData) (stateFrom d cs .«scan_response»)
   same-reply l scan d [] ours is = rw (is, ← ours .address) (ours .sound .reply)
-  same-reply l scan d (c ∷ cs) ours is = same-reply (readOn own l c) (scanAfter scan c) (callOf d c .state) cs (next-ours c ours) (next-reading l scan d c ours is)
+  same-reply l scan d (c ∷ cs) ours is = same-reply (thenCall own l c) (scanAfter scan c) (callOf d c .state) cs (next-ours c ours) (next-reading l scan d c ours is)
 
   at-each : (P : Entry → List Entry → Type 0)
       → ((scan : List ℕ) (d : State) (c : Call) (cs : List Call) → Ours own scan d → P (entryOf scan d c (callOf d c)) (traced (scanAfter scan c) (callOf d c .state) cs))
@@ -98,7 +100,7 @@ module _ (own : DeviceAddress) where
 
   fresh-trace : length (own .bytes) ≡ 6 → (calls : List Call) → trace own calls ≡ traced [] (fresh own) calls
   unfolding trace
-  fresh-trace six calls = trace-traced own unread [] (fresh own) calls (fresh-ours own six) refl
+  fresh-trace six calls = trace-traced own atFirst [] (fresh own) calls (fresh-ours own six) refl
 
 -- The whole
 
@@ -111,7 +113,7 @@ demand-3 own six calls =
       refusals = rw (by-device calls) (at-each own RefusedAt (λ scan d c cs o. refused-at (happens scan d (o .sound) c)) [] (fresh own) calls ours);
       ticks = rw (by-device calls) (at-each own (TicksFrom own)
           (λ scan d c cs o time interval records tx is e.
-          subst (λ (x : Call). TicksOf own x (entryOf scan d c (callOf d c) ∷ gather tickRole (traced (scanAfter scan c) (callOf d c .state) cs))) is
+          subst (λ (x : Call). TicksOf own x (entryOf scan d c (callOf d c) ∷ gather tickRun (traced (scanAfter scan c) (callOf d c .state) cs))) is
           (rw (← o .address) (ticks-from (happens scan d (o .sound) c) (next-ours c o .sound) e cs)))
           [] (fresh own) calls ours);
       listening = rw (by-device calls) (at-each own ListeningFrom (λ scan d c cs o. listening-from (happens scan d (o .sound) c) (next-ours c o .sound) cs) [] (fresh own) calls ours);
@@ -120,12 +122,12 @@ demand-3 own six calls =
       begins = rw (by-device calls) (at-each own (BeginsAt own) (λ scan d c cs o. rw (← o .address) (begins-at (happens scan d (o .sound) c))) [] (fresh own) calls ours);
       events = rw (by-device calls) (at-each own EventsFrom
           (λ scan d c cs o end header payload crcGood tx is e.
-          subst (λ (p : List ℕ). Events p (entryOf scan d c (callOf d c) ∷ gather eventRole (traced (scanAfter scan c) (callOf d c .state) cs))) (ap payloadIn is)
+          subst (λ (p : List ℕ). Events p (entryOf scan d c (callOf d c) ∷ gather eventRun (traced (scanAfter scan c) (callOf d c .state) cs))) (ap payloadIn is)
           (events-from (happens scan d (o .sound) c) (next-ours c o .sound) e cs))
           [] (fresh own) calls ours);
       stops = rw (by-device calls) (at-each own StopsAt (λ scan d c cs o. stops-at (happens scan d (o .sound) c)) [] (fresh own) calls ours);
-      mode = same-mode own unread [] (fresh own) calls ours refl;
-      carries = same-reply own unread [] (fresh own) calls ours refl;
+      mode = same-mode own atFirst [] (fresh own) calls ours refl;
+      carries = same-reply own atFirst [] (fresh own) calls ours refl;
       others-same = λ ch. by-device (remaining ch calls) ∙ (others-same own [] (fresh own) ch ours ∙ ap (remaining ch) (sym (by-device calls)));
       end-same = λ ch. end-same own [] (fresh own) ch ours;
     }

@@ -1,4 +1,4 @@
--- Lists of calls by computation: `example`, `titled`, `limits`. Assumes nothing.
+-- Lists of calls by computation: `example`, `title-example`, `limits`. Assumes nothing.
 use mathlib.Core.List.{flatten}
 use mathlib.Core.Path.{refl}
 use Rattle.channels.specs.Count.{count, placed}
@@ -13,16 +13,16 @@ use Rattle.advertising.specs.Pdu.{requestOf, directed, connectRequest, byType, 
 use Rattle.advertising.specs.PduBuf.{bufOf, afterReading, withRecords}
 use Rattle.settings.specs.Settings.{inRanges, takenOf}
 use Rattle.radio_spec.specs.Calls.{isFor, connectsTo, addressed, hops, startOf, startAfter, tickOf, tickAfter, packetOf, packetAfter, eventOf}
-use Rattle.radio_spec.specs.Laws.{Example, Titled, Limits}
+use Rattle.radio_spec.specs.Examples.{Example, TitleExample, Limits}
 use Rattle.radio_spec.specs.Trace.{trace}
 
 pub example : Example
 unfolding flatten count placed mapped marked marks channelAt cleared cut reads areaOf readArea rewritten sameOctets sameAddress pduType requestOf connectRequest byType decodeBy bufOf afterReading withRecords takenOf inRanges isFor connectsTo addressed hops startOf startAfter tickOf tickAfter packetOf eventOf trace named flagsRead uuidsRead dataRead upTo recordRead first withFirst clean
 example = record { answers = refl; channel-1 = refl; channel-3 = refl; octets = refl }
 
-pub titled : Titled
+pub title-example : TitleExample
 unfolding flatten cut reads areaOf readArea rewritten sameOctets sameAddress pduType directed byType decodeBy bufOf afterReading withRecords isFor addressed startOf startAfter tickOf tickAfter packetOf packetAfter trace named flagsRead uuidsRead dataRead upTo recordRead first withFirst clean
-titled = record { answers = refl; octets = refl }
+title-example = record { answers = refl; octets = refl }
 
 pub limits : Limits
 unfolding flatten count placed mapped marked marks channelAt cleared cut reads areaOf readArea rewritten sameOctets sameAddress pduType requestOf directed connectRequest byType decodeBy bufOf afterReading withRecords takenOf inRanges isFor connectsTo addressed hops startOf startAfter tickOf tickAfter packetOf packetAfter eventOf trace named flagsRead uuidsRead dataRead upTo recordRead first withFirst clean

@@ -5,5 +5,4 @@ pub mod Packets
 pub mod Replies
 pub mod Runs
 pub mod Steps
-pub mod Table
 pub mod Words

@@ -20,7 +20,7 @@ use Rattle.advertising.specs.declared.pdu.Decoded.{Decoded}
 use Rattle.octets.specs.declared.error.Outcome.the-variants.{Accepted}
 use Rattle.addresses.specs.declared.device_address.DeviceAddress.{DeviceAddress}
 use Rattle.radio_spec.specs.Calls.{isFor}
-use Rattle.radio_spec.specs.Trace.{isConnectRequest, forBoard, requested}
+use Rattle.radio_spec.specs.SoFar.{isConnectRequest, forBoard, requested}
 
 -- a packet with a second address was not refused; one that was not refused has the header's type and, where that has one, the second address of its
 -- payload; and a connect request holds the data of its payload
@@ -50,10 +50,10 @@ known h p = at (eqb (lengthOf h) (length p)) (typeOf h) refl
     two ty is c true = refused Eof
     two ty is c false = record { good = λ e. refl; type = λ a. sym is; second = λ a r. refl; request = λ e. absurd (false≢true (sym c ∙ e)) }
 
-    asked : typeOf h ≡ ConnectReq → (short : Bool)
+    scanRequest : typeOf h ≡ ConnectReq → (short : Bool)
         → Known h p (cond short (refusedPdu Eof) (decodedAs Accepted ConnectReq (senderOf h p) (receiverOf h p) noData (requestOf p)))
-    asked is true = refused Eof
-    asked is false = record { good = λ e. refl; type = λ a. sym is; second = λ a r. refl; request = λ e. refl }
+    scanRequest is true = refused Eof
+    scanRequest is false = record { good = λ e. refl; type = λ a. sym is; second = λ a r. refl; request = λ e. refl }
 
     at : (counts : Bool) (ty : PduType) → typeOf h ≡ ty → Known h p (cond counts (byType readArea ty h p) (refusedPdu InvalidLength))
     at false ty is = refused InvalidLength
@@ -63,7 +63,7 @@ known h p = at (eqb (lengthOf h) (length p)) (typeOf h) refl
     at true ScanRsp is = records ScanRsp is refl refl (ltb (length p) 6) (readArea (drop 6 p))
     at true AdvDirectInd is = two AdvDirectInd is refl (ltb (length p) 12)
     at true ScanReq is = two ScanReq is refl (ltb (length p) 12)
-    at true ConnectReq is = asked is (ltb (length p) 34)
+    at true ConnectReq is = scanRequest is (ltb (length p) 34)
     at true (Unknown n) is = refused InvalidValue
 
 module _ (own : DeviceAddress) (h : Header) (p : List ℕ) where

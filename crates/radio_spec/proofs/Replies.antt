@@ -1,4 +1,4 @@
--- The reply to a scan request: `judged`, `bare`, `setting`, and what is known of the reply that is built. Assumes nothing.
+-- The reply to a scan request: `reply-decodes`, `bare`, `sets-scan-data`, and what is known of the reply that is built. Assumes nothing.
 use mathlib.Core.Bool.{Bool, true, false, cond, false≢true}
 use mathlib.Core.List.{List, [], _++_, append-nil}
 use mathlib.Core.Path.{_≡_, refl, sym, ap, _∙_}
@@ -37,8 +37,8 @@ use Rattle.advertising.specs.declared.pdu_buf.Built.{Built}
 use Rattle.advertising.specs.declared.pdu_buf.PduBuf.{PduBuf}
 use Rattle.radio_spec.specs.Calls.{isAdvertising, isConnected, isFor, refusal, sent, beginning, discoverable, started, listens, responds, settled, connectsTo, addressed, setTo, scanDataOf, hoppedTo, hops, startOf, tickOf, packetOf, eventOf}
 use Rattle.radio_spec.specs.Demand.{numberIn, replyHeader, replyOctets, ReplyOf}
-use Rattle.radio_spec.specs.Laws.{Judged, Bare, Setting}
-use Rattle.radio_spec.specs.Trace.{replySize}
+use Rattle.radio_spec.specs.Laws.{ReplyDecodes, Bare, SetsScanData}
+use Rattle.radio_spec.specs.SoFar.{replySize}
 use Rattle.radio_spec.specs.State.{Advertisement, State, Step}
 use Rattle.radio_spec.proofs.Answers.{no-zero}
 use Rattle.octets.specs.declared.error.Error.the-variants.{WrongMode}
@@ -59,8 +59,8 @@ module _ (own : DeviceAddress) (s : List ℕ) (six : length (own .bytes) ≡ 6) 
         payload = ap (λ (b : Built). payloadOf (b .pdu)) (back .built) ∙ (back .payload ∙ ap (λ (l : List ℕ). l ++ rewritten s) (append-nil (own .bytes)));
       }
 
-pub judged : (own : DeviceAddress) (s : List ℕ) (n : ℕ) → length (own .bytes) ≡ 6 → readArea s ≡ area.Accepted n → length s ≤ 31 → Judged own s n
-judged own s n six good few =
+pub reply-decodes : (own : DeviceAddress) (s : List ℕ) (n : ℕ) → length (own .bytes) ≡ 6 → readArea s ≡ area.Accepted n → length s ≤ 31 → ReplyDecodes own s n
+reply-decodes own s n six good few =
     let back : ReadsBack ScanRsp own [] s n = building .adv ScanRsp own s n refl six good few in
     let made : ReplyOf own s (back .pdu) = rw (← ap (λ (b : Built). b .pdu) (back .built)) (built-reply own s six n good few) in
     let read : decodeOf (replyHeader own s) (replyOctets own s) ≡ decodeOf (back .pdu .header) (payloadOf (back .pdu)) = sym (λ i. decodeOf (made .header i) (made .payload i)) in
@@ -143,9 +143,9 @@ module _ (d : State) where
       let few : length s ≤ 31 = ltb-false 31 (length s) m in
       rw (builders (d .«dev_addr») s six .scan-response .accepted n good few) (built-reply (d .«dev_addr») s six n good few)
 
-  pub setting : Setting d
+  pub sets-scan-data : SetsScanData d
   unfolding startOf tickOf packetOf eventOf hops
-  setting =
+  sets-scan-data =
       record {
         accepted = λ six s n good few. rw (builders (d .«dev_addr») s six .scan-response .accepted n good few);
         bad-area = λ s e good. rw (building .bad-area ScanRsp (d .«dev_addr») [] s e good);

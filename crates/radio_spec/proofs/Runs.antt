@@ -30,7 +30,9 @@ use Rattle.settings.specs.Settings.{RangesAt}
 use Rattle.advertising.specs.declared.pdu_buf.PduBuf.{PduBuf}
 use Rattle.radio_spec.specs.Calls.{instant, isAdvertising, advanced, advertised, beginning}
 use Rattle.radio_spec.specs.Demand.{numberIn, isFirstEvent, isReply, Each, Tick, Ticks, ListeningFrom, RepliesAt, Events}
-use Rattle.radio_spec.specs.Trace.{Call, start, tick, packet, event, stop, setScanData, callOf, octetsOf, mapIn, hopIn, connects, scansWith, replySize, refusedBy, Entry, sentOn, eventOn, channelsBy, Role, ends, uses, passes, gathered, gather, tickRole, eventRole, hearRole, ListensOn, keeps, replies, times}
+use Rattle.radio_spec.specs.Call.{Call, start, tick, packet, event, stop, setScanData, callOf, octetsOf}
+use Rattle.radio_spec.specs.SoFar.{mapIn, hopIn, connects, asksToScanWith, replySize, refusedBy}
+use Rattle.radio_spec.specs.Trace.{Entry, sentOn, eventOn, channelsBy, InRun, ends, inside, outside, gathered, gather, tickRun, eventRun, hearRun, ListensOn, keeps, replies, times}
 use Rattle.radio_spec.specs.State.{Advertisement, Connection, State, Step}
 use Rattle.radio_spec.specs.declared.link.Answer.{Answer}
 use Rattle.radio_spec.specs.declared.link.Answer.the-variants.{Sent, Respond, Stopped, ScanDataSet}
@@ -47,17 +49,17 @@ traced scan d [] = []
 traced scan d (c ∷ cs) = entryOf scan d c (callOf d c) ∷ traced (scanAfter scan c) (callOf d c .state) cs
 
 -- At k d: the device d makes entry k of a run at the next call of it, and stands so after each call that passes
-module _ (P : ℕ → Entry → Type 0) (At : ℕ → State → Type 0) (role : Bool → Call → Role) where
-  abbrev pub Moves : Role → ℕ → Entry → Type 0
+module _ (P : ℕ → Entry → Type 0) (At : ℕ → State → Type 0) (role : Bool → Call → InRun) where
+  abbrev pub Moves : InRun → ℕ → Entry → Type 0
   Moves ends k e = Unit {0}
-  Moves uses k e = P k e × At (suc k) (e .result .state)
-  Moves passes k e = At k (e .result .state)
+  Moves inside k e = P k e × At (suc k) (e .result .state)
+  Moves outside k e = At k (e .result .state)
 
-  gathered-each : (ρ : Role) (k : ℕ) (e : Entry) (rest : List Entry) → Moves ρ k e → ((k : ℕ) → At k (e .result .state) → Each P k rest)
+  gathered-each : (ρ : InRun) (k : ℕ) (e : Entry) (rest : List Entry) → Moves ρ k e → ((k : ℕ) → At k (e .result .state) → Each P k rest)
       → Each P k (gathered ρ e rest)
   gathered-each ends k e rest m ih = tt
-  gathered-each uses k e rest m ih = (m .0, ih (suc k) (m .1))
-  gathered-each passes k e rest m ih = ih k m
+  gathered-each inside k e rest m ih = (m .0, ih (suc k) (m .1))
+  gathered-each outside k e rest m ih = ih k m
 
   pub gather-each : ((k : ℕ) (scan : List ℕ) (d : State) (c : Call) → Sound scan d → At k d → Moves (role (eqb (number scan d c) 0) c) k (entryOf scan d c (callOf d c)))
       → (scan : List ℕ) (d : State) (cs : List Call) → Sound scan d → (k : ℕ) → At k d → Each P k (gather role (traced scan d cs))
@@ -121,8 +123,8 @@ module _ (own : DeviceAddress) (time : Instant) (interval : ℕ) (records : List
   answer-at k d = λ i. Sent ((ap (λ (p : PduBuf). p .header) (pdu-at k) ∙ made .header) i) (cycled (channel-at k i)) (instant (due-at k i))
 
   tick-moves : (k : ℕ) {scan : List ℕ} {d : State} {c : Call} {r : Step} → TickAt k d → Happens scan d c r
-      → Moves (Tick own time interval records) TickAt tickRole (tickRole (eqb (number scan d c) 0) c) k (entryOf scan d c r)
-  unfolding tickRole refusedBy
+      → Moves (Tick own time interval records) TickAt tickRun (tickRun (eqb (number scan d c) 0) c) k (entryOf scan d c r)
+  unfolding tickRun refusedBy
   tick-moves k at (starts t i s tx p ok m wrote) = rw ok tt
   tick-moves k {d = d} at (ticks tx m ok wrote) =
       let payload : payloadOf (d .adv .pdu) ≡ (own .bytes ++ flagsRecord) ++ rewritten records =
@@ -131,15 +133,15 @@ module _ (own : DeviceAddress) (time : Instant) (interval : ℕ) (records : List
         record { answer = ap (λ (a : Advertisement). advertised d a .answer) at ∙ answer-at k d; octets = ap (λ (l : List ℕ). l ∷ []) (rw (← payload) wrote) },
         ap advanced at,
       )
-  tick-moves k at (replying end header payload crcGood tx m asked n ok wrote) = at
+  tick-moves k at (replying end header payload crcGood tx m scanRequest n ok wrote) = at
   tick-moves k at (begins end header payload crcGood tx u channel m e ok ranges there low q) = at
   tick-moves k at (hopping u channel m there low ok) = at
   tick-moves k at stops = at
   tick-moves k at (sets s p ok m) = at
   tick-moves k at (stays c s) = rw (s .no-tick) at
 
-  pub tick-run : (scan : List ℕ) (d : State) (cs : List Call) → Sound scan d → (k : ℕ) → TickAt k d → Each (Tick own time interval records) k (gather tickRole (traced scan d cs))
-  tick-run = gather-each (Tick own time interval records) TickAt tickRole (λ k scan d c sound at. tick-moves k at (happens scan d sound c))
+  pub tick-run : (scan : List ℕ) (d : State) (cs : List Call) → Sound scan d → (k : ℕ) → TickAt k d → Each (Tick own time interval records) k (gather tickRun (traced scan d cs))
+  tick-run = gather-each (Tick own time interval records) TickAt tickRun (λ k scan d c sound at. tick-moves k at (happens scan d sound c))
 
   ticks-of : (es : List Entry) → Each (Tick own time interval records) 0 es → Ticks own time interval records es
   ticks-of es each =
@@ -165,7 +167,7 @@ TicksOf own stop entries = Unit {0}
 TicksOf own (setScanData records) entries = Unit {0}
 
 pub ticks-from : {scan : List ℕ} {d : State} {c : Call} {r : Step} → Happens scan d c r → Sound (scanAfter scan c) (r .state) → eqb (number scan d c) 0 ≡ true
-    → (cs : List Call) → TicksOf (d .«dev_addr») c (entryOf scan d c r ∷ gather tickRole (traced (scanAfter scan c) (r .state) cs))
+    → (cs : List Call) → TicksOf (d .«dev_addr») c (entryOf scan d c r ∷ gather tickRun (traced (scanAfter scan c) (r .state) cs))
 ticks-from {scan} {d} (starts time interval records tx pdu ok made wrote) sound a cs =
     let own = d .«dev_addr» in
     ticks-of own time interval records pdu made _ (
@@ -173,7 +175,7 @@ ticks-from {scan} {d} (starts time interval records tx pdu ok made wrote) sound 
       tick-run own time interval records pdu made scan (advertised d (beginning time interval pdu) .state) cs sound 1 refl,
     )
 ticks-from (ticks tx m ok wrote) sound a cs = tt
-ticks-from (replying end header payload crcGood tx m asked k ok wrote) sound a cs = tt
+ticks-from (replying end header payload crcGood tx m scanRequest k ok wrote) sound a cs = tt
 ticks-from (begins end header payload crcGood tx u channel m e ok ranges there low q) sound a cs = tt
 ticks-from (hopping u channel m there low ok) sound a cs = tt
 ticks-from stops sound a cs = tt
@@ -203,8 +205,8 @@ module _ (x : AdvertisingChannel) where
   hears-on k scan d c r at is y l = sym (listened (d .adv .channel) l) ∙ (is ∙ at)
 
   stays-moves : (k : ℕ) (scan : List ℕ) (d : State) (c : Call) (r : Step) → HearsOn k (entryOf scan d c r) → HearAt k (r .state)
-      → Moves HearsOn HearAt hearRole (hearRole false c) k (entryOf scan d c r)
-  unfolding hearRole
+      → Moves HearsOn HearAt hearRun (hearRun false c) k (entryOf scan d c r)
+  unfolding hearRun
   stays-moves k scan d (start time interval records tx) r on at = at
   stays-moves k scan d (tick tx) r on at = at
   stays-moves k scan d (packet end header payload crcGood tx) r on at = (on, at)
@@ -213,26 +215,26 @@ module _ (x : AdvertisingChannel) where
   stays-moves k scan d (setScanData records) r on at = at
 
   hear-moves : (k : ℕ) {scan : List ℕ} {d : State} {c : Call} {r : Step} → HearAt k d → Happens scan d c r
-      → Moves HearsOn HearAt hearRole (hearRole (eqb (number scan d c) 0) c) k (entryOf scan d c r)
-  unfolding hearRole refusedBy
+      → Moves HearsOn HearAt hearRun (hearRun (eqb (number scan d c) 0) c) k (entryOf scan d c r)
+  unfolding hearRun refusedBy
   hear-moves k at (starts time interval records tx pdu ok made wrote) = rw ok tt
   hear-moves k at (ticks tx m ok wrote) = rw ok tt
-  hear-moves k {scan} {d} {c} {r} at (replying end header payload crcGood tx m asked n ok wrote) = (hears-on k scan d c r at refl, at)
+  hear-moves k {scan} {d} {c} {r} at (replying end header payload crcGood tx m scanRequest n ok wrote) = (hears-on k scan d c r at refl, at)
   hear-moves k {scan} {d} {c} {r} at (begins end header payload crcGood tx u channel m e ok ranges there low q) = (hears-on k scan d c r at refl, at)
   hear-moves k at (hopping u channel m there low ok) = at
   hear-moves k at stops = at
   hear-moves k at (sets records pdu ok made) = at
   hear-moves k {scan} {d} {r = r} at (stays c s) = rw (s .no-send) (stays-moves k scan d c r (hears-on k scan d c r at (s .hears)) at)
 
-  hear-run : (scan : List ℕ) (d : State) (cs : List Call) → Sound scan d → HearAt 0 d → Each HearsOn 0 (gather hearRole (traced scan d cs))
-  hear-run scan d cs sound at = gather-each HearsOn HearAt hearRole (λ k scan d c sound at. hear-moves k at (happens scan d sound c)) scan d cs sound 0 at
+  hear-run : (scan : List ℕ) (d : State) (cs : List Call) → Sound scan d → HearAt 0 d → Each HearsOn 0 (gather hearRun (traced scan d cs))
+  hear-run scan d cs sound at = gather-each HearsOn HearAt hearRun (λ k scan d c sound at. hear-moves k at (happens scan d sound c)) scan d cs sound 0 at
 
 -- an answer that sent on a channel left the device there
 sent-there : {scan : List ℕ} {d : State} {c : Call} {r : Step} → Happens scan d c r → (header : Header) (x : AdvertisingChannel) (next : Instant) → r .answer ≡ Sent header x next
     → r .state .adv .channel ≡ x
 sent-there (starts time interval records tx pdu ok made wrote) header x next is = cc
 sent-there (ticks tx m ok wrote) header x next is = cc
-sent-there (replying end header payload crcGood tx m asked k ok wrote) h x next is = absurd (false≢true (ap isSent is))
+sent-there (replying end header payload crcGood tx m scanRequest k ok wrote) h x next is = absurd (false≢true (ap isSent is))
 sent-there (begins end header payload crcGood tx u channel m e ok ranges there low q) h x next is = absurd (false≢true (ap isSent is))
 sent-there (hopping u channel m there low ok) header x next is = absurd (false≢true (ap isSent is))
 sent-there stops header x next is = absurd (false≢true (ap isSent is))
@@ -278,11 +280,11 @@ module _ (p : List ℕ) (ranges : RangesAt 12 p) where
       (index ∙ ap (λ (h : ℕ). eventChannel (mapIn p) h k) five-bits, rw there)
 
   event-moves : (k : ℕ) {scan : List ℕ} {d : State} {c : Call} {r : Step} → EventAt k d → Happens scan d c r
-      → Moves IsEvent EventAt eventRole (eventRole (eqb (number scan d c) 0) c) k (entryOf scan d c r)
-  unfolding eventRole refusedBy
+      → Moves IsEvent EventAt eventRun (eventRun (eqb (number scan d c) 0) c) k (entryOf scan d c r)
+  unfolding eventRun refusedBy
   event-moves k at (starts time interval records tx pdu ok made wrote) = rw ok tt
   event-moves k at (ticks tx m ok wrote) = absurd (clash m (at .0))
-  event-moves k at (replying end header payload crcGood tx m asked n ok wrote) = absurd (clash m (at .0))
+  event-moves k at (replying end header payload crcGood tx m scanRequest n ok wrote) = absurd (clash m (at .0))
   event-moves k at (begins end header payload crcGood tx u channel m e ok ranges there low q) = absurd (clash m (at .0))
   event-moves k at (hopping u channel m there low ok) =
       let is = event-is k u channel (rw (at .1) at there) in
@@ -291,8 +293,8 @@ module _ (p : List ℕ) (ranges : RangesAt 12 p) where
   event-moves k at (sets records pdu ok made) = at
   event-moves k at (stays c s) = rw (s .no-event) at
 
-  pub event-run : (scan : List ℕ) (d : State) (cs : List Call) → Sound scan d → (k : ℕ) → EventAt k d → Each IsEvent k (gather eventRole (traced scan d cs))
-  event-run = gather-each IsEvent EventAt eventRole (λ k scan d c sound at. event-moves k at (happens scan d sound c))
+  pub event-run : (scan : List ℕ) (d : State) (cs : List Call) → Sound scan d → (k : ℕ) → EventAt k d → Each IsEvent k (gather eventRun (traced scan d cs))
+  event-run = gather-each IsEvent EventAt eventRun (λ k scan d c sound at. event-moves k at (happens scan d sound c))
 
   events-of : (es : List Entry) → Each IsEvent 0 es → Events p es
   unfolding usesIn remapped
@@ -314,11 +316,11 @@ payloadIn stop = []
 payloadIn (setScanData records) = []
 
 pub events-from : {scan : List ℕ} {d : State} {c : Call} {r : Step} → Happens scan d c r → Sound (scanAfter scan c) (r .state) → isFirstEvent (r .answer) ≡ true
-    → (cs : List Call) → Events (payloadIn c) (entryOf scan d c r ∷ gather eventRole (traced (scanAfter scan c) (r .state) cs))
+    → (cs : List Call) → Events (payloadIn c) (entryOf scan d c r ∷ gather eventRun (traced (scanAfter scan c) (r .state) cs))
 unfolding unmappedBefore
 events-from (starts time interval records tx pdu ok made wrote) sound a cs = absurd (false≢true a)
 events-from (ticks tx m ok wrote) sound a cs = absurd (false≢true a)
-events-from (replying end header payload crcGood tx m asked k ok wrote) sound a cs = absurd (false≢true a)
+events-from (replying end header payload crcGood tx m scanRequest k ok wrote) sound a cs = absurd (false≢true a)
 events-from {scan} (begins end header payload crcGood tx u channel m e ok ranges there low q) sound a cs =
     let is = event-is payload ranges 0 u channel there in
     events-of payload ranges _ (is .0, event-run payload ranges scan _ cs sound 1 (refl, λ i. record { «channel_map» = fromRaw (mapIn payload); hop = hopIn payload; «unmapped_channel» = is .1 i }))
@@ -333,7 +335,7 @@ pub begins-at : {scan : List ℕ} {d : State} {c : Call} {r : Step} → Happens 
 unfolding connects
 begins-at (starts time interval records tx pdu ok made wrote) = simp and-false
 begins-at (ticks tx m ok wrote) = simp and-false
-begins-at (replying end header payload crcGood tx m asked k ok wrote) = rw (m, k)
+begins-at (replying end header payload crcGood tx m scanRequest k ok wrote) = rw (m, k)
 begins-at (begins end header payload crcGood tx u channel m e ok ranges there low q) = rw (m, e)
 begins-at (hopping u channel m there low ok) = simp and-false
 begins-at stops = simp and-false
@@ -354,8 +356,8 @@ pub replies-at : {scan : List ℕ} {d : State} {c : Call} {r : Step} → Sound s
     → RepliesAt (d .«dev_addr») (entryOf scan d c r) after
 replies-at {scan} {d} {c} {r} sound (starts time interval records tx pdu ok made wrote) after = quietly scan d c r after refl (plain scan d c refl)
 replies-at {scan} {d} {c} {r} sound (ticks tx m ok wrote) after = quietly scan d c r after refl (plain scan d c refl)
-replies-at {scan} {d} sound (replying end header payload crcGood tx m asked k ok wrote) after =
-    let there : (isAdvertising (d .mode) && scansWith (replySize scan) (d .«dev_addr») (packet end header payload crcGood tx)) ≡ true = rw (m, asked) in
+replies-at {scan} {d} sound (replying end header payload crcGood tx m scanRequest k ok wrote) after =
+    let there : (isAdvertising (d .mode) && asksToScanWith (replySize scan) (d .«dev_addr») (packet end header payload crcGood tx)) ≡ true = rw (m, scanRequest) in
     record {
       exactly = sym there;
       reply = λ e.
@@ -374,7 +376,7 @@ replies-at {scan} {d} {r = r} sound (stays c s) after = quietly scan d c r after
 pub stops-at : {scan : List ℕ} {d : State} {c : Call} {r : Step} → Happens scan d c r → c ≡ stop → r .answer ≡ Stopped
 stops-at (starts time interval records tx pdu ok made wrote) is = absurd (false≢true (ap isStop is))
 stops-at (ticks tx m ok wrote) is = absurd (false≢true (ap isStop is))
-stops-at (replying end header payload crcGood tx m asked k ok wrote) is = absurd (false≢true (ap isStop is))
+stops-at (replying end header payload crcGood tx m scanRequest k ok wrote) is = absurd (false≢true (ap isStop is))
 stops-at (begins end header payload crcGood tx u channel m e ok ranges there low q) is = absurd (false≢true (ap isStop is))
 stops-at (hopping u channel m there low ok) is = absurd (false≢true (ap isStop is))
 stops-at stops is = refl
@@ -384,7 +386,7 @@ stops-at (stays c s) is = absurd (false≢true (sym (s .no-stop) ∙ ap isStop i
 pub sets-at : {scan : List ℕ} {d : State} {c : Call} {r : Step} → Happens scan d c r → isSet c ≡ true → eqb (number scan d c) 0 ≡ true → r .answer ≡ ScanDataSet
 sets-at (starts time interval records tx pdu ok made wrote) is a = absurd (false≢true is)
 sets-at (ticks tx m ok wrote) is a = absurd (false≢true is)
-sets-at (replying end header payload crcGood tx m asked k ok wrote) is a = absurd (false≢true is)
+sets-at (replying end header payload crcGood tx m scanRequest k ok wrote) is a = absurd (false≢true is)
 sets-at (begins end header payload crcGood tx u channel m e ok ranges there low q) is a = absurd (false≢true is)
 sets-at (hopping u channel m there low ok) is a = absurd (false≢true is)
 sets-at stops is a = absurd (false≢true is)
@@ -395,7 +397,7 @@ pub refused-at : {scan : List ℕ} {d : State} {c : Call} {r : Step} → Happens
 unfolding refusedBy
 refused-at (starts time interval records tx pdu ok made wrote) = sym ok
 refused-at (ticks tx m ok wrote) = sym ok
-refused-at (replying end header payload crcGood tx m asked k ok wrote) = sym ok
+refused-at (replying end header payload crcGood tx m scanRequest k ok wrote) = sym ok
 refused-at (begins end header payload crcGood tx u channel m e ok ranges there low q) = sym ok
 refused-at (hopping u channel m there low ok) = sym ok
 refused-at stops = refl

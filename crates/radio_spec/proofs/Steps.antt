@@ -40,7 +40,9 @@ use Rattle.advertising.specs.declared.pdu.Pdu.{Pdu}
 use Rattle.advertising.specs.declared.pdu_buf.PduBuf.{PduBuf}
 use Rattle.radio_spec.specs.Calls.{isAdvertising, isConnected, isScanRequest, refusal, advertised, sent, beginning, isFor, listens, responds, repliesWith, repliedIf, connectedAt, settled, hoppedTo, connectsTo, addressed, hops, startOf, startAfter, tickOf, tickAfter, packetOf, packetAfter, scanDataOf, eventOf, stopOf}
 use Rattle.radio_spec.specs.Demand.{numberIn, isFirstEvent, isReply, ReplyOf}
-use Rattle.radio_spec.specs.Trace.{Call, start, tick, packet, event, stop, setScanData, callOf, octetsOf, isConnectRequest, requested, asks, scans, mapIn, hopIn, inRangesIn, connects, scansWith, replySize, Reading, startNumber, scanDataNumber, refusedBy, readOn, passes, tickRole, eventRole, hearRole}
+use Rattle.radio_spec.specs.Call.{Call, start, tick, packet, event, stop, setScanData, callOf, octetsOf}
+use Rattle.radio_spec.specs.SoFar.{isConnectRequest, requested, asksToConnect, asksToScan, mapIn, hopIn, inRangesIn, connects, asksToScanWith, replySize, SoFar, startNumber, scanDataNumber, refusedBy, thenCall}
+use Rattle.radio_spec.specs.Trace.{outside, tickRun, eventRun, hearRun}
 use Rattle.radio_spec.specs.declared.link.Answer.{Answer}
 use Rattle.radio_spec.specs.declared.link.Answer.the-variants.{Refused, Sent, Listen, Respond, FirstEvent, NextEvent, Stopped, ScanDataSet}
 use Rattle.radio_spec.specs.State.{Connection, State, Step}
@@ -51,12 +53,12 @@ use Rattle.radio_spec.proofs.Packets.{known, requested-is}
 use Rattle.radio_spec.proofs.Replies.{reply-size, built-reply}
 
 -- what the list says of the calls so far, as the device has it; the scan data `scan` themselves are not in the device, but their reply is
-abbrev pub reading : List ℕ → State → Reading
-reading scan d = record { mode = d .mode; payload = length (payloadOf (d .adv .pdu)); channel = d .adv .channel; scanData = scan }
+abbrev pub soFar : List ℕ → State → SoFar
+soFar scan d = record { mode = d .mode; payload = length (payloadOf (d .adv .pdu)); channel = d .adv .channel; scanData = scan }
 
 -- the number of the table for a call of this device
 abbrev pub number : List ℕ → State → Call → ℕ
-number scan d c = refusedBy (d .«dev_addr») (reading scan d) c
+number scan d c = refusedBy (d .«dev_addr») (soFar scan d) c
 
 -- the scan data after a call
 abbrev pub scanAfter : List ℕ → Call → List ℕ
@@ -146,23 +148,23 @@ Untouched event octets = Unit {0}
 Untouched stop octets = Unit {0}
 Untouched (setScanData records) octets = Unit {0}
 
--- no reply is asked for that there is room for, and none is written
+-- no reply is scanRequest for that there is room for, and none is written
 pub record Quiet (scan : List ℕ) (d : State) (c : Call) : Type 0 where
-  pub unasked : (isAdvertising (d .mode) && scansWith (replySize scan) (d .«dev_addr») c) ≡ false
+  pub unasked : (isAdvertising (d .mode) && asksToScanWith (replySize scan) (d .«dev_addr») c) ≡ false
   pub untouched : Untouched c (octetsOf d c)
 
 -- a call that leaves the device as it is: no tick or event accepted, no connection begun, no reply given, and nothing listened for on another channel
 pub record Stays (scan : List ℕ) (d : State) (c : Call) (answer : Answer) : Type 0 where
-  pub no-tick : tickRole (eqb (number scan d c) 0) c ≡ passes
-  pub no-event : eventRole (eqb (number scan d c) 0) c ≡ passes
+  pub no-tick : tickRun (eqb (number scan d c) 0) c ≡ outside
+  pub no-event : eventRun (eqb (number scan d c) 0) c ≡ outside
   pub no-start : (isStart c && eqb (number scan d c) 0) ≡ false
   pub no-set : (isSet c && eqb (number scan d c) 0) ≡ false
-  pub reads-same : readOn (d .«dev_addr») (reading scan d) c ≡ reading scan d
+  pub reads-same : thenCall (d .«dev_addr») (soFar scan d) c ≡ soFar scan d
   pub scan-same : scanAfter scan c ≡ scan
   pub no-first : isFirstEvent answer ≡ false
   pub no-connect : (isAdvertising (d .mode) && connects (d .«dev_addr») c) ≡ false
   pub refuses : numberIn answer ≡ number scan d c
-  pub no-send : hearRole (eqb (number scan d c) 0) c ≡ hearRole false c
+  pub no-send : hearRun (eqb (number scan d c) 0) c ≡ hearRun false c
   pub hears : heardOn (d .adv .channel) answer ≡ d .adv .channel
   pub no-stop : isStop c ≡ false
   pub unsent : isSent answer ≡ false
@@ -177,7 +179,7 @@ pub data Happens (scan : List ℕ) (d : State) : Call → Step → Type 0 where
       → tickAfter d tx ≡ payloadOf (d .adv .pdu) ++ drop (length (payloadOf (d .adv .pdu))) tx
       → Happens scan d (tick tx) (advertised d (d .adv))
   replies : (end : Instant) (header : Header) (payload : List ℕ) (crcGood : Bool) (tx : List ℕ) → d .mode ≡ Advertising
-      → scansWith (replySize scan) (d .«dev_addr») (packet end header payload crcGood tx) ≡ true
+      → asksToScanWith (replySize scan) (d .«dev_addr») (packet end header payload crcGood tx) ≡ true
       → connects (d .«dev_addr») (packet end header payload crcGood tx) ≡ false → number scan d (packet end header payload crcGood tx) ≡ 0
       → packetAfter d header payload crcGood tx ≡ payloadOf (d .«scan_response») ++ drop (length (payloadOf (d .«scan_response»))) tx
       → Happens scan d (packet end header payload crcGood tx) (record { answer = Respond (d .«scan_response» .header) (d .adv .channel); state = d })
@@ -202,7 +204,7 @@ next-low u h = let below : next u h < 37 = mod-lt (u + h % 32) (omega arith) in 
 
 -- a call that is no packet
 pub plain : (scan : List ℕ) (d : State) (c : Call) → isPacket c ≡ false → Quiet scan d c
-unfolding scansWith
+unfolding asksToScanWith
 plain scan d (start time interval records tx) e = record { unasked = simp and-false; untouched = tt }
 plain scan d (tick tx) e = record { unasked = simp and-false; untouched = tt }
 plain scan d (packet end header payload crcGood tx) e = absurd (false≢true (sym e))
@@ -214,7 +216,7 @@ module _ (scan : List ℕ) (d : State) (sound : Sound scan d) where
   -- a call that is refused
   refused : (c : Call) (e : Error) → number scan d c ≡ numberOf e → (isAdvertising (d .mode) && connects (d .«dev_addr») c) ≡ false → isStop c ≡ false → Quiet scan d c
       → Happens scan d c (refusal d e)
-  unfolding tickRole eventRole hearRole readOn refusedBy
+  unfolding tickRun eventRun hearRun thenCall refusedBy
   refused (start time interval records tx) e n k s q =
       let not-0 : eqb (startNumber records tx) 0 ≡ false = rw n (no-zero e) in
       stays (start time interval records tx)
@@ -340,13 +342,13 @@ module _ (scan : List ℕ) (d : State) (sound : Sound scan d) where
     abbrev pdu : Pdu
     pdu = decodeOf header payload .pdu
 
-    -- the transmit buffer goes by the list's word `scans`
-    after-is : packetAfter d header payload crcGood tx ≡ repliedIf (isAdvertising (d .mode) && scans own crcGood header payload) d tx
+    -- the transmit buffer goes by the list's word `asksToScan`
+    after-is : packetAfter d header payload crcGood tx ≡ repliedIf (isAdvertising (d .mode) && asksToScan own crcGood header payload) d tx
     unfolding packetAfter
     after-is = ap (λ (b : Bool). repliedIf (isAdvertising (d .mode) && b) d tx) (sym (requested-is own header payload isScanRequest crcGood))
 
-    unscanned : scans own crcGood header payload ≡ false → Quiet scan d this
-    unfolding scansWith
+    unscanned : asksToScan own crcGood header payload ≡ false → Quiet scan d this
+    unfolding asksToScanWith
     unscanned no-scan =
         record {
           unasked = rw no-scan (simp and-false);
@@ -355,9 +357,9 @@ module _ (scan : List ℕ) (d : State) (sound : Sound scan d) where
 
     -- a packet that begins no connection, gets no reply and is not refused
     unheard : (answer : Answer) → isFirstEvent answer ≡ false → numberIn answer ≡ 0 → heardOn (d .adv .channel) answer ≡ d .adv .channel → isSent answer ≡ false → isReply answer ≡ false
-        → asks own crcGood header payload ≡ false → scans own crcGood header payload ≡ false → d .mode ≡ Advertising
+        → asksToConnect own crcGood header payload ≡ false → asksToScan own crcGood header payload ≡ false → d .mode ≡ Advertising
         → Happens scan d this (record { answer = answer; state = d })
-    unfolding tickRole eventRole hearRole readOn refusedBy connects
+    unfolding tickRun eventRun hearRun thenCall refusedBy connects
     unheard answer f n h u r a no-scan m =
         stays this
         (record {
@@ -378,7 +380,7 @@ module _ (scan : List ℕ) (d : State) (sound : Sound scan d) where
           quiet = unscanned no-scan;
         })
 
-    -- a packet of a type that `is` says is asked for, where it is for this board
+    -- a packet of a type that `is` says is scanRequest for, where it is for this board
     asking : (is : PduType → Bool) → crcGood ≡ true → isFor own pdu ≡ true → is (pdu .ty) ≡ true → requested is own crcGood header payload ≡ true
     asking is crc ours ty = requested-is own header payload is crcGood ∙ rw (crc, ours, ty)
 
@@ -400,7 +402,7 @@ module _ (scan : List ℕ) (d : State) (sound : Sound scan d) where
     settling t is h = subst (λ (t : Taken). Happens scan d this (settled d end (requestOf payload) (t .settings) (t .outcome))) is h
 
     -- a connect request, by the channels that it marks and the ranges of its settings
-    begun : d .mode ≡ Advertising → asks own crcGood header payload ≡ true → scans own crcGood header payload ≡ false → (some : Bool) → ltb 0 (marks (mapIn payload)) ≡ some
+    begun : d .mode ≡ Advertising → asksToConnect own crcGood header payload ≡ true → asksToScan own crcGood header payload ≡ false → (some : Bool) → ltb 0 (marks (mapIn payload)) ≡ some
         → (within : Bool) → inRangesIn payload ≡ within → Happens scan d this (connectsTo d end (requestOf payload))
     unfolding connects refusedBy
     begun m a no-scan true s true w =
@@ -419,9 +421,9 @@ module _ (scan : List ℕ) (d : State) (sound : Sound scan d) where
         (refused this EmptyMap (rw (m, no-scan, a, eq-eqb (marks (mapIn payload)) 0 n)) (rw (s, a) (simp and-false)) refl (unscanned no-scan))
 
     -- a scan request, by the room that there is
-    scanned : d .mode ≡ Advertising → scans own crcGood header payload ≡ true → asks own crcGood header payload ≡ false → (short : Bool) → ltb (length tx) (replySize scan) ≡ short
+    scanned : d .mode ≡ Advertising → asksToScan own crcGood header payload ≡ true → asksToConnect own crcGood header payload ≡ false → (short : Bool) → ltb (length tx) (replySize scan) ≡ short
         → Happens scan d this (responds d (payloadTo (d .«scan_response») tx))
-    unfolding connects refusedBy scansWith
+    unfolding connects refusedBy asksToScanWith
     scanned m sc a true e =
         let size = reply-size own scan (sound .six) (sound .reply) in
         let short : length tx < replySize scan = ltb-true (length tx) (replySize scan) e in
@@ -482,7 +484,7 @@ module _ (scan : List ℕ) (d : State) (sound : Sound scan d) where
 pub address-kept : {scan : List ℕ} {d : State} {c : Call} {r : Step} → Happens scan d c r → r .state .«dev_addr» ≡ d .«dev_addr»
 address-kept (starts time interval records tx pdu ok made wrote) = refl
 address-kept (ticks tx m ok wrote) = refl
-address-kept (replies end header payload crcGood tx m asked k ok wrote) = refl
+address-kept (replies end header payload crcGood tx m scanRequest k ok wrote) = refl
 address-kept (begins end header payload crcGood tx u channel m e ok ranges there low q) = refl
 address-kept (hopping u channel m there low ok) = refl
 address-kept stops = refl
@@ -492,7 +494,7 @@ address-kept (stays c s) = refl
 pub live-kept : {scan : List ℕ} {d : State} {c : Call} {r : Step} → (d .mode ≡ Connected → Live (d .conn)) → Happens scan d c r → r .state .mode ≡ Connected → Live (r .state .conn)
 live-kept live (starts time interval records tx pdu ok made wrote) m = absurd (let z : _≡_ {A = ℕ} 0 1 = cc in omega arith)
 live-kept live (ticks tx m ok wrote) c = absurd (let z : _≡_ {A = ℕ} 0 1 = cc in omega arith)
-live-kept live (replies end header payload crcGood tx m asked k ok wrote) c = live c
+live-kept live (replies end header payload crcGood tx m scanRequest k ok wrote) c = live c
 live-kept live (begins end header payload crcGood tx u channel m e ok ranges there low q) c = record { low = low; some = omega (arith, ranges .two-channels) }
 live-kept live (hopping u channel m there low ok) c = record { low = low; some = live m .some }
 live-kept live stops c = absurd (let z : _≡_ {A = ℕ} 0 1 = cc in omega arith)
@@ -504,7 +506,7 @@ pub reply-kept : {scan : List ℕ} {d : State} {c : Call} {r : Step} → ReplyOf
     → ReplyOf (r .state .«dev_addr») (scanAfter scan c) (r .state .«scan_response»)
 reply-kept reply (starts time interval records tx pdu ok made wrote) = reply
 reply-kept reply (ticks tx m ok wrote) = reply
-reply-kept reply (replies end header payload crcGood tx m asked k ok wrote) = reply
+reply-kept reply (replies end header payload crcGood tx m scanRequest k ok wrote) = reply
 reply-kept reply (begins end header payload crcGood tx u channel m e ok ranges there low q) = reply
 reply-kept reply (hopping u channel m there low ok) = reply
 reply-kept reply stops = reply
@@ -516,13 +518,13 @@ sound-kept sound h =
     record { six = ap (λ (a : DeviceAddress). length (a .bytes)) (address-kept h) ∙ sound .six; reply = reply-kept (sound .reply) h; live = live-kept (sound .live) h }
 
 -- the list's reading is the device's
-pub reads-on : {scan : List ℕ} {d : State} {c : Call} {r : Step} → Happens scan d c r → readOn (d .«dev_addr») (reading scan d) c ≡ reading (scanAfter scan c) (r .state)
-unfolding readOn
+pub reads-on : {scan : List ℕ} {d : State} {c : Call} {r : Step} → Happens scan d c r → thenCall (d .«dev_addr») (soFar scan d) c ≡ soFar (scanAfter scan c) (r .state)
+unfolding thenCall
 reads-on (starts time interval records tx pdu ok made wrote) = rw (ok, made .size)
 reads-on (ticks tx m ok wrote) = rw (ok, m)
-reads-on (replies end header payload crcGood tx m asked k ok wrote) = rw (m, k)
+reads-on (replies end header payload crcGood tx m scanRequest k ok wrote) = rw (m, k)
 reads-on (begins end header payload crcGood tx u channel m e ok ranges there low q) = rw (m, e)
 reads-on (hopping u channel m there low ok) = refl
 reads-on stops = refl
 reads-on (sets records pdu ok made) = rw ok
-reads-on {d = d} (stays c s) = s .reads-same ∙ ap (λ (x : List ℕ). reading x d) (sym (s .scan-same))
+reads-on {d = d} (stays c s) = s .reads-same ∙ ap (λ (x : List ℕ). soFar x d) (sym (s .scan-same))

@@ -51,8 +51,10 @@ use Rattle.settings.specs.declared.ConnectionSettings.{ConnectionSettings}
 use Rattle.settings.specs.declared.Taken.{Taken}
 use Rattle.radio_spec.specs.Calls.{instant, firstEventAt, isAdvertising, isConnected, isScanRequest, refusal, sent, beginning, discoverable, started, startedAfter, isFor, listens, responds, repliedIf, heard, begun, settled, connectsTo, addressed, setTo, hoppedTo, hops, startOf, startAfter, tickOf, tickAfter, packetOf, packetAfter, eventOf, stopOf}
 use Rattle.radio_spec.specs.Demand.{numberIn, replyHeader, replyOctets, ReplyOf}
-use Rattle.radio_spec.specs.Laws.{ForBoard, Scans, Requests, Words, Modes, Refusing, Transmits, BadStart, Hearing}
-use Rattle.radio_spec.specs.Trace.{Call, start, tick, packet, event, stop, setScanData, callOf, isConnectRequest, forBoard, requested, scans, mapIn, hopIn, connects, replySize, Strikable}
+use Rattle.radio_spec.specs.Laws.{ForBoard, Scans, Requests, Words, Modes, Refusing, Transmits, BadStart, HearsPacket}
+use Rattle.radio_spec.specs.Call.{Call, start, tick, packet, event, stop, setScanData, callOf}
+use Rattle.radio_spec.specs.SoFar.{isConnectRequest, forBoard, requested, asksToScan, mapIn, hopIn, connects, replySize}
+use Rattle.radio_spec.specs.Trace.{Strikable}
 use Rattle.radio_spec.specs.State.{Advertisement, State, Step}
 use Rattle.radio_spec.specs.declared.link.Answer.{Answer}
 use Rattle.radio_spec.specs.declared.link.Answer.the-variants.{Refused, Sent, Listen, Respond, FirstEvent, NextEvent, Stopped, ScanDataSet}
@@ -132,9 +134,9 @@ module _ (own : DeviceAddress) (h : Header) (p : List ℕ) where
     type : bits 0 4 h ≡ n
     second : addressOf (part 6 p 6) (kindOf (rxAdd h)) ≡ own
 
-  asked : (is : PduType → Bool) (n : ℕ) → ((ty : PduType) → is ty ≡ true → typeCode ty ≡ n) → (crcGood : Bool) → requested is own crcGood h p ≡ true → Asked n crcGood
+  scanRequest : (is : PduType → Bool) (n : ℕ) → ((ty : PduType) → is ty ≡ true → typeCode ty ≡ n) → (crcGood : Bool) → requested is own crcGood h p ≡ true → Asked n crcGood
   unfolding requested
-  asked is n typed crcGood e =
+  scanRequest is n typed crcGood e =
       let d = decodeOf h p in
       let crc = both-true crcGood _ e in
       let good = both-true (wellFormed h p) _ (crc .1) in
@@ -155,12 +157,12 @@ module _ (own : DeviceAddress) (h : Header) (p : List ℕ) where
       let asks-one : is (decodeOf h p .pdu .ty) ≡ true = ap is typed ∙ yes-one in
       rw (r .crc, r .good, ours, asks-one)
 
-  scan-request : (crcGood : Bool) → scans own crcGood h p ≡ true → Scans own h p crcGood
+  scan-request : (crcGood : Bool) → asksToScan own crcGood h p ≡ true → Scans own h p crcGood
   scan-request crcGood e =
-      let r = asked isScanRequest 3 type-3 crcGood e in
+      let r = scanRequest isScanRequest 3 type-3 crcGood e in
       record { crc = r .crc; good = r .good; type = r .type; second = r .second }
 
-  scan-request-if : (crcGood : Bool) → Scans own h p crcGood → scans own crcGood h p ≡ true
+  scan-request-if : (crcGood : Bool) → Scans own h p crcGood → asksToScan own crcGood h p ≡ true
   scan-request-if crcGood r =
       asked-if isScanRequest 3 ScanReq (codes .code-3) refl (inr (inl refl)) crcGood (record { crc = r .crc; good = r .good; type = r .type; second = r .second })
 
@@ -168,7 +170,7 @@ module _ (own : DeviceAddress) (h : Header) (p : List ℕ) where
   unfolding connects
   request end crcGood tx e =
       let parts = both-true _ _ e in
-      let r = asked isConnectRequest 5 type-5 crcGood (parts .0) in
+      let r = scanRequest isConnectRequest 5 type-5 crcGood (parts .0) in
       let rest = both-true _ _ (parts .1) in
       record { crc = r .crc; good = r .good; type = r .type; second = r .second; some = ltb-true 0 (marks (mapIn p)) (rest .0); ranges = tests _ _ _ _ _ _ _ .0 (rest .1) }
 
@@ -374,9 +376,9 @@ module _ (d : State) (end : Instant) (h : Header) (p : List ℕ) (crcGood : Bool
   -- a packet that is no scan request to this device writes nothing
   unwritten : (Scans own h p crcGood → ⊥) → packetAfter d h p crcGood tx ≡ tx
   unfolding packetAfter
-  unwritten no-scan = go (scans own crcGood h p) refl
+  unwritten no-scan = go (asksToScan own crcGood h p) refl
     where
-      go : (b : Bool) → scans own crcGood h p ≡ b
+      go : (b : Bool) → asksToScan own crcGood h p ≡ b
           → repliedIf (isAdvertising (d .mode) && (crcGood && (isFor own (decodeOf h p .pdu) && isScanRequest (decodeOf h p .pdu .ty)))) d tx ≡ tx
       go true e = absurd (no-scan (scan-request own h p crcGood e))
       go false e = rw (← requested-is own h p isScanRequest crcGood, e) (simp and-false)
@@ -484,7 +486,7 @@ module _ (d : State) (end : Instant) (h : Header) (p : List ℕ) (crcGood : Bool
   unfolding packetOf
   off standing = rw standing
 
-  pub hearing : Hearing d end h p crcGood tx
+  pub hearing : HearsPacket d end h p crcGood tx
   unfolding addressed
   hearing =
       record {

@@ -11,8 +11,8 @@
 --   isScanRequest ty
 --   listens d                 == the device keeps listening
 --   responds d w              == a scan request whose reply was written to the transmit buffer, or not
---   repliedIf asked d tx      == the transmit buffer with the reply's payload at its front, where that was asked for and there is room
---   connectedAt, begun d end l s == the connection that a request asks for, with the settings s, at its first event
+--   repliedIf scanRequest d tx      == the transmit buffer with the reply's payload at its front, where that was scanRequest for and there is room
+--   connectedAt, begun d end l s == the connection that a request asksToConnect for, with the settings s, at its first event
 --   connectsTo d end l        == the same where the settings are taken, or their refusal
 --   addressed d end l tx ty   == a packet of type ty that is for this device
 --   heard d end pdu tx        == a CRC-good packet
@@ -50,7 +50,7 @@ use Rattle.advertising.specs.declared.pdu.Pdu.{Pdu}
 use Rattle.advertising.specs.declared.pdu_buf.Built.{Built}
 use Rattle.advertising.specs.declared.pdu_buf.PduBuf.{PduBuf}
 use Rattle.settings.specs.declared.ConnectionSettings.{ConnectionSettings}
-use Rattle.radio_spec.specs.State.{Advertisement, State, Step}
+use Rattle.radio_spec.specs.State.{Advertisement, State, Step, inMode, withAdv, withConn, withReply}
 use Rattle.radio_spec.specs.declared.link.Answer.the-variants.{Refused, Sent, Listen, Respond, FirstEvent, NextEvent, Stopped, ScanDataSet}
 use Rattle.radio_spec.specs.declared.link.Mode.{Mode}
 use Rattle.radio_spec.specs.declared.link.Mode.the-variants.{Standby, Advertising, Connected}
@@ -90,11 +90,7 @@ abbrev pub advanced : Advertisement → Advertisement
 advanced a = record { «next_adv» = instant (later (a .«next_adv» .0) (a .interval)); interval = a .interval; pdu = a .pdu; channel = cycled (a .channel) }
 
 abbrev pub advertised : State → Advertisement → Step
-advertised d a =
-    record {
-      answer = Sent (a .pdu .header) (advanced a .channel) (advanced a .«next_adv»);
-      state = record { mode = Advertising; «dev_addr» = d .«dev_addr»; «scan_response» = d .«scan_response»; adv = advanced a; conn = d .conn };
-    }
+advertised d a = record { answer = Sent (a .pdu .header) (advanced a .channel) (advanced a .«next_adv»); state = withAdv (advanced a) (inMode Advertising d) }
 
 abbrev pub sent : State → Advertisement → Written → Step
 sent d a (written.To next) = advertised d a
@@ -142,7 +138,7 @@ responds d (written.To next) = record { answer = Respond (d .«scan_response» .
 responds d (written.Refused e) = refusal d e
 
 abbrev pub repliedIf : Bool → State → List ℕ → List ℕ
-repliedIf asked d tx = cond asked (payloadAfter (d .«scan_response») tx) tx
+repliedIf scanRequest d tx = cond scanRequest (payloadAfter (d .«scan_response») tx) tx
 
 -- "the first event at packet end + window offset + window size + 1,750 µs"
 abbrev pub firstEventAt : Instant → ConnectRequestData → Instant
@@ -152,7 +148,7 @@ abbrev pub connectedAt : State → Instant → ConnectRequestData → Connection
 connectedAt d end l s unmapped channel =
     record {
       answer = FirstEvent channel (firstEventAt end l) (l .«access_address») (l .«crc_init»);
-      state = record { mode = Connected; «dev_addr» = d .«dev_addr»; «scan_response» = d .«scan_response»; adv = d .adv; conn = record { «channel_map» = s .chm; hop = s .hop; «unmapped_channel» = unmapped } };
+      state = withConn (record { «channel_map» = s .chm; hop = s .hop; «unmapped_channel» = unmapped }) (inMode Connected d);
     }
 
 -- "Each event adds hop modulo 37, starting at 0 before the first"
@@ -206,11 +202,7 @@ packetAfter d header payload crcGood tx =
 
 -- Note 1: "A new call sets record octets for the reply, in any mode"
 abbrev pub repliesWith : State → PduBuf → Step
-repliesWith d pdu =
-    record {
-      answer = ScanDataSet;
-      state = record { mode = d .mode; «dev_addr» = d .«dev_addr»; «scan_response» = pdu; adv = d .adv; conn = d .conn };
-    }
+repliesWith d pdu = record { answer = ScanDataSet; state = withReply pdu d }
 
 abbrev pub setTo : State → PduBuf → Outcome → Step
 setTo d pdu outcome.Accepted = repliesWith d pdu
@@ -223,10 +215,7 @@ scanDataOf d records = setTo d (scanResponsePdu (d .«dev_addr») records .pdu) 
 
 abbrev pub hoppedTo : State → Hop → Step
 hoppedTo d (hop.To unmapped channel) =
-    record {
-      answer = NextEvent channel;
-      state = record { mode = d .mode; «dev_addr» = d .«dev_addr»; «scan_response» = d .«scan_response»; adv = d .adv; conn = record { «channel_map» = d .conn .«channel_map»; hop = d .conn .hop; «unmapped_channel» = unmapped } };
-    }
+    record { answer = NextEvent channel; state = withConn (record { «channel_map» = d .conn .«channel_map»; hop = d .conn .hop; «unmapped_channel» = unmapped }) d }
 hoppedTo d (hop.Refused e) = refusal d e
 
 unfoldable pub hops : State → Step
@@ -237,4 +226,4 @@ eventOf d = cond (isConnected (d .mode)) (hops d) (refusal d WrongMode)
 
 -- "Stop is accepted in every mode and leads to standby"
 abbrev pub stopOf : State → Step
-stopOf d = record { answer = Stopped; state = record { mode = Standby; «dev_addr» = d .«dev_addr»; «scan_response» = d .«scan_response»; adv = d .adv; conn = d .conn } }
+stopOf d = record { answer = Stopped; state = inMode Standby d }

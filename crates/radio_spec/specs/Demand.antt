@@ -1,5 +1,5 @@
 -- Demand 3: what holds of every list of calls from a fresh device in standby. `demand-3` of proofs/Demand.antt proves it of every own address of six
--- octets and every list; `Words` of specs/Laws.antt says what its words mean, `Setting`, `Hearing` and `Limits` there which calls the table refuses, and
+-- octets and every list; `Words` of specs/Laws.antt says what its words mean, `SetsScanData`, `HearsPacket` and `Limits` there which calls the table refuses, and
 -- specs/Trace.antt has `Call`, `Entry` and `trace`. A call of a `Device` of radio is such a call: its contract there equates what it returns, read as a step,
 -- with what `callOf` says of the state (`startOf`, `tickOf` ..).
 --
@@ -46,7 +46,9 @@ use Rattle.addresses.specs.declared.header.PduType.the-variants.{AdvInd}
 use Rattle.advertising.specs.PduBuf.{headerFor, flagsRecord, payloadOf}
 use Rattle.advertising.specs.declared.pdu_buf.PduBuf.{PduBuf}
 use Rattle.radio_spec.specs.Calls.{instant, isAdvertising}
-use Rattle.radio_spec.specs.Trace.{Call, start, tick, packet, event, stop, setScanData, mapIn, hopIn, connects, scansWith, replySize, Entry, accepted, trace, stateAfter, modeAfter, scanDataAfter, AtEach, sentOn, eventOn, channelsBy, gather, tickRole, eventRole, hearRole, ListensOn, times, Choice, remaining}
+use Rattle.radio_spec.specs.Call.{Call, start, tick, packet, event, stop, setScanData}
+use Rattle.radio_spec.specs.SoFar.{mapIn, hopIn, connects, asksToScanWith, replySize, modeAfter, scanDataAfter}
+use Rattle.radio_spec.specs.Trace.{Entry, accepted, trace, stateAfter, AtEach, sentOn, eventOn, channelsBy, gather, tickRun, eventRun, hearRun, ListensOn, times, Choice, remaining}
 use Rattle.radio_spec.specs.declared.link.Answer.{Answer}
 use Rattle.radio_spec.specs.declared.link.Answer.the-variants.{Refused, Sent, Listen, Respond, FirstEvent, NextEvent, Stopped, ScanDataSet}
 
@@ -133,7 +135,7 @@ pub record ReplyOf (own : DeviceAddress) (s : List ℕ) (b : PduBuf) : Type 0 wh
   pub payload : payloadOf b ≡ replyOctets own s
 
 abbrev pub repliedTo : DeviceAddress → Entry → Bool
-repliedTo own e = isAdvertising (e .mode) && scansWith (replySize (e .scanData)) own (e .call)
+repliedTo own e = isAdvertising (e .mode) && asksToScanWith (replySize (e .scanData)) own (e .call)
 
 -- the reply of the scan data that the list says, on the channel of the last accepted tick
 pub record Reply (own : DeviceAddress) (e : Entry) : Type 0 where
@@ -148,13 +150,13 @@ RefusedAt e after = numberIn (e .result .answer) ≡ e .number
 abbrev pub TicksFrom : DeviceAddress → Entry → List Entry → Type 0
 TicksFrom own e after =
     (time : Instant) (interval : ℕ) (records tx : List ℕ) → e .call ≡ start time interval records tx → accepted e ≡ true
-    → Ticks own time interval records (e ∷ gather tickRole after)
+    → Ticks own time interval records (e ∷ gather tickRun after)
 
 -- from a start or tick that sent on channel c to the next: a packet call that listens on a channel does so on c
 abbrev pub ListeningFrom : Entry → List Entry → Type 0
 ListeningFrom e after =
     (header : Header) (c : AdvertisingChannel) (next : Instant) → e .result .answer ≡ Sent header c next
-    → Each (λ k heard. (d : AdvertisingChannel) → ListensOn d (heard .result .answer) → d ≡ c) 0 (gather hearRole after)
+    → Each (λ k heard. (d : AdvertisingChannel) → ListensOn d (heard .result .answer) → d ≡ c) 0 (gather hearRun after)
 
 -- a reply is given exactly where `repliedTo` says; elsewhere a packet call leaves its transmit buffer as it was lent
 pub record RepliesAt (own : DeviceAddress) (e : Entry) (after : List Entry) : Type 0 where
@@ -173,7 +175,7 @@ abbrev pub EventsFrom : Entry → List Entry → Type 0
 EventsFrom e after =
     (end : Instant) (header : Header) (payload : List ℕ) (crcGood : Bool) (tx : List ℕ) → e .call ≡ packet end header payload crcGood tx
     → isFirstEvent (e .result .answer) ≡ true
-    → Events payload (e ∷ gather eventRole after)
+    → Events payload (e ∷ gather eventRun after)
 
 abbrev pub StopsAt : Entry → List Entry → Type 0
 StopsAt e after = e .call ≡ stop → e .result .answer ≡ Stopped
@@ -192,7 +194,7 @@ pub record Demand3 (own : DeviceAddress) (calls : List Call) : Type 0 where
   -- document 02, Note 1: "On a good scan request to us the reply payload is now written to a lent transmit buffer", of the scan data that "outlive start and
   -- stop"
   pub replies : AtEach (RepliesAt own) (trace own calls)
-  -- "A new call sets record octets for the reply": where the table, which asks no mode of it, does not refuse them
+  -- "A new call sets record octets for the reply": where the table, which asksToConnect no mode of it, does not refuse them
   pub sets : AtEach SetsAt (trace own calls)
   -- "A connection begins exactly when an advertising board is handed a CRC-good, well-formed connect request to its own address, kind included, marking
   -- n ≥ 1 channels; that request's call gives its first event." Note 6: "exactly on a request that demand 3 names and that is within these ranges"

@@ -1,23 +1,21 @@
 -- The laws of the device, each with the theorem of proofs/ that proves it.
---   Demand3       Demand.demand-3          every list of calls (specs/Demand.antt)
---   Words         Words.words              what the words of demand 3 mean
+--   Demand3       Demand.demand-3          every list of calls (specs/Demand)
+--   Words         Words.words              what the words of demand 3 mean; ForBoard, Requests, Scans: packets, by their octets
 --   Modes         Words.modes              which mode advertises, and which is connected
 --   Refusing      Words.refusing           a refused call changes nothing
 --   Transmits     Words.transmits          what an accepted start and tick write
 --   BadStart      Words.bad-start          a start with a bad area
---   Judged        Replies.judged           a reply by the Core: its header by numbers, and what it is read as
+--   ReplyDecodes  Replies.reply-decodes    a reply by the Core: its header by numbers, and what it is read as
 --   Bare          Replies.bare             a fresh device's reply has no scan data
---   Setting       Replies.setting          which scan data are set, what that changes, and that no other call changes the reply
---   Hearing       Words.hearing            what a packet comes to
---   Example       Example.example          a list of calls with document 01's row of the hop
---   Titled        Example.titled           a list of calls with scan data, and the octets of a reply
---   Limits        Example.limits           a list of calls on both sides of each limit
+--   SetsScanData  Replies.sets-scan-data   which scan data are set, what that changes, and that no other call changes the reply
+--   HearsPacket   Words.hears-packet       what a packet call answers and writes
+-- Worked lists are in specs/Examples.
 use mathlib.Core.Bool.{Bool, true, false}
 use mathlib.Core.List.{List, [], _∷_, _++_, map}
 use mathlib.Core.Logic.{_⊎_}
 use mathlib.Core.Path.{_≡_}
 use Prim.Native.Nat.{ℕ, _+_, _*_, _%_, _≤_, _<_}
-use lib.ListN.{length, take, drop, replicate}
+use lib.ListN.{length, drop}
 use Rattle.octets.specs.Bytes.{part, le}
 use Rattle.octets.specs.Time.{later}
 use Rattle.octets.specs.declared.error.Error.{Error}
@@ -25,13 +23,11 @@ use Rattle.octets.specs.declared.error.Error.the-variants.{Eof, InvalidLength, 
 use Rattle.octets.specs.declared.time.Instant.{Instant}
 use Rattle.channels.specs.Hop.{eventChannel}
 use Rattle.channels.specs.Map.{marks}
-use Rattle.channels.specs.declared.phy.AdvertisingChannel.the-variants.{Channel38, Channel39}
 use Rattle.records_spec.specs.Area.{readArea, rewritten}
 use Rattle.records_spec.specs.Padded.{ZeroLength}
 use Rattle.records_spec.specs.declared.area.Area.the-variants as area
 use Rattle.addresses.specs.Address.{kindNumber, kindOf, addressOf}
-use Rattle.addresses.specs.Header.{headerOf, bits, rxAdd}
-use Rattle.addresses.specs.declared.device_address.AddressKind.the-variants.{Public, Random}
+use Rattle.addresses.specs.Header.{bits, rxAdd}
 use Rattle.addresses.specs.declared.device_address.DeviceAddress.{DeviceAddress}
 use Rattle.addresses.specs.declared.header.Header.{Header}
 use Rattle.addresses.specs.declared.header.PduType.the-variants.{ScanRsp}
@@ -41,9 +37,10 @@ use Rattle.settings.specs.Settings.{RangesAt}
 use Rattle.octets.specs.declared.error.Outcome.the-variants as outcome
 use Rattle.radio_spec.specs.Calls.{isAdvertising, isConnected, instant, fresh, packetOf, packetAfter}
 use Rattle.radio_spec.specs.Demand.{numberIn, replyHeader, replyOctets, ReplyOf}
-use Rattle.radio_spec.specs.Trace.{Call, start, tick, packet, event, stop, setScanData, callOf, octetsOf, forBoard, scans, mapIn, hopIn, connects, replySize, Entry, trace, eventOn, channelsBy, times, Strikable}
-use Rattle.radio_spec.specs.declared.link.Answer.{Answer}
-use Rattle.radio_spec.specs.declared.link.Answer.the-variants.{Refused, Sent, Listen, Respond, FirstEvent, NextEvent, Stopped, ScanDataSet}
+use Rattle.radio_spec.specs.Call.{Call, start, tick, packet, event, stop, setScanData, callOf, octetsOf}
+use Rattle.radio_spec.specs.SoFar.{forBoard, asksToScan, mapIn, hopIn, connects, replySize}
+use Rattle.radio_spec.specs.Trace.{Strikable}
+use Rattle.radio_spec.specs.declared.link.Answer.the-variants.{Refused, Listen, Respond, FirstEvent, ScanDataSet}
 use Rattle.radio_spec.specs.State.{State}
 use Rattle.radio_spec.specs.declared.link.Mode.{Mode}
 use Rattle.radio_spec.specs.declared.link.Mode.the-variants.{Standby, Advertising, Connected}
@@ -80,8 +77,8 @@ pub record Words (own : DeviceAddress) (h : Header) (p : List ℕ) : Type 0 wher
   pub well-formed-if : decodeOf h p .outcome ≡ outcome.Accepted → wellFormed h p ≡ true
   pub for-board : forBoard own h p ≡ true → ForBoard own h p
   pub for-board-if : ForBoard own h p → forBoard own h p ≡ true
-  pub scan-request : (crcGood : Bool) → scans own crcGood h p ≡ true → Scans own h p crcGood
-  pub scan-request-if : (crcGood : Bool) → Scans own h p crcGood → scans own crcGood h p ≡ true
+  pub scan-request : (crcGood : Bool) → asksToScan own crcGood h p ≡ true → Scans own h p crcGood
+  pub scan-request-if : (crcGood : Bool) → Scans own h p crcGood → asksToScan own crcGood h p ≡ true
   pub request : (end : Instant) (crcGood : Bool) (tx : List ℕ) → connects own (packet end h p crcGood tx) ≡ true → Requests own h p crcGood
   pub request-if : (end : Instant) (crcGood : Bool) (tx : List ℕ) → Requests own h p crcGood → connects own (packet end h p crcGood tx) ≡ true
   pub map : mapIn p ≡ part 5 p 28
@@ -118,7 +115,7 @@ pub record Transmits (d : State) (tx : List ℕ) : Type 0 where
       octetsOf d (start time interval records tx) ≡ records ∷ (payload ++ drop (length payload) tx) ∷ []
 
 -- What is answered and written is, by the Core, a SCAN_RSP of the address `own`, kind included, with the records of s, of which there are n.
-pub record Judged (own : DeviceAddress) (s : List ℕ) (n : ℕ) : Type 0 where
+pub record ReplyDecodes (own : DeviceAddress) (s : List ℕ) (n : ℕ) : Type 0 where
   -- the 16 bits of the header: type 4, TxAdd the kind, no RxAdd, no reserved bit, the length
   pub header : replyHeader own s .0 ≡ 4 + 64 * kindNumber (own .kind) + 256 * (6 + length s)
   pub decoded : decodeOf (replyHeader own s) (replyOctets own s) .outcome ≡ outcome.Accepted
@@ -137,7 +134,7 @@ pub record BadStart (d : State) (time : Instant) (interval : ℕ) (records tx : 
 
 -- Scan data are set, in any mode, where they are an accepted area of at most 31 octets, and refused otherwise, a bad area as its first bad record is. The
 -- reply is then theirs, and nothing else changes; no other call changes the reply.
-pub record Setting (d : State) : Type 0 where
+pub record SetsScanData (d : State) : Type 0 where
   pub accepted : length (d .«dev_addr» .bytes) ≡ 6 → (s : List ℕ) (n : ℕ) → readArea s ≡ area.Accepted n → length s ≤ 31 → callOf d (setScanData s) .answer ≡ ScanDataSet
   pub bad-area : (s : List ℕ) (e : Error) → readArea s ≡ area.Refused e → callOf d (setScanData s) .answer ≡ Refused e
   pub too-long : length (d .«dev_addr» .bytes) ≡ 6 → (s : List ℕ) (n : ℕ) → readArea s ≡ area.Accepted n → 31 < length s → callOf d (setScanData s) .answer ≡ Refused Eof
@@ -157,7 +154,7 @@ pub record Setting (d : State) : Type 0 where
 -- a connect request to us gives event 0, at packet end + window offset + window size + 1,750 µs, with access address and CRC start, by the request's own
 -- octets, where it marks no channel is 6, and where it marks one and has a setting outside its range is 12. Only a scan request to us changes the transmit
 -- buffer.
-pub record Hearing (d : State) (end : Instant) (h : Header) (p : List ℕ) (crcGood : Bool) (tx : List ℕ) : Type 0 where
+pub record HearsPacket (d : State) (end : Instant) (h : Header) (p : List ℕ) (crcGood : Bool) (tx : List ℕ) : Type 0 where
   pub off : isAdvertising (d .mode) ≡ false → packetOf d end h p crcGood tx ≡ record { answer = Refused WrongMode; state = d }
   pub bad : d .mode ≡ Advertising → Strikable (d .«dev_addr») (packet end h p crcGood tx)
       → packetOf d end h p crcGood tx ≡ record { answer = Listen (d .adv .channel); state = d }
@@ -178,205 +175,3 @@ pub record Hearing (d : State) (end : Instant) (h : Header) (p : List ℕ) (crcG
   pub outside : d .mode ≡ Advertising → crcGood ≡ true → ForBoard (d .«dev_addr») h p → bits 0 4 h ≡ 5 → 1 ≤ marks (part 5 p 28) → (RangesAt 12 p → ⊥)
       → packetOf d end h p crcGood tx ≡ record { answer = Refused OutOfRange; state = d }
   pub unwritten : (Scans (d .«dev_addr») h p crcGood → ⊥) → packetAfter d h p crcGood tx ≡ tx
-
--- A list of calls: a start at 4294967290 with an interval of 100, a tick, a connect request at 1000 with window size 2, window offset 3, map
--- 0A 00 00 00 00 and hop 5, and 36 events.
-abbrev pub board : DeviceAddress
-board = addressOf (1 ∷ 2 ∷ 3 ∷ 4 ∷ 5 ∷ 6 ∷ []) Public
-
-abbrev pub request : List ℕ
-request =
-    0x11 ∷ 0x12 ∷ 0x13 ∷ 0x14 ∷ 0x15 ∷ 0x16 ∷ 0x01 ∷ 0x02 ∷ 0x03 ∷ 0x04 ∷ 0x05 ∷ 0x06 ∷ 0xD6 ∷ 0xBE ∷ 0x89 ∷ 0x8E ∷ 0x56 ∷ 0x34 ∷ 0x12 ∷ 0x02 ∷ 0x03 ∷ 0x00
-    ∷ 0x18 ∷ 0x00 ∷ 0x00 ∷ 0x00 ∷ 0x64 ∷ 0x00 ∷ 0x0A ∷ 0x00 ∷ 0x00 ∷ 0x00 ∷ 0x00 ∷ 0x05 ∷ []
-
-abbrev pub exampleTrace : List Entry
-exampleTrace =
-    trace board (
-    start (instant 4294967290) 100 (0x02 ∷ 0x0A ∷ 0x00 ∷ []) (replicate 14 0xFF)
-    ∷ tick (replicate 12 0)
-    ∷ packet (instant 1000) (headerOf 0x2205) request true []
-    ∷ replicate 36 event
-    )
-
-abbrev pub exampleAnswers : List Answer
-exampleAnswers = map (λ (e : Entry). e .result .answer) exampleTrace
-
--- the start on 38 and the tick on 39; then channels 3 and 1, and in the 37 events channel 1 has 20 and channel 3 has 17; what the start and the tick write
-pub record Example : Type 0 where
-  pub answers : take 4 exampleAnswers
-      ≡ Sent (headerOf 0x0C00) Channel38 (instant 94)
-      ∷ Sent (headerOf 0x0C00) Channel39 (instant 194)
-      ∷ FirstEvent (record { index = 3 }) (instant 9000) 0x8E89BED6 0x123456
-      ∷ NextEvent (record { index = 1 })
-      ∷ []
-  pub channel-1 : times 1 2 37 (channelsBy eventOn exampleTrace) ≡ 20
-  pub channel-3 : times 3 2 37 (channelsBy eventOn exampleTrace) ≡ 17
-  pub octets : map (λ (e : Entry). e .octets) (take 2 exampleTrace)
-      ≡ ((0x02 ∷ 0x0A ∷ 0x00 ∷ []) ∷ (0x01 ∷ 0x02 ∷ 0x03 ∷ 0x04 ∷ 0x05 ∷ 0x06 ∷ 0x02 ∷ 0x01 ∷ 0x06 ∷ 0x02 ∷ 0x0A ∷ 0x00 ∷ 0xFF ∷ 0xFF ∷ []) ∷ [])
-      ∷ ((0x01 ∷ 0x02 ∷ 0x03 ∷ 0x04 ∷ 0x05 ∷ 0x06 ∷ 0x02 ∷ 0x01 ∷ 0x06 ∷ 0x02 ∷ 0x0A ∷ 0x00 ∷ []) ∷ [])
-      ∷ []
-
--- A list of calls of a board with a random address: Flags with an undefined bit and the name "Go" are set, refused data change nothing, a start, a scan
--- request from 11 12 13 14 15 16 with a transmit buffer of 14 octets, the same with one octet too few; then a stop and the request, a start and a tick, and
--- the request again; then no data are set, and the request has a buffer of 6 octets and one of 5.
-abbrev pub title : List ℕ
-title = 0x02 ∷ 0x01 ∷ 0x86 ∷ 0x03 ∷ 0x09 ∷ 0x47 ∷ 0x6F ∷ []
-
--- a packet under a header, to the address 01 02 03 04 05 and one octet more, with a transmit buffer of n octets
-abbrev pub sentTo : ℕ → ℕ → Bool → ℕ → Call
-sentTo header last crcGood n =
-    packet (instant 1000) (headerOf header) (0x11 ∷ 0x12 ∷ 0x13 ∷ 0x14 ∷ 0x15 ∷ 0x16 ∷ 0x01 ∷ 0x02 ∷ 0x03 ∷ 0x04 ∷ 0x05 ∷ last ∷ []) crcGood (replicate n 0xFF)
-
-abbrev pub asked : ℕ → Call
-asked n = sentTo 0x0C83 0xC6 true n
-
-abbrev pub titledTrace : List Entry
-titledTrace =
-    trace (addressOf (0x01 ∷ 0x02 ∷ 0x03 ∷ 0x04 ∷ 0x05 ∷ 0xC6 ∷ []) Random) (
-    setScanData title
-    ∷ setScanData (0x02 ∷ 0x09 ∷ [])
-    ∷ start (instant 0) 100 [] (replicate 9 0)
-    ∷ asked 14
-    ∷ asked 12
-    ∷ stop
-    ∷ asked 13
-    ∷ start (instant 0) 100 [] (replicate 9 0)
-    ∷ tick (replicate 9 0)
-    ∷ asked 13
-    ∷ setScanData []
-    ∷ asked 6
-    ∷ asked 5
-    ∷ []
-    )
-
-pub record Titled : Type 0 where
-  pub answers : map (λ (e : Entry). e .result .answer) titledTrace
-      ≡ ScanDataSet
-      ∷ Refused Eof
-      ∷ Sent (headerOf 0x0940) Channel38 (instant 100)
-      ∷ Respond (headerOf 0x0D44) Channel38
-      ∷ Refused Eof
-      ∷ Stopped
-      ∷ Refused WrongMode
-      ∷ Sent (headerOf 0x0940) Channel38 (instant 100)
-      ∷ Sent (headerOf 0x0940) Channel39 (instant 200)
-      ∷ Respond (headerOf 0x0D44) Channel39
-      ∷ ScanDataSet
-      ∷ Respond (headerOf 0x0644) Channel39
-      ∷ Refused Eof
-      ∷ []
-  -- the buffers behind the first, from the first request on: the own address, the data with Flags 06, and the octet behind them kept; as lent; a stop has
-  -- none; as lent; what the start wrote; the tick's is its first; the reply; the data that are set are the first; the own address alone; as lent
-  pub octets : map (λ (e : Entry). drop 1 (e .octets)) (drop 3 titledTrace)
-      ≡ ((0x01 ∷ 0x02 ∷ 0x03 ∷ 0x04 ∷ 0x05 ∷ 0xC6 ∷ 0x02 ∷ 0x01 ∷ 0x06 ∷ 0x03 ∷ 0x09 ∷ 0x47 ∷ 0x6F ∷ 0xFF ∷ []) ∷ [])
-      ∷ (replicate 12 0xFF ∷ [])
-      ∷ []
-      ∷ (replicate 13 0xFF ∷ [])
-      ∷ ((0x01 ∷ 0x02 ∷ 0x03 ∷ 0x04 ∷ 0x05 ∷ 0xC6 ∷ 0x02 ∷ 0x01 ∷ 0x06 ∷ []) ∷ [])
-      ∷ []
-      ∷ ((0x01 ∷ 0x02 ∷ 0x03 ∷ 0x04 ∷ 0x05 ∷ 0xC6 ∷ 0x02 ∷ 0x01 ∷ 0x06 ∷ 0x03 ∷ 0x09 ∷ 0x47 ∷ 0x6F ∷ []) ∷ [])
-      ∷ []
-      ∷ ((0x01 ∷ 0x02 ∷ 0x03 ∷ 0x04 ∷ 0x05 ∷ 0xC6 ∷ []) ∷ [])
-      ∷ (replicate 5 0xFF ∷ [])
-      ∷ []
-
--- A list of calls of a board with a public address, on both sides of each limit: in standby a tick, an event, a scan request; starts with 29 and 28 octets of
--- records, the second with a transmit buffer of 36 and of 37, and a tick with 36; the bare reply with a buffer of 7 octets, 6 and 5; a scan request that is
--- CRC-bad, to another address, to the random one, and type 1 to us; while advertising scan data of 31 octets, of 32, and of 32 that end in a bad record; the
--- reply with a buffer of 36 and 37; connect requests without a channel, the second with hop 17, with one, with two and hop 4 and 17, and with two and hop 5; while
--- connected a scan request, a tick, a bad start, an event, and no scan data; after a start the bare reply.
-abbrev pub manufacturer : ℕ → List ℕ
-manufacturer n = (1 + n) ∷ 0xFF ∷ replicate n 0x2A
-
-abbrev pub askedPublic : ℕ → Call
-askedPublic n = sentTo 0x0C03 0x06 true n
-
--- the connect request with another map, and hop
-abbrev pub requesting : List ℕ → Call
-requesting mapAndHop = packet (instant 1000) (headerOf 0x2205) (take 28 request ++ mapAndHop) true []
-
-abbrev pub limitsTrace : List Entry
-limitsTrace =
-    trace board (
-    tick (replicate 37 0)
-    ∷ event
-    ∷ askedPublic 37
-    ∷ start (instant 0) 100 (manufacturer 27) (replicate 38 0)
-    ∷ start (instant 0) 100 (manufacturer 26) (replicate 36 0)
-    ∷ start (instant 0) 100 (manufacturer 26) (replicate 37 0)
-    ∷ tick (replicate 36 0)
-    ∷ askedPublic 7
-    ∷ askedPublic 6
-    ∷ askedPublic 5
-    ∷ sentTo 0x0C03 0x06 false 37
-    ∷ sentTo 0x0C03 0x07 true 37
-    ∷ sentTo 0x0C83 0x06 true 37
-    ∷ sentTo 0x0C01 0x06 true 5
-    ∷ setScanData (manufacturer 29)
-    ∷ setScanData (manufacturer 30)
-    ∷ setScanData (manufacturer 29 ++ (0x00 ∷ []))
-    ∷ askedPublic 36
-    ∷ askedPublic 37
-    ∷ requesting (0x00 ∷ 0x00 ∷ 0x00 ∷ 0x00 ∷ 0xE0 ∷ 0x05 ∷ [])
-    ∷ requesting (0x00 ∷ 0x00 ∷ 0x00 ∷ 0x00 ∷ 0xE0 ∷ 0x11 ∷ [])
-    ∷ requesting (0x02 ∷ 0x00 ∷ 0x00 ∷ 0x00 ∷ 0xE0 ∷ 0x05 ∷ [])
-    ∷ requesting (0x0A ∷ 0x00 ∷ 0x00 ∷ 0x00 ∷ 0x00 ∷ 0x04 ∷ [])
-    ∷ requesting (0x0A ∷ 0x00 ∷ 0x00 ∷ 0x00 ∷ 0x00 ∷ 0x11 ∷ [])
-    ∷ requesting (drop 28 request)
-    ∷ askedPublic 37
-    ∷ tick (replicate 37 0)
-    ∷ start (instant 0) 100 (0x00 ∷ []) (replicate 9 0)
-    ∷ event
-    ∷ setScanData []
-    ∷ start (instant 0) 100 [] (replicate 9 0)
-    ∷ askedPublic 6
-    ∷ []
-    )
-
-pub record Limits : Type 0 where
-  pub answers : map (λ (e : Entry). e .result .answer) limitsTrace
-      ≡ Refused WrongMode
-      ∷ Refused WrongMode
-      ∷ Refused WrongMode
-      ∷ Refused Eof
-      ∷ Refused Eof
-      ∷ Sent (headerOf 0x2500) Channel38 (instant 100)
-      ∷ Refused Eof
-      ∷ Respond (headerOf 0x0604) Channel38
-      ∷ Respond (headerOf 0x0604) Channel38
-      ∷ Refused Eof
-      ∷ Listen Channel38
-      ∷ Listen Channel38
-      ∷ Listen Channel38
-      ∷ Listen Channel38
-      ∷ ScanDataSet
-      ∷ Refused Eof
-      ∷ Refused InvalidLength
-      ∷ Refused Eof
-      ∷ Respond (headerOf 0x2504) Channel38
-      ∷ Refused EmptyMap
-      ∷ Refused EmptyMap
-      ∷ Refused OutOfRange
-      ∷ Refused OutOfRange
-      ∷ Refused OutOfRange
-      ∷ FirstEvent (record { index = 3 }) (instant 9000) 0x8E89BED6 0x123456
-      ∷ Refused WrongMode
-      ∷ Refused WrongMode
-      ∷ Refused InvalidLength
-      ∷ NextEvent (record { index = 1 })
-      ∷ ScanDataSet
-      ∷ Sent (headerOf 0x0900) Channel38 (instant 100)
-      ∷ Respond (headerOf 0x0604) Channel38
-      ∷ []
-  -- what the first seven packets leave in their transmit buffers, the bare replies' and the others as they were lent; and the longest reply
-  pub octets : map (λ (e : Entry). drop 1 (e .octets)) (take 7 (drop 7 limitsTrace))
-      ≡ ((0x01 ∷ 0x02 ∷ 0x03 ∷ 0x04 ∷ 0x05 ∷ 0x06 ∷ 0xFF ∷ []) ∷ [])
-      ∷ ((0x01 ∷ 0x02 ∷ 0x03 ∷ 0x04 ∷ 0x05 ∷ 0x06 ∷ []) ∷ [])
-      ∷ (replicate 5 0xFF ∷ [])
-      ∷ (replicate 37 0xFF ∷ [])
-      ∷ (replicate 37 0xFF ∷ [])
-      ∷ (replicate 37 0xFF ∷ [])
-      ∷ (replicate 5 0xFF ∷ [])
-      ∷ []
-  pub longest : map (λ (e : Entry). drop 1 (e .octets)) (take 1 (drop 18 limitsTrace))
-      ≡ ((0x01 ∷ 0x02 ∷ 0x03 ∷ 0x04 ∷ 0x05 ∷ 0x06 ∷ 0x1E ∷ 0xFF ∷ replicate 29 0x2A) ∷ []) ∷ []

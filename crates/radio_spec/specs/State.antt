@@ -4,6 +4,7 @@
 --   Connection          == what the events of a connection need
 --   State               == a device
 --   Step                == what a call gives
+--   inMode m d, withAdv a d, withConn c d, withReply pdu d == the state d in another mode, with another advertisement, connection or reply, and nothing else changed
 use Prim.Native.Nat.{ℕ}
 use Rattle.octets.specs.declared.time.Instant.{Instant}
 use Rattle.channels.specs.declared.channel_map.ChannelMap.{ChannelMap}
@@ -33,6 +34,18 @@ pub record State : Type 0 where
   pub «scan_response» : PduBuf
   pub adv : Advertisement
   pub conn : Connection
+
+abbrev pub inMode : Mode → State → State
+inMode m d = record { mode = m; «dev_addr» = d .«dev_addr»; «scan_response» = d .«scan_response»; adv = d .adv; conn = d .conn }
+
+abbrev pub withAdv : Advertisement → State → State
+withAdv a d = record { mode = d .mode; «dev_addr» = d .«dev_addr»; «scan_response» = d .«scan_response»; adv = a; conn = d .conn }
+
+abbrev pub withConn : Connection → State → State
+withConn c d = record { mode = d .mode; «dev_addr» = d .«dev_addr»; «scan_response» = d .«scan_response»; adv = d .adv; conn = c }
+
+abbrev pub withReply : PduBuf → State → State
+withReply pdu d = record { mode = d .mode; «dev_addr» = d .«dev_addr»; «scan_response» = pdu; adv = d .adv; conn = d .conn }
 
 pub record Step : Type 0 where
   pub answer : Answer

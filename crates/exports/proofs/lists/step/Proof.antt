@@ -6,7 +6,7 @@ use Prim.Native.Nat.{ℕ}
 use lib.Dec.{eqb}
 use borrow.Author.Tests.{ne-eqb}
 use Rattle.addresses.specs.Header.{parsed}
-use Rattle.radio_spec.specs.Trace.{Call, callOf}
+use Rattle.radio_spec.specs.Call.{Call, callOf}
 use Rattle.radio.specs.State.{state}
 use Rattle.exports.specs.Lists.{headerOr, bufferAfter}
 use Rattle.exports.proofs.Turns.{as-start, as-tick, as-packet, as-event, as-set, as-stop}

@@ -8,8 +8,8 @@ use Rattle.records_spec.specs.Area.{cut, reads, withFirst, areaOf, readArea, cl
 use Rattle.records_spec.specs.Record.{flagsRead, uuidsRead, dataRead, upTo, recordRead, first, recordAt}
 use Rattle.flags.specs.Flags.{named}
 use Rattle.addresses.specs.Header.{pduType}
 use Rattle.advertising.specs.Pdu.{withArea, undirected, byType, decodeBy}
-use Rattle.radio_spec.specs.Table.{Table}
+use Rattle.advertising.specs.Table.{Table}
 
 pub table : Table
 unfolding flatten count placed unmapped mapped eventChannel uses marked marks channelAt cut reads withFirst areaOf readArea clean rewritten mayRewrite rewrittenAfter named flagsRead uuidsRead dataRead upTo recordRead first recordAt pduType withArea undirected byType decodeBy
