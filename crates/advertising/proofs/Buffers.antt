@@ -19,7 +19,7 @@ use Rattle.records_spec.specs.Write.{checkedTo, checkedAfter}
 use Rattle.records_spec.specs.declared.area.Area.{Area}
 use Rattle.records_spec.specs.declared.area.Area.the-variants as area
 use Rattle.records_spec.proofs.RoundTrip.{round-trip}
-use Rattle.advertising.specs.PduBuf.{padded, headerFor, bufOf, refusedBuf, afterReading, withRecords}
+use Rattle.advertising.specs.PduBuf.{to37, headerFor, bufOf, refusedBuf, afterReading, withRecords}
 use Rattle.addresses.specs.declared.header.PduType.{PduType}
 use Rattle.octets.specs.declared.error.Outcome.the-variants.{Accepted}
 use Rattle.advertising.specs.declared.pdu_buf.Built.{Built}
@@ -34,16 +34,16 @@ drop-replicate (suc k) zero = let nothing : 0 - suc k ≡ 0 = omega arith in rw 
 drop-replicate (suc k) (suc n) = let less : suc n - suc k ≡ n - k = omega arith in rw less (drop-replicate k n)
 
 -- octets in the place of zeros behind xs
-pad-rest : (xs ys : List ℕ) → xs ++ (ys ++ drop (length ys) (room xs)) ≡ padded (xs ++ ys)
+pad-rest : (xs ys : List ℕ) → xs ++ (ys ++ drop (length ys) (room xs)) ≡ to37 (xs ++ ys)
 pad-rest xs ys =
     let left : 37 - length xs - length ys ≡ 37 - length (xs ++ ys) = simp length-append (omega arith) in
     rw (drop-replicate (length ys) (37 - length xs), left, append-assoc)
 
-pub pad-on : (xs ys : List ℕ) (at : ℕ) → length xs ≡ at → at + length ys ≤ 37 → outAfter ys (padded xs) at ≡ padded (xs ++ ys)
+pub pad-on : (xs ys : List ℕ) (at : ℕ) → length xs ≡ at → at + length ys ≤ 37 → outAfter ys (to37 xs) at ≡ to37 (xs ++ ys)
 pad-on xs ys at is fits =
-    let long : length (padded xs) ≡ 37 = simp (length-append, length-replicate) (omega arith) in
-    let behind : drop (at + length ys) (padded xs) ≡ drop (length ys) (room xs) = rw (← is) (drop-append-add xs (room xs) (length ys)) in
-    rw (enough (length ys) (padded xs) at (omega arith), take-at xs (room xs) at is, behind) (pad-rest xs ys)
+    let long : length (to37 xs) ≡ 37 = simp (length-append, length-replicate) (omega arith) in
+    let behind : drop (at + length ys) (to37 xs) ≡ drop (length ys) (room xs) = rw (← is) (drop-append-add xs (room xs) (length ys)) in
+    rw (enough (length ys) (to37 xs) at (omega arith), take-at xs (room xs) at is, behind) (pad-rest xs ys)
 
 -- records that were written end within the space
 pub inside : (s out : List ℕ) {next : ByteWriter} → rewrittenTo s out ≡ written.To next → next .at ≤ length out
@@ -78,7 +78,7 @@ filled ty tx xs s = go (readArea s)
     end : length xs + (0 + length (rewritten s)) ≡ length (xs ++ rewritten s)
     end = simp length-append (omega arith)
 
-    contents : xs ++ (rewritten s ++ drop (0 + length (rewritten s)) (room xs)) ≡ padded (xs ++ rewritten s)
+    contents : xs ++ (rewritten s ++ drop (0 + length (rewritten s)) (room xs)) ≡ to37 (xs ++ rewritten s)
     contents = rw zero-add (pad-rest xs (rewritten s))
 
     fits : (n : ℕ) (b : Bool) → ltb (37 - length xs) (length s) ≡ b
@@ -96,7 +96,7 @@ filled ty tx xs s = go (readArea s)
     go (area.Refused e) = refl
 
 -- the same of 37 octets that begin with xs, and of what was written behind them
-pub filled-at : (ty : PduType) (tx : Bool) (front s l : List ℕ) (start : ℕ) {w : Written} → start ≤ length front → front ≡ padded (take start front)
+pub filled-at : (ty : PduType) (tx : Bool) (front s l : List ℕ) (start : ℕ) {w : Written} → start ≤ length front → front ≡ to37 (take start front)
     → w ≡ rewrittenTo s (drop start front) → l ≡ take start front ++ rewrittenAfter s (drop start front)
     → fromWritten ty tx start l w ≡ withRecords ty tx (take start front) s
 filled-at ty tx front s l start inside is wrote left =
@@ -106,12 +106,12 @@ filled-at ty tx front s l start inside is wrote left =
     rw (wrote, left, rest) (ap (λ (n : ℕ). fromWritten ty tx n (xs ++ rewrittenAfter s (room xs)) (rewrittenTo s (room xs))) (sym size) ∙ filled ty tx xs s)
 
 -- six octets placed in 37 zeros, and others behind them
-pub placed-first : (xs : List ℕ) {l : List ℕ} → length xs ≡ 6 → l ≡ outAfter xs (padded []) 0 → l ≡ padded xs
+pub placed-first : (xs : List ℕ) {l : List ℕ} → length xs ≡ 6 → l ≡ outAfter xs (to37 []) 0 → l ≡ to37 xs
 placed-first xs long e = e ∙ pad-on [] xs 0 refl (omega arith)
 
-pub placed-behind : (xs ys : List ℕ) {front l : List ℕ} → length xs ≡ 6 → length ys ≤ 31 → front ≡ padded xs → l ≡ outAfter ys front 6 → l ≡ padded (xs ++ ys)
+pub placed-behind : (xs ys : List ℕ) {front l : List ℕ} → length xs ≡ 6 → length ys ≤ 31 → front ≡ to37 xs → l ≡ outAfter ys front 6 → l ≡ to37 (xs ++ ys)
 placed-behind xs ys long short is e = e ∙ rw is (pad-on xs ys 6 long (omega arith))
 
 -- the front of padded octets
-pub front-of : (xs : List ℕ) {l : List ℕ} {n : ℕ} → length xs ≡ n → l ≡ padded xs → take n l ≡ xs
+pub front-of : (xs : List ℕ) {l : List ℕ} {n : ℕ} → length xs ≡ n → l ≡ to37 xs → take n l ≡ xs
 front-of xs {l} {n} long is = rw is (take-at xs (room xs) n long)

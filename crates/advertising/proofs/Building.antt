@@ -30,7 +30,7 @@ use Rattle.records_spec.specs.Area.{readArea, rewritten}
 use Rattle.records_spec.specs.declared.area.Area.the-variants as area
 use Rattle.advertising.specs.Laws.{Figure, with-records, two-addresses, ReadsBack, Building}
 use Rattle.advertising.specs.Pdu.{undirectedFigure, noRequest, noAddress, noData, decodedAs, decodeOf}
-use Rattle.advertising.specs.PduBuf.{padded, headerFor, bufOf, refusedBuf, afterReading, withRecords, builtOf, builtDirected, flagsRecord, payloadOf}
+use Rattle.advertising.specs.PduBuf.{to37, headerFor, bufOf, refusedBuf, afterReading, withRecords, builtOf, builtDirected, flagsRecord, payloadOf}
 use Rattle.advertising.specs.declared.pdu.AdvData.{AdvData}
 use Rattle.octets.specs.declared.error.Outcome.the-variants.{Accepted}
 use Rattle.advertising.specs.declared.pdu_buf.Built.{Built}
@@ -92,7 +92,7 @@ payload-back : (ty : PduType) (tx rx : Bool) (xs : List ℕ) → Coded ty → le
 unfolding bufOf
 payload-back ty tx rx xs code fits =
     let counts : lengthOf (headerFor ty tx rx (length xs)) ≡ length xs = says ty tx rx (length xs) code (omega arith) .len in
-    ap (λ (n : ℕ). take n (padded xs)) counts ∙ take-at xs (room xs) (length xs) refl
+    ap (λ (n : ℕ). take n (to37 xs)) counts ∙ take-at xs (room xs) (length xs) refl
 
 -- what a test of a size picks
 too-small : (n m : ℕ) (x y : Built) → n < m → cond (ltb n m) x y ≡ x

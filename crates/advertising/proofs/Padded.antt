@@ -11,9 +11,9 @@ use borrow.Author.Tests.{le-ltb, lt-ltb, leb-true, leb-false, le-leb, lt-leb, eq
 use Rattle.octets.proofs.Places.{both-true, enough}
 use Rattle.octets.specs.declared.error.Error.{Error}
 use Rattle.octets.specs.declared.error.Error.the-variants.{Eof, InvalidLength}
-use Rattle.records_spec.proofs.Padded.{differs, without-size, before, took}
+use Rattle.records_spec.proofs.HubReads.{differs, without-size, before, took}
 use Rattle.records_spec.specs.Area.{cut, reads, withFirst, areaOf, readArea}
-use Rattle.records_spec.specs.Padding.{beforeZero, unpadded, isZeros, endedBy, readPadded, areaIn}
+use Rattle.records_spec.specs.HubReading.{beforeZero, unpadded, isZeros, endedBy, readPadded, areaIn}
 use Rattle.records_spec.specs.Record.{flagsRead, uuidsRead, dataRead, upTo, recordRead, first}
 use Rattle.flags.specs.Flags.{named}
 use Rattle.records_spec.specs.declared.area.Area.{Area}

@@ -12,8 +12,8 @@ use Rattle.addresses.specs.Header.{headerOf, typeOf, txAdd, lengthOf, allowsAdv
 use Rattle.addresses.specs.declared.header.Header.{Header}
 use Rattle.octets.specs.declared.error.Error.{Error}
 use Rattle.octets.specs.declared.error.Error.the-variants.{Eof, InvalidLength}
-use Rattle.records_spec.specs.Padded.{ZeroLength}
-use Rattle.records_spec.specs.Padding.{readPadded}
+use Rattle.records_spec.specs.HubReads.{ZeroLength}
+use Rattle.records_spec.specs.HubReading.{readPadded}
 use Rattle.records_spec.specs.declared.area.PaddedArea.the-variants as padded
 use Rattle.advertising.specs.Laws.{nine}
 use Rattle.advertising.specs.Pdu.{noAddress, noRequest, decodedAs, refusedPdu, decodeOf, heardOf, paddedOf}

@@ -39,7 +39,7 @@ use Rattle.octets.specs.Time.{later}
 use Rattle.octets.specs.declared.error.Error.{Error}
 use Rattle.octets.specs.declared.error.Error.the-variants.{Eof, InvalidLength, InvalidValue}
 use Rattle.records_spec.specs.Area.{readArea}
-use Rattle.records_spec.specs.Padding.{unpadded, readPadded, areaIn}
+use Rattle.records_spec.specs.HubReading.{unpadded, readPadded, areaIn}
 use Rattle.records_spec.specs.declared.area.Area.{Area}
 use Rattle.records_spec.specs.declared.area.Area.the-variants as area
 use Rattle.addresses.specs.Address.{kindOf, addressOf}

@@ -1,5 +1,5 @@
 -- What the builders of PDUs build (layouts: specs/Pdu.antt; sizes and refusals: document 01, advertising.rs).
---   padded xs                 == 37 octets: xs and zeros
+--   to37 xs                 == 37 octets: xs and zeros
 --   headerFor ty tx rx n      == the header of a PDU of type ty with a payload of n octets
 --   bufOf ty tx rx xs         == the PDU of type ty with the payload xs
 --   emptyBuf                  == a PDU of zeros, without payload
@@ -32,17 +32,17 @@ use Rattle.octets.specs.declared.error.Outcome.the-variants.{Accepted, Refused}
 use Rattle.advertising.specs.declared.pdu_buf.Built.{Built}
 use Rattle.advertising.specs.declared.pdu_buf.PduBuf.{PduBuf}
 
-abbrev pub padded : List ℕ → List ℕ
-padded xs = xs ++ replicate (37 - length xs) 0
+abbrev pub to37 : List ℕ → List ℕ
+to37 xs = xs ++ replicate (37 - length xs) 0
 
 abbrev pub headerFor : PduType → Bool → Bool → ℕ → Header
 headerFor ty tx rx n = setRxAdd rx (setTxAdd tx (setLength n (headerOf (typeCode ty))))
 
 unfoldable pub bufOf : PduType → Bool → Bool → List ℕ → PduBuf
-bufOf ty tx rx xs = record { header = headerFor ty tx rx (length xs); «payload_buf» = padded xs }
+bufOf ty tx rx xs = record { header = headerFor ty tx rx (length xs); «payload_buf» = to37 xs }
 
 abbrev pub emptyBuf : PduBuf
-emptyBuf = record { header = headerOf 0; «payload_buf» = padded [] }
+emptyBuf = record { header = headerOf 0; «payload_buf» = to37 [] }
 
 abbrev pub refusedBuf : Error → Built
 refusedBuf e = record { outcome = Refused e; pdu = emptyBuf }

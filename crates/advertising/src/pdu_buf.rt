@@ -5,7 +5,7 @@ ghost use Prim.Native.Nat.{_+_, _≤_};
 ghost use lib.ListN.{length, take, drop};
 ghost use Rattle.octets.specs.Bytes.{outAfter};
 ghost use Rattle.records_spec.specs.Area.{rewrittenTo, rewrittenAfter};
-ghost use Rattle.advertising.specs.PduBuf.{padded, headerFor, emptyBuf, refusedBuf, withRecords, builtOf, connectablePdu, nonconnectablePdu, scannablePdu, beaconPdu, discoverablePdu, scanResponsePdu, builtDirected, payloadTo, payloadAfter};
+ghost use Rattle.advertising.specs.PduBuf.{to37, headerFor, emptyBuf, refusedBuf, withRecords, builtOf, connectablePdu, nonconnectablePdu, scannablePdu, beaconPdu, discoverablePdu, scanResponsePdu, builtDirected, payloadTo, payloadAfter};
 use addresses::device_address::DeviceAddress;
 use addresses::header::Header;
 use addresses::header::HeaderMade;
@@ -193,7 +193,7 @@ fn fill(
     start: usize,
     adv_data: &[u8],
 ) -> Built
-    requires { ⌜ ((6 ≤ start) × (start ≤ 9)) × (front ≡ padded (take start front)) ⌝ }
+    requires { ⌜ ((6 ≤ start) × (start ≤ 9)) × (front ≡ to37 (take start front)) ⌝ }
     ensures { λ r. ⌜ r ≡ withRecords ty random (take start front) (now («adv_data» .entry)) ⌝ }
 {
     let mut payload_buf = front;

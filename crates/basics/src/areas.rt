@@ -2,7 +2,7 @@
 ghost use mathlib.Core.Path.{_≡_};
 ghost use Prim.Native.Nat.{_%_};
 ghost use Rattle.records_spec.specs.Area.{readArea, rewrittenTo, rewrittenAfter};
-ghost use Rattle.records_spec.specs.Padding.{readPadded};
+ghost use Rattle.records_spec.specs.HubReading.{readPadded};
 ghost use Rattle.records_spec.specs.Record.{recordAt};
 ghost use Rattle.records_spec.specs.Uuids.{uuid16At};
 ghost use Rattle.records_spec.specs.Write.{writtenTo, writtenAfter};

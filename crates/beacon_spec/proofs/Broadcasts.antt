@@ -12,10 +12,10 @@ use borrow.Author.Tests.{ltb-true, ltb-false}
 use Rattle.octets.proofs.Places.{enough, too-few, cond-same}
 use Rattle.octets.specs.declared.error.Error.{Error}
 use Rattle.octets.specs.declared.error.Error.the-variants.{Eof}
-use Rattle.records_spec.proofs.Padded.{differs, before}
+use Rattle.records_spec.proofs.HubReads.{differs, before}
 use Rattle.records_spec.proofs.RoundTrip.{round-trip}
 use Rattle.records_spec.specs.Area.{cut, reads, areaOf, readArea, rewritten}
-use Rattle.records_spec.specs.Padding.{unpadded, readPadded}
+use Rattle.records_spec.specs.HubReading.{unpadded, readPadded}
 use Rattle.records_spec.specs.declared.area.Area.{Area}
 use Rattle.records_spec.specs.declared.area.Area.the-variants as area
 use Rattle.records_spec.specs.declared.area.PaddedArea.the-variants as padded

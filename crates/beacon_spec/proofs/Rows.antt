@@ -6,7 +6,7 @@ use Rattle.addresses.specs.Filter.{any, whitelisted}
 use Rattle.addresses.specs.Header.{pduType}
 use Rattle.advertising.specs.Pdu.{decodeBy, byType, undirected, withArea}
 use Rattle.records_spec.specs.Area.{cut, reads, withFirst, areaOf, readArea}
-use Rattle.records_spec.specs.Padding.{beforeZero, unpadded, isZeros, endedBy, readPadded, areaIn}
+use Rattle.records_spec.specs.HubReading.{beforeZero, unpadded, isZeros, endedBy, readPadded, areaIn}
 use Rattle.records_spec.specs.Record.{first, flagsRead, dataRead, upTo, recordRead}
 use Rattle.flags.specs.Flags.{named}
 use Rattle.beacon_spec.specs.Laws.{run, Row, Examples}

@@ -1,12 +1,13 @@
 // A packet's bit stream, as numbers.
 ghost use mathlib.Core.Path.{_≡_};
+ghost use Rattle.octets.specs.Error.{outcomeNumber};
 ghost use Rattle.whitening.specs.Crc.{crcOf, crcOctets};
-ghost use Rattle.whitening.specs.Packet.{whitenOf, whitenAfter, flagOf, whitenedNumber};
+ghost use Rattle.whitening.specs.Packet.{whitenOf, whitenAfter, flagOf};
 ghost use Rattle.bit_stream.specs.Said.{flagSaid};
 use whitening::crc::crc;
 use whitening::crc::crc_octets;
 use whitening::packet::Flag;
-use whitening::packet::Whitened;
+use octets::error::Outcome;
 use whitening::packet::crc_flag;
 use whitening::packet::whiten;
 
@@ -26,11 +27,11 @@ pub struct CrcOctets {
 // The number of a refusal, or 0.
 #[no_mangle]
 pub extern "C" fn board_whiten(channel: u8, packet: &mut [u8]) -> u8
-    ensures { λ r. ⌜ (r ≡ whitenedNumber (whitenOf channel (now (packet .entry)))) × (now (packet .exit) ≡ whitenAfter channel (now (packet .entry))) ⌝ }
+    ensures { λ r. ⌜ (r ≡ outcomeNumber (whitenOf channel (now (packet .entry)))) × (now (packet .exit) ≡ whitenAfter channel (now (packet .entry))) ⌝ }
 {
     match whiten(channel, packet) {
-        Whitened::Done => 0,
-        Whitened::Refused(e) => e.number(),
+        Outcome::Accepted => 0,
+        Outcome::Refused(e) => e.number(),
     }
 }
 

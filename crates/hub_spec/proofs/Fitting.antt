@@ -10,9 +10,9 @@ use Rattle.channels.specs.Laws.{cycles}
 use Rattle.channels.specs.Phy.{indexOf}
 use Rattle.channels.specs.declared.phy.AdvertisingChannel.{AdvertisingChannel}
 use Rattle.channels.specs.declared.phy.AdvertisingChannel.the-variants.{Channel37, Channel38, Channel39}
-use Rattle.records_spec.proofs.Padded.{tiling-of, took}
+use Rattle.records_spec.proofs.HubReads.{tiling-of, took}
 use Rattle.records_spec.specs.Accepted.{AllGood}
-use Rattle.records_spec.specs.Padding.{readPadded}
+use Rattle.records_spec.specs.HubReading.{readPadded}
 use Rattle.records_spec.specs.declared.area.PaddedArea.the-variants as padded
 use Rattle.columns.proofs.Rows.{row}
 use Rattle.columns.specs.Row.{rowOf, readRow, AllFit}

@@ -14,7 +14,7 @@ use Rattle.octets.specs.Laws.{Octets}
 use Rattle.channels.specs.Laws.{cycles}
 use Rattle.channels.specs.Phy.{indexOf, cycled}
 use Rattle.channels.specs.declared.phy.AdvertisingChannel.{AdvertisingChannel}
-use Rattle.records_spec.specs.Padding.{readPadded}
+use Rattle.records_spec.specs.HubReading.{readPadded}
 use Rattle.records_spec.specs.declared.area.PaddedArea.the-variants as padded
 use Rattle.addresses.specs.Address.{kindOf, addressOf}
 use Rattle.addresses.specs.Header.{bits, headerOf, txAdd}

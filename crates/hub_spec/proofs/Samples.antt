@@ -14,7 +14,7 @@ use Rattle.items.proofs.Falling.{falls}
 use Rattle.items.proofs.Items.{one-whole, none-whole}
 use Rattle.items.specs.Item.{sizeOf, wholeSize, items, behind, tick, packet, AllItems}
 use Rattle.records_spec.specs.Area.{cut, reads, withFirst, areaOf, readArea}
-use Rattle.records_spec.specs.Padding.{beforeZero, unpadded, isZeros, endedBy, readPadded, areaIn}
+use Rattle.records_spec.specs.HubReading.{beforeZero, unpadded, isZeros, endedBy, readPadded, areaIn}
 use Rattle.records_spec.specs.Record.{first, flagsRead, dataRead, upTo, recordRead}
 use Rattle.flags.specs.Flags.{named}
 use Rattle.hub_spec.specs.Line.{lineSize, reportLine, line, reportsIn}

@@ -22,7 +22,7 @@ use Rattle.channels.specs.Laws.{cycles}
 use Rattle.channels.specs.Phy.{indexOf}
 use Rattle.channels.specs.declared.phy.AdvertisingChannel.{AdvertisingChannel}
 use Rattle.channels.specs.declared.phy.AdvertisingChannel.the-variants.{Channel37}
-use Rattle.records_spec.specs.Padding.{readPadded}
+use Rattle.records_spec.specs.HubReading.{readPadded}
 use Rattle.records_spec.specs.declared.area.PaddedArea.the-variants as padded
 use Rattle.addresses.specs.Address.{addressOf}
 use Rattle.addresses.specs.Header.{headerOf}

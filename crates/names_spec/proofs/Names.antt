@@ -15,8 +15,8 @@ use Rattle.octets.proofs.Places.{both-true}
 use Rattle.utf8.specs.Utf8.{isUtf8, rowIn, utf8After}
 use Rattle.records_spec.specs.Accepted.{Bad, zero-length, too-few, wrong-flags, odd-list}
 use Rattle.records_spec.specs.Area.{cut, reads, withFirst, areaOf, readArea}
-use Rattle.records_spec.specs.Padded.{Fault, bad-record, not-zero, PaddedVerdict}
-use Rattle.records_spec.specs.Padding.{beforeZero, unpadded, isZeros, endedBy, readPadded}
+use Rattle.records_spec.specs.HubReads.{Fault, bad-record, not-zero, PaddedVerdict}
+use Rattle.records_spec.specs.HubReading.{beforeZero, unpadded, isZeros, endedBy, readPadded}
 use Rattle.records_spec.specs.Record.{flagsRead, uuidsRead, dataRead, upTo, recordRead, first}
 use Rattle.flags.specs.Flags.{named}
 use Rattle.records_spec.specs.declared.area.PaddedArea.{PaddedArea}
@@ -24,7 +24,7 @@ use Rattle.records_spec.specs.declared.area.PaddedArea.the-variants as padded
 use Rattle.records_spec.specs.Search.{firstWhere, searched, IsRead, Stands, Told, Decides, Searching}
 use Rattle.records_spec.specs.declared.area.Found.{Found}
 use Rattle.records_spec.specs.declared.area.Found.the-variants.{At, Nothing}
-use Rattle.records_spec.proofs.Padded.{hub-reads}
+use Rattle.records_spec.proofs.HubReads.{hub-reads}
 use Rattle.records_spec.proofs.Search.{searching}
 use Rattle.names_spec.specs.Laws.{Named, completeType, shortenedType, Answers, bad-advertisement, bad-reply, complete-in-reply, complete-in-advertisement, shortened-in-reply, shortened-in-advertisement, no-name, LooksUp, NoNames, Eleven, HandsOn, Hands, AnyPlace, NameRows, PartRows, Holds}
 use Rattle.names_spec.specs.Name.{isName, nameIn, inReply, inAdvertisement, chosen, afterReading, nameOf}

@@ -13,10 +13,10 @@ use Rattle.octets.specs.declared.error.Error.the-variants.{NoName}
 use Rattle.octets.proofs.Places.{drop-take}
 use Rattle.utf8.specs.Utf8.{isUtf8}
 use Rattle.records_spec.specs.Area.{AcceptedFrom, readArea}
-use Rattle.records_spec.specs.Padding.{readPadded}
+use Rattle.records_spec.specs.HubReading.{readPadded}
 use Rattle.records_spec.specs.Types.{shortenedNameType, completeNameType}
 use Rattle.records_spec.specs.declared.area.PaddedArea.the-variants as padded
-use Rattle.records_spec.proofs.Padded.{before, took}
+use Rattle.records_spec.proofs.HubReads.{before, took}
 use Rattle.names_spec.specs.Name.{isName, nameIn, inReply, inAdvertisement, chosen, afterReading, nameOf}
 use Rattle.records_spec.specs.declared.area.Found.the-variants.{At, Nothing}
 use Rattle.names_spec.specs.declared.NamePlace.the-variants.{InReply, InAdvertisement, Refused}

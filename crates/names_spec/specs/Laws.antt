@@ -18,7 +18,7 @@ use denote.Ref.{RefT, now}
 use Rattle.octets.specs.declared.error.Error.{Error}
 use Rattle.octets.specs.declared.error.Error.the-variants.{Eof, InvalidLength, NoName}
 use Rattle.utf8.specs.Utf8.{isUtf8}
-use Rattle.records_spec.specs.Padding.{readPadded}
+use Rattle.records_spec.specs.HubReading.{readPadded}
 use Rattle.records_spec.specs.Search.{IsRead, Stands, First, None}
 use Rattle.records_spec.specs.declared.area.PaddedArea.the-variants as padded
 use Rattle.names_spec.specs.Name.{nameOf, handedFrom, handedOn, nameFrom, nameOctets}

@@ -18,7 +18,7 @@ use Rattle.records_spec.specs.Types.{shortenedNameType, completeNameType}
 use Rattle.records_spec.specs.Search.{searched}
 use Rattle.records_spec.specs.declared.area.Found.{Found}
 use Rattle.records_spec.specs.declared.area.Found.the-variants.{At, Nothing}
-use Rattle.records_spec.specs.Padding.{unpadded, readPadded}
+use Rattle.records_spec.specs.HubReading.{unpadded, readPadded}
 use Rattle.records_spec.specs.declared.area.PaddedArea.{PaddedArea}
 use Rattle.records_spec.specs.declared.area.PaddedArea.the-variants as padded
 use Rattle.names_spec.specs.declared.NamePlace.{NamePlace}

@@ -22,7 +22,7 @@ use Rattle.channels.specs.Map.{marks, fromRaw}
 use Rattle.channels.specs.declared.connection.Hop.{Hop}
 use Rattle.channels.specs.declared.connection.Hop.the-variants as hop
 use Rattle.channels.specs.declared.phy.DataChannel.{DataChannel}
-use Rattle.records_spec.proofs.Padded.{differs}
+use Rattle.records_spec.proofs.HubReads.{differs}
 use Rattle.records_spec.specs.Area.{readArea, rewritten}
 use Rattle.records_spec.specs.declared.area.Area.{Area}
 use Rattle.records_spec.specs.declared.area.Area.the-variants as area

@@ -24,7 +24,7 @@ use Rattle.octets.specs.declared.time.Instant.{Instant}
 use Rattle.channels.specs.Hop.{eventChannel}
 use Rattle.channels.specs.Map.{marks}
 use Rattle.records_spec.specs.Area.{readArea, rewritten}
-use Rattle.records_spec.specs.Padded.{ZeroLength}
+use Rattle.records_spec.specs.HubReads.{ZeroLength}
 use Rattle.records_spec.specs.declared.area.Area.the-variants as area
 use Rattle.addresses.specs.Address.{kindNumber, kindOf, addressOf}
 use Rattle.addresses.specs.Header.{bits, rxAdd}

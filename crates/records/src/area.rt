@@ -4,7 +4,7 @@ ghost use mathlib.Core.List.{_++_};
 ghost use Prim.Native.Nat.{_≤_};
 ghost use lib.ListN.{length, drop};
 ghost use Rattle.records_spec.specs.Area.{AcceptedFrom, frontOf, readArea, rewritten, rewrittenTo, rewrittenAfter};
-ghost use Rattle.records_spec.specs.Padding.{isZeros, readPadded};
+ghost use Rattle.records_spec.specs.HubReading.{isZeros, readPadded};
 use crate::ad_structure::Read;
 use crate::ad_structure::read_record;
 use crate::ad_structure::write_record;

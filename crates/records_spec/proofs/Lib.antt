@@ -7,7 +7,7 @@ pub mod Accepted
 pub mod RoundTrip
 pub mod Restored
 pub mod Fronts
-pub mod Padded
+pub mod HubReads
 pub mod ReadOn
 pub mod Space
 pub mod ReadBack

@@ -9,8 +9,8 @@ use lib.Seq.{take-at, getD-append-add}
 use Rattle.octets.specs.Bytes.{part}
 use Rattle.records_spec.specs.Accepted.{AllGood, Tiling}
 use Rattle.records_spec.specs.Area.{cut, records}
-use Rattle.records_spec.specs.Padded.{Padding, PaddedVerdict}
-use Rattle.records_spec.specs.Padding.{unpadded}
+use Rattle.records_spec.specs.HubReads.{Padding, PaddedVerdict}
+use Rattle.records_spec.specs.HubReading.{unpadded}
 use Rattle.records_spec.specs.Record.{first}
 use Rattle.records_spec.specs.Search.{firstWhere, searched, IsRead, Stands, First, None, Told, Decides, Searching}
 use Rattle.records_spec.specs.declared.area.Found.{Found}
@@ -18,7 +18,7 @@ use Rattle.records_spec.specs.declared.area.Found.the-variants.{At, Noth
 use Rattle.records_spec.proofs.Accepted.{decided}
 use Rattle.records_spec.proofs.Cuts.{Step}
 use Rattle.records_spec.proofs.Fronts.{flatten-append, records-behind, good-parts}
-use Rattle.records_spec.proofs.Padded.{tiling-of, hub-reads, before}
+use Rattle.records_spec.proofs.HubReads.{tiling-of, hub-reads, before}
 
 -- a record passes the test, or the search goes on after it
 pub goes-on : (test : List ℕ → Bool) (s : List ℕ) (at : ℕ) {next : ℕ} → Step s at next

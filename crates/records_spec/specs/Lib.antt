@@ -8,8 +8,8 @@ pub mod Order
 pub mod Outlines
 pub mod Area
 pub mod Accepted
-pub mod Padding
-pub mod Padded
+pub mod HubReading
+pub mod HubReads
 pub mod RoundTrip
 pub mod ReadBack
 pub mod Examples

@@ -18,7 +18,7 @@ use Rattle.records_spec.specs.declared.area.Found.{Found}
 use Rattle.records_spec.specs.declared.area.Found.the-variants.{At, Nothing}
 use Rattle.records_spec.specs.declared.area.PaddedArea.the-variants as padded
 use Rattle.records_spec.specs.Area.{records, readArea}
-use Rattle.records_spec.specs.Padding.{unpadded, readPadded}
+use Rattle.records_spec.specs.HubReading.{unpadded, readPadded}
 
 -- a record's data stand after its length and its type (the Core, Vol 3 Part C, 11)
 unfoldable pub firstWhere : (List ℕ → Bool) → List (List ℕ) → ℕ → Found

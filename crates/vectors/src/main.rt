@@ -7,7 +7,7 @@ use whitening::crc::crc;
 use whitening::crc::crc_octets;
 use whitening::packet::ACCESS_ADDRESS;
 use whitening::packet::Flag;
-use whitening::packet::Whitened;
+use octets::error::Outcome;
 use whitening::packet::crc_flag;
 use whitening::packet::whiten;
 
@@ -37,10 +37,10 @@ fn refusal(e: Error) {
     io::print_decimal(STDOUT_FILENO, e.number() as u64);
 }
 
-fn done(whitened: Whitened) {
+fn done(whitened: Outcome) {
     match whitened {
-        Whitened::Done => text(b" done"),
-        Whitened::Refused(e) => refusal(e),
+        Outcome::Accepted => text(b" done"),
+        Outcome::Refused(e) => refusal(e),
     }
 }
 

@@ -10,16 +10,16 @@ use Rattle.whitening.specs.Crc.{crcOctets, crcGood}
 use Rattle.whitening.specs.Laws.{sum, Hears}
 use Rattle.whitening.specs.Packet.{allowed, startOn, flagged, flagOf}
 use Rattle.whitening.specs.Whitening.{registerOn, leaving, whitened}
-use Rattle.whitening.specs.declared.packet.Whitened.{Whitened}
-use Rattle.whitening.specs.declared.packet.Whitened.the-variants as w
+use Rattle.octets.specs.declared.error.Outcome.{Outcome}
+use Rattle.octets.specs.declared.error.Outcome.the-variants as outcome
 use Rattle.whitening.specs.declared.packet.Flag.the-variants as flag
 use Rattle.whitening.proofs.Errors.{crcOctets-length, own-good, checks, heard-length, xor-cancel}
 use Rattle.whitening.proofs.Limits.{allowed-done, allowed-is}
 use Rattle.whitening.proofs.Twice.{leaving-on, whitened-length, adds, twice}
 
-flag-good : (answer : Whitened) (good : Bool) → flagged answer good ≡ flag.Is true → (answer ≡ w.Done) × (good ≡ true)
-flag-good w.Done good e = (refl, cc)
-flag-good (w.Refused error) good e = let z : _≡_ {A = ℕ} 0 1 = cc in absurd (omega arith)
+flag-good : (answer : Outcome) (good : Bool) → flagged answer good ≡ flag.Is true → (answer ≡ outcome.Accepted) × (good ≡ true)
+flag-good outcome.Accepted good e = (refl, cc)
+flag-good (outcome.Refused error) good e = let z : _≡_ {A = ℕ} 0 1 = cc in absurd (omega arith)
 
 -- one bit of a sum
 sum-at : (before : List Bool) (b : Bool) (after ys : List Bool) → length before < length ys
@@ -34,7 +34,7 @@ hears channel start = record { told = told; own = own; no-other = no-other; one-
   where
     told : (packet : List ℕ) → channel ≤ 39 → 5 ≤ length packet → length packet ≤ 42
         → flagOf channel start packet ≡ flag.Is (crcGood (startOn channel start) (whitened channel packet))
-    told packet h l m = ap (λ (a : Whitened). flagged a (crcGood (startOn channel start) (whitened channel packet))) (allowed-is channel (length packet) h l m)
+    told packet h l m = ap (λ (a : Outcome). flagged a (crcGood (startOn channel start) (whitened channel packet))) (allowed-is channel (length packet) h l m)
 
     own : (octets : List ℕ) → channel ≤ 39 → 2 ≤ length octets → length octets ≤ 39
         → flagOf channel start (whitened channel (octets ++ crcOctets (startOn channel start) octets)) ≡ flag.Is true

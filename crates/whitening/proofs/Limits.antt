@@ -12,25 +12,25 @@ use Rattle.whitening.specs.Crc.{crcGood}
 use Rattle.whitening.specs.Laws.{Refusing, Starting}
 use Rattle.whitening.specs.Packet.{allowed, leaves, startOn, flagged}
 use Rattle.whitening.specs.Whitening.{whitened}
-use Rattle.whitening.specs.declared.packet.Whitened.{Whitened}
-use Rattle.whitening.specs.declared.packet.Whitened.the-variants.{Done, Refused}
+use Rattle.octets.specs.declared.error.Outcome.{Outcome}
+use Rattle.octets.specs.declared.error.Outcome.the-variants.{Accepted, Refused}
 
 pub record Allowed (channel n : ℕ) : Type 0 where
   pub index : channel ≤ 39
   pub least : 5 ≤ n
   pub most : n ≤ 42
 
-pub allowed-done : (channel n : ℕ) → allowed channel n ≡ Done → Allowed channel n
+pub allowed-done : (channel n : ℕ) → allowed channel n ≡ Accepted → Allowed channel n
 allowed-done channel n = go (ltb 39 channel) refl (ltb 42 n) refl (ltb n 5) refl
   where
     go : (a : Bool) → ltb 39 channel ≡ a → (b : Bool) → ltb 42 n ≡ b → (d : Bool) → ltb n 5 ≡ d
-        → cond a (Refused NoSuchIndex) (cond b (Refused InvalidLength) (cond d (Refused Eof) Done)) ≡ Done → Allowed channel n
+        → cond a (Refused NoSuchIndex) (cond b (Refused InvalidLength) (cond d (Refused Eof) Accepted)) ≡ Accepted → Allowed channel n
     go true e b f d g h = let z : _≡_ {A = ℕ} 0 1 = cc in absurd (omega arith)
     go false e true f d g h = let z : _≡_ {A = ℕ} 0 1 = cc in absurd (omega arith)
     go false e false f true g h = let z : _≡_ {A = ℕ} 0 1 = cc in absurd (omega arith)
     go false e false f false g h = record { index = ltb-false _ _ e; least = ltb-false _ _ g; most = ltb-false _ _ f }
 
-pub allowed-is : (channel n : ℕ) → channel ≤ 39 → 5 ≤ n → n ≤ 42 → allowed channel n ≡ Done
+pub allowed-is : (channel n : ℕ) → channel ≤ 39 → 5 ≤ n → n ≤ 42 → allowed channel n ≡ Accepted
 allowed-is channel n h l m = simp (le-ltb 39 channel h, le-ltb 42 n m, le-ltb n 5 l)
 
 pub refusing : (channel : ℕ) (packet : List ℕ) → Refusing channel packet
@@ -41,9 +41,9 @@ refusing channel packet = record {
       let most : length packet ≤ 42 = omega arith in
       simp (le-ltb 39 channel h, le-ltb 42 (length packet) most, lt-ltb (length packet) 5 l);
   others = allowed-is channel (length packet);
-  kept = λ e is. ap (λ (a : Whitened). leaves a channel packet) is;
-  done = λ is. ap (λ (a : Whitened). leaves a channel packet) is;
-  flag = λ start e is. ap (λ (a : Whitened). flagged a (crcGood (startOn channel start) (whitened channel packet))) is;
+  kept = λ e is. ap (λ (a : Outcome). leaves a channel packet) is;
+  done = λ is. ap (λ (a : Outcome). leaves a channel packet) is;
+  flag = λ start e is. ap (λ (a : Outcome). flagged a (crcGood (startOn channel start) (whitened channel packet))) is;
 }
 
 pub starting : (channel start : ℕ) → Starting channel start

@@ -8,8 +8,9 @@ use lib.ListN.{take, drop}
 use Rattle.whitening.specs.Bits.{heard}
 use Rattle.whitening.specs.Whitening.{whitening, whitened}
 use Rattle.whitening.specs.Crc.{crcOf, crcOctets}
-use Rattle.whitening.specs.Packet.{allowed, whitenAfter, startOn, flagOf, whitenedNumber, flagNumber}
-use Rattle.whitening.specs.declared.packet.Whitened.the-variants as w
+use Rattle.octets.specs.Error.{outcomeNumber}
+use Rattle.whitening.specs.Packet.{allowed, whitenAfter, startOn, flagOf, flagNumber}
+use Rattle.octets.specs.declared.error.Outcome.the-variants as outcome
 use Rattle.whitening.specs.declared.packet.Flag.the-variants as flag
 
 -- document 01's row 42 09 as it is sent
@@ -62,8 +63,8 @@ pub record Examples : Type 0 where
   pub heard-37-started : flagOf 37 0x123456 started37 ≡ flag.Is false
   pub starts : map (λ (c : ℕ). startOn c 0x123456) (0 ∷ 36 ∷ 37 ∷ 39 ∷ []) ≡ 0x123456 ∷ 0x123456 ∷ 0x555555 ∷ 0x555555 ∷ []
   -- the numbers of refusals by the number of octets, on a channel and on none
-  pub lengths : map (λ (n : ℕ). whitenedNumber (allowed 39 n)) (0 ∷ 4 ∷ 5 ∷ 42 ∷ 43 ∷ 255 ∷ []) ≡ 1 ∷ 1 ∷ 0 ∷ 0 ∷ 2 ∷ 2 ∷ []
-  pub no-channel : map (λ (n : ℕ). whitenedNumber (allowed 40 n)) (0 ∷ 4 ∷ 5 ∷ 42 ∷ 43 ∷ 255 ∷ []) ≡ 10 ∷ 10 ∷ 10 ∷ 10 ∷ 10 ∷ 10 ∷ []
+  pub lengths : map (λ (n : ℕ). outcomeNumber (allowed 39 n)) (0 ∷ 4 ∷ 5 ∷ 42 ∷ 43 ∷ 255 ∷ []) ≡ 1 ∷ 1 ∷ 0 ∷ 0 ∷ 2 ∷ 2 ∷ []
+  pub no-channel : map (λ (n : ℕ). outcomeNumber (allowed 40 n)) (0 ∷ 4 ∷ 5 ∷ 42 ∷ 43 ∷ 255 ∷ []) ≡ 10 ∷ 10 ∷ 10 ∷ 10 ∷ 10 ∷ 10 ∷ []
   pub flags : map (λ (c : ℕ). flagNumber (flagOf c 0 (take 4 row))) (39 ∷ 40 ∷ []) ≡ 1 ∷ 10 ∷ []
   -- what is refused stays as it is
   pub kept : map (λ (c : ℕ). whitenAfter c (take 4 row)) (39 ∷ 40 ∷ []) ≡ take 4 row ∷ take 4 row ∷ []

@@ -26,7 +26,7 @@ use Rattle.whitening.specs.Bits.{bits, number, heard}
 use Rattle.whitening.specs.Whitening.{whiteningTaps, registerOn, leaving, whitened}
 use Rattle.whitening.specs.Crc.{crcTaps, crcOf, crcOctets, crcGood}
 use Rattle.whitening.specs.Packet.{whitenOf, whitenAfter, startOn, flagOf}
-use Rattle.whitening.specs.declared.packet.Whitened.the-variants as w
+use Rattle.octets.specs.declared.error.Outcome.the-variants as outcome
 use Rattle.whitening.specs.declared.packet.Flag.the-variants as flag
 
 -- the terms of a polynomial below x^n, by their exponents: positions n - 1 to 0
@@ -100,14 +100,14 @@ pub record Checks (start : ℕ) : Type 0 where
 
 -- "10, channel above 39, tested first; a packet above 42 octets is 2, one under 5 is 1": `numberOf` of octets has these numbers. What is refused stays as it is.
 pub record Refusing (channel : ℕ) (packet : List ℕ) : Type 0 where
-  pub no-channel : 39 < channel → whitenOf channel packet ≡ w.Refused NoSuchIndex
-  pub too-long : channel ≤ 39 → 42 < length packet → whitenOf channel packet ≡ w.Refused InvalidLength
-  pub too-short : channel ≤ 39 → length packet < 5 → whitenOf channel packet ≡ w.Refused Eof
-  pub others : channel ≤ 39 → 5 ≤ length packet → length packet ≤ 42 → whitenOf channel packet ≡ w.Done
-  pub kept : (e : Error) → whitenOf channel packet ≡ w.Refused e → whitenAfter channel packet ≡ packet
-  pub done : whitenOf channel packet ≡ w.Done → whitenAfter channel packet ≡ whitened channel packet
+  pub no-channel : 39 < channel → whitenOf channel packet ≡ outcome.Refused NoSuchIndex
+  pub too-long : channel ≤ 39 → 42 < length packet → whitenOf channel packet ≡ outcome.Refused InvalidLength
+  pub too-short : channel ≤ 39 → length packet < 5 → whitenOf channel packet ≡ outcome.Refused Eof
+  pub others : channel ≤ 39 → 5 ≤ length packet → length packet ≤ 42 → whitenOf channel packet ≡ outcome.Accepted
+  pub kept : (e : Error) → whitenOf channel packet ≡ outcome.Refused e → whitenAfter channel packet ≡ packet
+  pub done : whitenOf channel packet ≡ outcome.Accepted → whitenAfter channel packet ≡ whitened channel packet
   -- where whitening is refused, so is the flag
-  pub flag : (start : ℕ) (e : Error) → whitenOf channel packet ≡ w.Refused e → flagOf channel start packet ≡ flag.Refused e
+  pub flag : (start : ℕ) (e : Error) → whitenOf channel packet ≡ outcome.Refused e → flagOf channel start packet ≡ flag.Refused e
 
 -- "started from `0x555555` on advertising channels and from the connect request's value afterwards", which is "unused on 37 to 39".
 pub record Starting (channel start : ℕ) : Type 0 where

@@ -6,7 +6,7 @@
 --   whitenOf, whitenAfter channel packet == what `whiten` answers, and the packet after it
 --   startOn channel start                == where the CRC starts on a channel
 --   flagOf channel start packet          == the CRC flag of a packet that is still whitened
---   whitenedNumber, flagNumber answer    == the number of an answer, 0 where it is no refusal
+--   flagNumber answer                    == the number of an answer, 0 where it is no refusal
 use Prim.Native.Nat.{ℕ}
 use mathlib.Core.Bool.{Bool, cond}
 use mathlib.Core.List.{List}
@@ -16,21 +16,21 @@ use Rattle.octets.specs.Error.{numberOf}
 use Rattle.octets.specs.declared.error.Error.the-variants.{Eof, InvalidLength, NoSuchIndex}
 use Rattle.whitening.specs.Crc.{crcGood}
 use Rattle.whitening.specs.Whitening.{whitened}
-use Rattle.whitening.specs.declared.packet.Whitened.{Whitened}
-use Rattle.whitening.specs.declared.packet.Whitened.the-variants as w
+use Rattle.octets.specs.declared.error.Outcome.{Outcome}
+use Rattle.octets.specs.declared.error.Outcome.the-variants as outcome
 use Rattle.whitening.specs.declared.packet.Flag.{Flag}
 use Rattle.whitening.specs.declared.packet.Flag.the-variants as flag
 
-abbrev pub allowed : ℕ → ℕ → Whitened
+abbrev pub allowed : ℕ → ℕ → Outcome
 allowed channel n =
-    cond (ltb 39 channel) (w.Refused NoSuchIndex) (cond (ltb 42 n) (w.Refused InvalidLength) (cond (ltb n 5) (w.Refused Eof) w.Done))
+    cond (ltb 39 channel) (outcome.Refused NoSuchIndex) (cond (ltb 42 n) (outcome.Refused InvalidLength) (cond (ltb n 5) (outcome.Refused Eof) outcome.Accepted))
 
-abbrev pub whitenOf : ℕ → List ℕ → Whitened
+abbrev pub whitenOf : ℕ → List ℕ → Outcome
 whitenOf channel packet = allowed channel (length packet)
 
-abbrev pub leaves : Whitened → ℕ → List ℕ → List ℕ
-leaves w.Done channel packet = whitened channel packet
-leaves (w.Refused e) channel packet = packet
+abbrev pub leaves : Outcome → ℕ → List ℕ → List ℕ
+leaves outcome.Accepted channel packet = whitened channel packet
+leaves (outcome.Refused e) channel packet = packet
 
 abbrev pub whitenAfter : ℕ → List ℕ → List ℕ
 whitenAfter channel packet = leaves (whitenOf channel packet) channel packet
@@ -39,16 +39,12 @@ whitenAfter channel packet = leaves (whitenOf channel packet) channel packet
 abbrev pub startOn : ℕ → ℕ → ℕ
 startOn channel start = cond (ltb 36 channel) 0x555555 start
 
-abbrev pub flagged : Whitened → Bool → Flag
-flagged w.Done good = flag.Is good
-flagged (w.Refused e) good = flag.Refused e
+abbrev pub flagged : Outcome → Bool → Flag
+flagged outcome.Accepted good = flag.Is good
+flagged (outcome.Refused e) good = flag.Refused e
 
 abbrev pub flagOf : ℕ → ℕ → List ℕ → Flag
 flagOf channel start packet = flagged (whitenOf channel packet) (crcGood (startOn channel start) (whitened channel packet))
-
-abbrev pub whitenedNumber : Whitened → ℕ
-whitenedNumber w.Done = 0
-whitenedNumber (w.Refused e) = numberOf e
 
 abbrev pub flagNumber : Flag → ℕ
 flagNumber (flag.Is good) = 0

@@ -5,6 +5,7 @@ use crate::crc::register_at;
 use crate::table::CYCLE;
 use crate::table::PLACES;
 use octets::error::Error;
+use octets::error::Outcome;
 ghost use mathlib.Core.Path.{_≡_};
 ghost use Prim.Native.Nat.{_≤_};
 ghost use lib.ListN.{length};
@@ -16,12 +17,6 @@ ghost use Rattle.whitening.specs.Whitening.{plus, whitening, whitened};
 // The access address before every packet on the advertising channels.
 pub const ACCESS_ADDRESS: u32 = 0x8E89BED6;
 
-// Whether a packet was whitened, or why not.
-pub enum Whitened {
-    Done,
-    Refused(Error),
-}
-
 // Whether a packet's CRC is right, or why that cannot be told.
 pub enum Flag {
     Is(bool),
@@ -29,19 +24,19 @@ pub enum Flag {
 }
 
 // Whether there is such a channel and such a packet, tested in this order.
-fn allows(channel: u8, octets: usize) -> Whitened
+fn allows(channel: u8, octets: usize) -> Outcome
     ensures { λ r. ⌜ r ≡ allowed channel octets ⌝ }
 {
     if 39 < channel {
-        return Whitened::Refused(Error::NoSuchIndex);
+        return Outcome::Refused(Error::NoSuchIndex);
     }
     if 42 < octets {
-        return Whitened::Refused(Error::InvalidLength);
+        return Outcome::Refused(Error::InvalidLength);
     }
     if octets < 5 {
-        return Whitened::Refused(Error::Eof);
+        return Outcome::Refused(Error::Eof);
     }
-    Whitened::Done
+    Outcome::Accepted
 }
 
 // Adds octets to as many others, modulo 2.
@@ -57,7 +52,7 @@ fn add(packet: &mut [u8], octets: &[u8])
 }
 
 // The whitening octets of a channel. The cycle is laid out wherever it is named, so it is named here alone.
-fn row(channel: u8) -> [u8; 42]
+fn whitening_octets(channel: u8) -> [u8; 42]
     requires { ⌜ channel ≤ 39 ⌝ }
     ensures { λ r. ⌜ r ≡ whitening channel ⌝ }
 {
@@ -73,21 +68,21 @@ fn add_whitening(channel: u8, packet: &mut [u8])
     requires { ⌜ (channel ≤ 39) × (length (now packet) ≤ 42) ⌝ }
     ensures { λ _. ⌜ now (packet .exit) ≡ whitened channel (now (packet .entry)) ⌝ }
 {
-    let octets = row(channel);
+    let octets = whitening_octets(channel);
     let n = packet.len();
     add(packet, &octets[..n]);
 }
 
 // Whitens a packet, or takes the whitening off, in place. What is refused stays as it is.
-pub fn whiten(channel: u8, packet: &mut [u8]) -> Whitened
+pub fn whiten(channel: u8, packet: &mut [u8]) -> Outcome
     ensures { λ r. ⌜ (r ≡ whitenOf channel (now (packet .entry))) × (now (packet .exit) ≡ whitenAfter channel (now (packet .entry))) ⌝ }
 {
     let answer = allows(channel, packet.len());
     match answer {
-        Whitened::Refused(error) => Whitened::Refused(error),
-        Whitened::Done => {
+        Outcome::Refused(error) => Outcome::Refused(error),
+        Outcome::Accepted => {
             add_whitening(channel, packet);
-            Whitened::Done
+            Outcome::Accepted
         }
     }
 }
@@ -108,7 +103,7 @@ fn is_good(channel: u8, start: u32, packet: &[u8]) -> bool
     ensures { λ r. ⌜ r ≡ crcGood (startOn channel start) (whitened channel (now (packet .entry))) ⌝ }
 {
     let n = packet.len();
-    let mut octets = row(channel);
+    let mut octets = whitening_octets(channel);
     add(&mut octets[..n], packet);
     after_octets(register_on(channel, start), &octets[..n]) == 0
 }
@@ -120,7 +115,7 @@ pub fn crc_flag(channel: u8, start: u32, packet: &[u8]) -> Flag
 {
     let answer = allows(channel, packet.len());
     match answer {
-        Whitened::Refused(error) => Flag::Refused(error),
-        Whitened::Done => Flag::Is(is_good(channel, start, packet)),
+        Outcome::Refused(error) => Flag::Refused(error),
+        Outcome::Accepted => Flag::Is(is_good(channel, start, packet)),
     }
 }

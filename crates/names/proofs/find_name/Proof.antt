@@ -1,7 +1,7 @@
 -- `names::find_name` meets its contract: each area is read, and what is searched of it is the records that were read. Assumes nothing.
 use mathlib.Core.Path.{_≡_, sym, _∙_}
 use borrow.Author.Needs.{needs}
-use Rattle.records_spec.specs.Padding.{readPadded}
+use Rattle.records_spec.specs.HubReading.{readPadded}
 use Rattle.records_spec.specs.declared.area.PaddedArea.the-variants.{Accepted}
 use Rattle.names_spec.proofs.Search.{as-long, accepted, both-read, first-refused, second-refused}
 use Rattle.names.proofs.find_name.Statement.{statement}

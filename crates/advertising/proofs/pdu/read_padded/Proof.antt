@@ -8,7 +8,7 @@ use lib.ListN.{length, take, drop, length-drop}
 use lib.Seq.{take-all}
 use borrow.Author.Needs.{needs}
 use Rattle.octets.specs.declared.error.Error.{Error}
-use Rattle.records_spec.specs.Padding.{readPadded}
+use Rattle.records_spec.specs.HubReading.{readPadded}
 use Rattle.records_spec.specs.declared.area.Area.the-variants as area
 use Rattle.records_spec.specs.declared.area.PaddedArea.{PaddedArea}
 use Rattle.records_spec.specs.declared.area.PaddedArea.the-variants as padded

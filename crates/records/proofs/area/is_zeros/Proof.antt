@@ -8,7 +8,7 @@ use lib.ListN.{length, getD, drop, drop-of-length-le}
 use borrow.Author.Needs.{needs}
 use borrow.Author.Tests.{eq-eqb, ne-eqb}
 use Rattle.octets.proofs.Places.{front}
-use Rattle.records_spec.specs.Padding.{isZeros}
+use Rattle.records_spec.specs.HubReading.{isZeros}
 use Rattle.records.proofs.area.is_zeros.Statement.{statement}
 use Rattle.records.proofs.area.is_zeros.Tie as tie
 

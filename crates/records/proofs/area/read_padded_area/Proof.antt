@@ -7,13 +7,13 @@ use lib.ListN.{drop}
 use borrow.Author.Needs.{needs}
 use Rattle.octets.specs.declared.error.Error.{Error}
 use Rattle.records_spec.specs.Accepted.{FrontOf}
-use Rattle.records_spec.specs.Padding.{isZeros, readPadded}
+use Rattle.records_spec.specs.HubReading.{isZeros, readPadded}
 use Rattle.records_spec.specs.declared.area.Front.{Front}
 use Rattle.records_spec.specs.declared.area.Front.the-variants.{Bad}
 use Rattle.records_spec.specs.declared.area.PaddedArea.the-variants.{Accepted, Refused}
 use Rattle.records_spec.specs.Area.{frontOf}
 use Rattle.records_spec.proofs.Fronts.{fronted}
-use Rattle.records_spec.proofs.Padded.{read-whole, read-behind}
+use Rattle.records_spec.proofs.HubReads.{read-whole, read-behind}
 use Rattle.records.proofs.area.read_padded_area.Statement.{statement}
 use Rattle.records.proofs.area.read_padded_area.Tie as tie
 

@@ -16,7 +16,7 @@ add-requires c κs = sym (simp length-take (omega arith))
 returns : tie.Need-returns
 returns c =
     let args = c .before .before .before .before .before .before .before .args in
-    let octets = c .before .before .before .before .before .row in
+    let octets = c .before .before .before .before .before .whitening-octets in
     c .before .before .add .ensures ∙ plus-row (args .channel) (args .packet .now) (octets .result) (octets .ensures)
 
 pub add-whitening-spec : {M : Type 1} → statement M

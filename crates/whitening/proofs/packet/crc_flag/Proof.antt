@@ -2,7 +2,7 @@
 use mathlib.Core.Path.{sym, ap, ap₂, _∙_}
 use borrow.Author.Needs.{needs}
 use lib.ListN.{length}
-use Rattle.whitening.specs.declared.packet.Whitened.{Whitened}
+use Rattle.octets.specs.declared.error.Outcome.{Outcome}
 use Rattle.whitening.specs.Packet.{flagged, startOn}
 use Rattle.whitening.specs.Crc.{crcGood}
 use Rattle.whitening.specs.Whitening.{whitened}
@@ -22,7 +22,7 @@ returns c =
     let told = sym (c .before .before .before .allows .ensures) ∙ c .before .answer .given .1 in
     sym
     (ap
-    (λ (a : Whitened). flagged a (crcGood (startOn (start .args .channel) (start .args .start)) (whitened (start .args .channel) (start .args .packet .now))))
+    (λ (a : Outcome). flagged a (crcGood (startOn (start .args .channel) (start .args .start)) (whitened (start .args .channel) (start .args .packet .now))))
     told)
 
 returns-2 : tie.Need-returns-2

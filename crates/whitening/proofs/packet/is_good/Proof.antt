@@ -32,19 +32,19 @@ add-requires c κs = simp length-take (omega arith)
 array-share-prefix-octets : tie.Need-array-share-prefix-octets
 array-share-prefix-octets c =
     let packet = c .before .before .before .before .before .before .args .packet .now in
-    fits-front (c .before .before .add .last .0) (drop (length packet) (c .before .before .before .before .row .result)) (length packet) (sum-length (c .before .before))
+    fits-front (c .before .before .add .last .0) (drop (length packet) (c .before .before .before .before .whitening-octets .result)) (length packet) (sum-length (c .before .before))
 
 slice-aggregate-after-octets : tie.Need-slice-aggregate-after-octets
 slice-aggregate-after-octets c =
     let packet = c .before .before .before .before .before .before .before .args .packet .now in
     let as-long = sum-length (c .before .before .before) in
-    sym (ap length (take-at (c .before .before .before .add .last .0) (drop (length packet) (c .before .before .before .before .before .row .result)) (length packet) as-long) ∙ as-long)
+    sym (ap length (take-at (c .before .before .before .add .last .0) (drop (length packet) (c .before .before .before .before .before .whitening-octets .result)) (length packet) as-long) ∙ as-long)
 
 returns : tie.Need-returns
 returns c =
     let first = c .before .before .register-on in
     let sum = c .before .before .before .before .add in
-    let octets = c .before .before .before .before .before .before .row in
+    let octets = c .before .before .before .before .before .before .whitening-octets in
     let known = c .before .before .before .before .before .before .before .shared-slice-known in
     let args = c .before .before .before .before .before .before .before .before .args in
     let packet = args .packet .now in

@@ -3,7 +3,7 @@ use mathlib.Core.List.{append-nil}
 use mathlib.Core.Path.{_≡_, _∙_}
 use lib.ListN.{length}
 use borrow.Author.Needs.{needs}
-use Rattle.advertising.specs.PduBuf.{padded}
+use Rattle.advertising.specs.PduBuf.{to37}
 use Rattle.advertising.proofs.Buffers.{placed-first, front-of}
 use Rattle.advertising.proofs.pdu_buf.PduBuf.adv.Statement.{statement}
 use Rattle.advertising.proofs.pdu_buf.PduBuf.adv.Tie as tie
@@ -11,7 +11,7 @@ use Rattle.advertising.proofs.pdu_buf.PduBuf.adv.Tie as tie
 six : (c : tie.After-raw) → length (c .raw .result) ≡ 6
 six c = search needs
 
-front : (c : tie.After-placed) → c .placed .result ≡ padded (c .before .before .raw .result)
+front : (c : tie.After-placed) → c .placed .result ≡ to37 (c .before .before .raw .result)
 front c = placed-first (c .before .before .raw .result) (six (c .before .before)) (c .placed .ensures)
 
 fill-requires : tie.Need-fill-requires

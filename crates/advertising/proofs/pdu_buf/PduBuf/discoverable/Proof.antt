@@ -4,7 +4,7 @@ use mathlib.Core.Path.{_≡_, ap, _∙_}
 use lib.ListN.{length, length-append}
 use borrow.Author.Needs.{needs}
 use Rattle.flags.specs.Flags.{named}
-use Rattle.advertising.specs.PduBuf.{padded, flagsRecord}
+use Rattle.advertising.specs.PduBuf.{to37, flagsRecord}
 use Rattle.advertising.proofs.Buffers.{placed-first, placed-behind, front-of}
 use Rattle.advertising.proofs.pdu_buf.PduBuf.discoverable.Statement.{statement}
 use Rattle.advertising.proofs.pdu_buf.PduBuf.discoverable.Tie as tie
@@ -17,7 +17,7 @@ octet : (c : tie.After-to-u8) → c .to-u8 .result ≡ 6
 unfolding named
 octet c = c .to-u8 .ensures ∙ ap named (c .before .discoverable .ensures)
 
-front : (c : tie.After-placed2) → c .placed2 .result ≡ padded (c .before .before .before .before .before .before .raw .result ++ flagsRecord)
+front : (c : tie.After-placed2) → c .placed2 .result ≡ to37 (c .before .before .before .before .before .before .raw .result ++ flagsRecord)
 front c =
     let u8 = c .before .before in
     let placed = u8 .before .before in

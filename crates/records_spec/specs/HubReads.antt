@@ -2,12 +2,12 @@
 -- point is 2. Rewriting what it read gives the octets before the padding, save undefined Flags bits. .. the hub's differs from it only in this".
 --   Padding s m taken    == m records that are accepted strictly, in `taken` octets, and then zeros alone, perhaps none, make up s
 --   Fault s e            == the first fault of s: a bad record before the first zero length, or behind it an octet that is not zero
---   HubReads s           (Padded.hub-reads)     s is accepted exactly if it is padded so, and refused exactly as its first fault is
+--   HubReads s           (HubReads.hub-reads)     s is accepted exactly if it is padded so, and refused exactly as its first fault is
 --   ZeroLength s         == a zero length stands in s behind records that are accepted strictly, perhaps none: at a record's place
---   Differs s            (Padded.differs)       where the two readings differ, and where they do not
---   WithoutSize          (Padded.without-size)  an answer without the octets taken
---   Took s out m taken _ (Padded.took)          what rewriting the octets taken writes
---   PaddedRows           (Padded.rows)          worked values, on both sides of each limit
+--   Differs s            (HubReads.differs)       where the two readings differ, and where they do not
+--   WithoutSize          (HubReads.without-size)  an answer without the octets taken
+--   Took s out m taken _ (HubReads.took)          what rewriting the octets taken writes
+--   PaddedRows           (HubReads.rows)          worked values, on both sides of each limit
 use mathlib.Core.Path.{_≡_}
 use mathlib.Core.List.{List, [], _∷_, _++_, map}
 use Prim.Native.Nat.{ℕ, _≤_, _<_}
@@ -20,7 +20,7 @@ use Rattle.records_spec.specs.declared.area.PaddedArea.{PaddedArea}
 use Rattle.records_spec.specs.declared.area.PaddedArea.the-variants as padded
 use Rattle.records_spec.specs.Accepted.{Bad}
 use Rattle.records_spec.specs.Area.{readArea}
-use Rattle.records_spec.specs.Padding.{readPadded, areaIn}
+use Rattle.records_spec.specs.HubReading.{readPadded, areaIn}
 use Rattle.records_spec.specs.RoundTrip.{Restores, Unwritten}
 
 pub record Padding (s : List ℕ) (m taken : ℕ) : Type 0 where

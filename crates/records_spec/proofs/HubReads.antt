@@ -19,8 +19,8 @@ use Rattle.records_spec.specs.Record.{flagsRead, uuidsRead, dataRead, up
 use Rattle.flags.specs.Flags.{named}
 use Rattle.records_spec.specs.Area.{cut, records, reads, withFirst, areaOf, readArea}
 use Rattle.records_spec.specs.Accepted.{IsList, AllGood, Tiling, Bad, zero-length, too-few, wrong-flags, odd-list, FirstBad, Verdict}
-use Rattle.records_spec.specs.Padding.{beforeZero, unpadded, isZeros, endedBy, readPadded, areaIn}
-use Rattle.records_spec.specs.Padded.{Padding, Fault, bad-record, not-zero, PaddedVerdict, HubReads, ZeroLength, tookAll, Differs, WithoutSize, Took, PaddedRows}
+use Rattle.records_spec.specs.HubReading.{beforeZero, unpadded, isZeros, endedBy, readPadded, areaIn}
+use Rattle.records_spec.specs.HubReads.{Padding, Fault, bad-record, not-zero, PaddedVerdict, HubReads, ZeroLength, tookAll, Differs, WithoutSize, Took, PaddedRows}
 use Rattle.records_spec.proofs.Accepted.{decided}
 use Rattle.records_spec.proofs.Cuts.{cut-skip}
 use Rattle.records_spec.proofs.Restored.{rewriting}

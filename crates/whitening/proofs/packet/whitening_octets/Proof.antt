@@ -1,11 +1,11 @@
--- `packet::row` meets its contract: the part of the cycle from the channel's place on is its row. Assumes nothing.
+-- `packet::whitening_octets` meets its contract: the part of the cycle from the channel's place on is its whitening. Assumes nothing.
 use mathlib.Core.Path.{_∙_}
 use native.Mathlib.Omega.{arith}
 use borrow.Author.Needs.{needs}
 use Rattle.whitening.proofs.Octets.{cycle, places}
 use Rattle.whitening.proofs.Rows.{place-small, row-is}
-use Rattle.whitening.proofs.packet.row.Statement.{statement}
-use Rattle.whitening.proofs.packet.row.Tie as tie
+use Rattle.whitening.proofs.packet.whitening_octets.Statement.{statement}
+use Rattle.whitening.proofs.packet.whitening_octets.Tie as tie
 
 cast-from : tie.Need-cast-from
 unfolding places
@@ -23,8 +23,8 @@ returns : tie.Need-returns
 unfolding cycle places
 returns c = c .before .add .ensures ∙ row-is (c .before .before .before .before .before .args .channel) (omega arith)
 
-pub row-spec : {M : Type 1} → statement M
-row-spec =
+pub whitening-octets-spec : {M : Type 1} → statement M
+whitening-octets-spec =
     tie.close
     (tie.spec
     (λ c. search needs)
