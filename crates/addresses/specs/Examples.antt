@@ -59,7 +59,7 @@ pub record Examples : Type 0 where
   pub listed-first : matchesOf Whitelist (entryOf 1 ++ other) random ≡ Is true
   pub other-listed : matchesOf Whitelist (entryOf 0 ++ other) random ≡ Is false
   pub none-listed : matchesOf Whitelist [] random ≡ Is false
-  -- 3: a list of 6 or 8 octets; a kind above 1, also behind the entry that matches
+  -- 3: a list of 6 or 8 octets; a kind above 1, also after the entry that matches
   pub list-of-6 : matchesOf Whitelist six random ≡ Refused InvalidValue
   pub list-of-8 : matchesOf Whitelist (entryOf 1 ++ 1 ∷ []) random ≡ Refused InvalidValue
   pub kind-2 : matchesOf Whitelist (entryOf 2) random ≡ Refused InvalidValue
@@ -70,7 +70,7 @@ pub record Examples : Type 0 where
   pub none-connect : mayConnect (advFilterOf AllowAll Whitelist) [] random ≡ Is false
   pub none-scan : mayScan (advFilterOf Whitelist AllowAll) [] random ≡ Is false
   pub all-connect : mayConnect (advFilterOf Whitelist AllowAll) [] random ≡ Is true
-  -- a header of 0, 1, 2 and 3 octets: 4 for `parse`, 1 for `from_bytes`, which goes on behind it
+  -- a header of 0, 1, 2 and 3 octets: 4 for `parse`, 1 for `from_bytes`, which goes on after it
   pub parse-0 : parsed [] ≡ made.Refused ShortHeader
   pub parse-1 : parsed (0x42 ∷ []) ≡ made.Refused ShortHeader
   pub parse-2 : parsed (0x42 ∷ 0x09 ∷ []) ≡ made.Header (headerOf 0x0942)

@@ -203,7 +203,7 @@ impl PduType {
         }
     }
 
-    // Whether such a PDU has records behind its address.
+    // Whether such a PDU has records after its address.
     pub fn allows_adv_data(self) -> bool
         ensures { λ r. ⌜ r ≡ allowsAdvData self ⌝ }
     {

@@ -1,4 +1,4 @@
--- Payloads in 37 octets: what is placed behind what stands there, and records rewritten behind it. Assumes nothing.
+-- Payloads in 37 octets: what is placed after what stands there, and records rewritten after it. Assumes nothing.
 use mathlib.Core.Bool.{Bool, true, false}
 use mathlib.Core.List.{List, [], _++_, append-assoc}
 use mathlib.Core.Path.{_≡_, refl, sym, ap, _∙_}
@@ -24,7 +24,7 @@ use Rattle.addresses.specs.declared.header.PduType.{PduType}
 use Rattle.octets.specs.declared.error.Outcome.the-variants.{Accepted}
 use Rattle.advertising.specs.declared.pdu_buf.Built.{Built}
 
--- the zeros behind xs
+-- the zeros after xs
 abbrev pub room : List ℕ → List ℕ
 room xs = replicate (37 - length xs) 0
 
@@ -33,7 +33,7 @@ drop-replicate zero n = let all : n - 0 ≡ n = omega arith in rw all
 drop-replicate (suc k) zero = let nothing : 0 - suc k ≡ 0 = omega arith in rw nothing
 drop-replicate (suc k) (suc n) = let less : suc n - suc k ≡ n - k = omega arith in rw less (drop-replicate k n)
 
--- octets in the place of zeros behind xs
+-- octets in the place of zeros after xs
 pad-rest : (xs ys : List ℕ) → xs ++ (ys ++ drop (length ys) (room xs)) ≡ to37 (xs ++ ys)
 pad-rest xs ys =
     let left : 37 - length xs - length ys ≡ 37 - length (xs ++ ys) = simp length-append (omega arith) in
@@ -64,12 +64,12 @@ inside s out {next} = go (readArea s)
     go (area.Accepted n) is = fits n (ltb (length out) (length s)) refl is
     go (area.Refused e) is = let z : _≡_ {A = ℕ} 0 1 = cc in absurd (omega arith)
 
--- the PDU whose payload is l, where records were written up to a position behind n octets, or why there is none
+-- the PDU whose payload is l, where records were written up to a position after n octets, or why there is none
 abbrev pub fromWritten : PduType → Bool → ℕ → List ℕ → Written → Built
 fromWritten ty tx n l (written.To next) = record { outcome = Accepted; pdu = record { header = headerFor ty tx false (n + next .at); «payload_buf» = l } }
 fromWritten ty tx n l (written.Refused e) = refusedBuf e
 
--- records rewritten behind xs
+-- records rewritten after xs
 pub filled : (ty : PduType) (tx : Bool) (xs s : List ℕ)
     → fromWritten ty tx (length xs) (xs ++ rewrittenAfter s (room xs)) (rewrittenTo s (room xs)) ≡ withRecords ty tx xs s
 unfolding rewrittenTo rewrittenAfter mayRewrite withRecords afterReading bufOf
@@ -95,7 +95,7 @@ filled ty tx xs s = go (readArea s)
     go (area.Accepted n) = fits n (ltb (37 - length xs) (length s)) refl
     go (area.Refused e) = refl
 
--- the same of 37 octets that begin with xs, and of what was written behind them
+-- the same of 37 octets that begin with xs, and of what was written after them
 pub filled-at : (ty : PduType) (tx : Bool) (front s l : List ℕ) (start : ℕ) {w : Written} → start ≤ length front → front ≡ to37 (take start front)
     → w ≡ rewrittenTo s (drop start front) → l ≡ take start front ++ rewrittenAfter s (drop start front)
     → fromWritten ty tx start l w ≡ withRecords ty tx (take start front) s
@@ -105,7 +105,7 @@ filled-at ty tx front s l start inside is wrote left =
     let rest : drop start front ≡ room xs = ap (drop start) is ∙ drop-at xs (room xs) start size in
     rw (wrote, left, rest) (ap (λ (n : ℕ). fromWritten ty tx n (xs ++ rewrittenAfter s (room xs)) (rewrittenTo s (room xs))) (sym size) ∙ filled ty tx xs s)
 
--- six octets placed in 37 zeros, and others behind them
+-- six octets placed in 37 zeros, and others after them
 pub placed-first : (xs : List ℕ) {l : List ℕ} → length xs ≡ 6 → l ≡ outAfter xs (to37 []) 0 → l ≡ to37 xs
 placed-first xs long e = e ∙ pad-on [] xs 0 refl (omega arith)
 

@@ -27,7 +27,7 @@ module _ {widths : List ℕ} {fields : List (List ℕ)} {further p : List ℕ} (
   pub field-is : (k : ℕ) → fieldAt widths k p ≡ getD fields k []
   field-is k = rw (← fig .sizes, fig .tiles) (tiled fields further k)
 
-  -- what lies behind the figure, and how long the payload is
+  -- what lies after the figure, and how long the payload is
   pub behind : drop (total widths) p ≡ further
   behind = rw (← fig .sizes, fig .tiles, ← all-long fields) (drop-append-seam (flatten fields) further)
 

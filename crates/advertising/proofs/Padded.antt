@@ -42,7 +42,7 @@ unfolding unpadded beforeZero cut flatten
 none-taken p = rw (enough 0 p 0 (omega arith))
 
 module _ (h : Header) (p : List ℕ) where
-  -- the area behind the address is all that a reading decides
+  -- the area after the address is all that a reading decides
   same-area : (r t : Reading) → r (drop 6 p) ≡ t (drop 6 p) → decodeBy r h p ≡ decodeBy t h p
   unfolding decodeBy byType undirected
   same-area r t e = ap (λ (d : Decoded). cond (eqb (lengthOf h) (length p)) d (refusedPdu InvalidLength)) (go (typeOf h))

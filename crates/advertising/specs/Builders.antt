@@ -54,7 +54,7 @@ pub record Directed (a b : DeviceAddress) : Type 0 where
   pub header : builtDirected a b .header .0 ≡ 1 + 64 * kindNumber (a .kind) + 128 * kindNumber (b .kind) + 256 * 12
   pub octets : builtDirected a b .«payload_buf» ≡ (a .bytes ++ b .bytes) ++ replicate 25 0
 
--- "a transmit buffer shorter than the payload is 1"; else the payload stands at its front, and the octets behind are kept.
+-- "a transmit buffer shorter than the payload is 1"; else the payload stands at its front, and the octets after them are kept.
 pub record Writing (b : PduBuf) (out : List ℕ) : Type 0 where
   pub fits : length (payloadOf b) ≤ length out → payloadTo b out ≡ written.To (record { at = length (payloadOf b) })
   pub octets : length (payloadOf b) ≤ length out → payloadAfter b out ≡ payloadOf b ++ drop (length (payloadOf b)) out
@@ -103,7 +103,7 @@ pub record Examples : Type 0 where
       ≡ 0x41 ∷ 0x0C ∷ 0x01 ∷ 0x02 ∷ 0x03 ∷ 0x04 ∷ 0x05 ∷ 0xC6 ∷ 0x11 ∷ 0x12 ∷ 0x13 ∷ 0x14 ∷ 0x15 ∷ 0x16 ∷ []
   pub directed-back : asSent (builtDirected another anAddress)
       ≡ 0x81 ∷ 0x0C ∷ 0x11 ∷ 0x12 ∷ 0x13 ∷ 0x14 ∷ 0x15 ∷ 0x16 ∷ 0x01 ∷ 0x02 ∷ 0x03 ∷ 0x04 ∷ 0x05 ∷ 0xC6 ∷ []
-  -- "31 / 32 record octets built: accepted / 1", and 28 / 29 behind Flags
+  -- "31 / 32 record octets built: accepted / 1", and 28 / 29 after Flags
   pub most-31 : map (λ (k : ℕ). outcomeNumber (connectablePdu anAddress (long k) .outcome)) (31 ∷ 32 ∷ []) ≡ 0 ∷ 1 ∷ []
   pub most-28 : map (λ (k : ℕ). outcomeNumber (discoverablePdu anAddress (long k) .outcome)) (28 ∷ 29 ∷ []) ≡ 0 ∷ 1 ∷ []
   -- a PDU that was not built: zeros, without payload

@@ -183,7 +183,7 @@ Accuracies = (code : ℕ) → code < 8 → worstOf (accuracyOf code) ≡ getD (5
 abbrev pub WindowEnd : Type 0
 WindowEnd = (d : ConnectRequestData) → windowEnd d ≡ (d .«win_offset» + d .«win_size» + 1250) % 2 ^ 32
 
--- The record area of a PDU that was read is the part of its payload behind the six octets of the address, in its own place.
+-- The record area of a PDU that was read is the part of its payload after the six octets of the address, in its own place.
 pub record RecordAreaBy (decoder : Header → List ℕ → Decoded) (h : Header) (p : RefT (List ℕ)) : Type 0 where
   pub octets : allowsAdvData (typeOf h) ≡ true → decoder h (now p) .outcome ≡ Accepted → dataIn (decoder h (now p) .pdu .«adv_data») (now p) ≡ drop 6 (now p)
   pub place : allowsAdvData (typeOf h) ≡ true → decoder h (now p) .outcome ≡ Accepted → dataPlace (decoder h (now p) .pdu .«adv_data») p ≡ (p .ptr .0, p .ptr .1 + 6)

@@ -1,5 +1,5 @@
 -- The hub's decoder in the words of document 02's Note 3: what it finds, and that it differs from the general one only where a zero length stands at a record's place.
---   Heard h p      (Padded.heard)    what is heard, by what the hub's reading finds behind the address
+--   Heard h p      (Padded.heard)    what is heard, by what the hub's reading finds after the address
 --   Alike h p      (Padded.alike)    where the two decoders answer alike
 --   PaddedRows     (Padded.rows)     worked values
 use mathlib.Core.Bool.{true, false}
@@ -22,7 +22,7 @@ use Rattle.octets.specs.declared.error.Outcome.the-variants.{Accepted, Refused}
 
 -- "how many octets the records took" beside the sender, the whole area and the number of records
 pub record Heard (h : Header) (p : List ℕ) : Type 0 where
-  -- a type with records, counted by its header, and behind an address an area that the hub reads, or does not
+  -- a type with records, counted by its header, and after an address an area that the hub reads, or does not
   pub accepted : (n taken : ℕ) → allowsAdvData (typeOf h) ≡ true → lengthOf h ≡ length p → 6 ≤ length p → readPadded (drop 6 p) ≡ padded.Accepted n taken
       → paddedOf h p
       ≡ record {
@@ -55,12 +55,12 @@ heardNumbers ty p =
     outcomeNumber (x .decoded .outcome) ∷ x .decoded .pdu .«adv_data» .len ∷ x .decoded .pdu .«adv_data» .count ∷ x .taken ∷ []
 
 pub record PaddedRows : Type 0 where
-  -- document 01's row and zeros behind it, none, one and as many as there is room for
+  -- document 01's row and zeros after it, none, one and as many as there is room for
   pub strict : map (λ (n : ℕ). strictNumber 2 (nine ++ replicate n 0)) (0 ∷ 1 ∷ 28 ∷ []) ≡ 0 ∷ 2 ∷ 2 ∷ []
   pub heard : map (λ (n : ℕ). heardNumbers 2 (nine ++ replicate n 0)) (0 ∷ 1 ∷ 28 ∷ [])
       ≡ (0 ∷ 3 ∷ 1 ∷ 3 ∷ []) ∷ (0 ∷ 4 ∷ 1 ∷ 3 ∷ []) ∷ (0 ∷ 31 ∷ 1 ∷ 3 ∷ []) ∷ []
   -- every type with records, an address and zeros alone; a type without, and too few octets for the address
   pub types : map (λ (ty : ℕ). heardNumbers ty (replicate 7 0)) (0 ∷ 2 ∷ 4 ∷ 6 ∷ 1 ∷ []) ≡ (0 ∷ 1 ∷ 0 ∷ 0 ∷ []) ∷ (0 ∷ 1 ∷ 0 ∷ 0 ∷ []) ∷ (0 ∷ 1 ∷ 0 ∷ 0 ∷ []) ∷ (0 ∷ 1 ∷ 0 ∷ 0 ∷ []) ∷ (1 ∷ 0 ∷ 0 ∷ 0 ∷ []) ∷ []
   pub short : heardNumbers 2 (replicate 5 0) ≡ 1 ∷ 0 ∷ 0 ∷ 0 ∷ []
-  -- an octet behind the zero
+  -- an octet after the zero
   pub another : heardNumbers 2 (nine ++ (0x00 ∷ 0x01 ∷ [])) ≡ 2 ∷ 0 ∷ 0 ∷ 0 ∷ []

@@ -64,7 +64,7 @@ zeros ty k = numberFor (ty + 256 * k) (replicate k 0)
 abbrev pub numberFrom : List ℕ → ℕ → ℕ
 numberFrom s at = outcomeNumber (pduFrom s at .outcome)
 
--- Document 01, "Refused calls" and advertising.rs. A zero octet behind the address is a record of length 0, so 2.
+-- Document 01, "Refused calls" and advertising.rs. A zero octet after the address is a record of length 0, so 2.
 pub record Rows : Type 0 where
   pub type-0 : map (zeros 0) (5 ∷ 6 ∷ 7 ∷ []) ≡ 1 ∷ 0 ∷ 2 ∷ []
   pub type-1 : map (zeros 1) (11 ∷ 12 ∷ 13 ∷ []) ≡ 1 ∷ 0 ∷ 0 ∷ []

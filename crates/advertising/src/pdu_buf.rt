@@ -21,7 +21,7 @@ use records::area::rewrite_area;
 // The most octets of a payload on an advertising channel (the Core, Vol 6 Part B, 2.3).
 pub const MAX_PAYLOAD_SIZE: usize = 37;
 
-// A PDU that was built: its header, and its payload with zeros behind it.
+// A PDU that was built: its header, and its payload with zeros after it.
 pub struct PduBuf {
     header: Header,
     payload_buf: [u8; MAX_PAYLOAD_SIZE],
@@ -137,7 +137,7 @@ impl PduBuf {
         self.header
     }
 
-    // The payload, with the zeros behind it: the header counts its octets.
+    // The payload, with the zeros after it: the header counts its octets.
     pub fn payload(self) -> [u8; MAX_PAYLOAD_SIZE]
         ensures { λ r. ⌜ r ≡ self .«payload_buf» ⌝ }
     {
@@ -177,7 +177,7 @@ fn header_for(ty: PduType, tx_add: bool, rx_add: bool, length: u8) -> Header
     }
 }
 
-// Rewrites records behind the first `start` octets.
+// Rewrites records after the first `start` octets.
 fn rewrite_behind(adv_data: &[u8], payload: &mut [u8], start: usize) -> Written
     requires { ⌜ start ≤ length (now payload) ⌝ }
     ensures { λ r. ⌜ (r ≡ rewrittenTo (now («adv_data» .entry)) (drop start (now (payload .entry)))) × (now (payload .exit) ≡ take start (now (payload .entry)) ++ rewrittenAfter (now («adv_data» .entry)) (drop start (now (payload .entry)))) ⌝ }

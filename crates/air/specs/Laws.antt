@@ -1,5 +1,5 @@
 -- A packet on the air: what is built is sent with its CRC and whitened, and heard. `Air` is proved as Passing.air.
---   sentOn channel start octets   == octets with their CRC behind them, whitened: what goes on the air
+--   sentOn channel start octets   == octets with their CRC after them, whitened: what goes on the air
 --   headerIn, payloadIn packet    == a packet's header and its payload, the CRC left out
 --   Passes, Beacons               == a header and payload pass through the air unchanged, and the flag is good; a beacon decodes to what was built
 --   Air                           == these, of every header and payload, every beacon, every channel and every start value

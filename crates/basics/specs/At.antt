@@ -1,5 +1,5 @@
 -- Headers at a position, as numbers.
---   headerGot r                == a header that was read, and the position behind it
+--   headerGot r                == a header that was read, and the position after it
 --   headerWritten made out at  == what a write of a header that was made, or not, answers, and headerAfter what the buffer holds then
 use mathlib.Core.List.{List}
 use Prim.Native.Nat.{ℕ}

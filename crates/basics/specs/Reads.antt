@@ -1,4 +1,4 @@
--- What was read, as numbers: a refusal's number (document 01), or 0, what was read, and the position behind it.
+-- What was read, as numbers: a refusal's number (document 01), or 0, what was read, and the position after it.
 use mathlib.Core.Bool.{Bool, cond}
 use mathlib.Core.List.{List}
 use Prim.Native.Nat.{ℕ}

@@ -1,4 +1,4 @@
--- UUIDs that were read, as numbers, with the position behind them.
+-- UUIDs that were read, as numbers, with the position after them.
 use mathlib.Core.List.{List}
 use Prim.Native.Nat.{ℕ}
 use Rattle.octets.specs.declared.uuid.Uuid16Read.{Uuid16Read}

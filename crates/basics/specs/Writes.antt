@@ -1,4 +1,4 @@
--- A write that was cut to the space left, as numbers: how many octets were written, and the position behind them.
+-- A write that was cut to the space left, as numbers: how many octets were written, and the position after them.
 use Rattle.octets.specs.declared.bytes.Truncated.{Truncated}
 use Rattle.octets.specs.declared.bytes.Truncated.the-variants as truncated
 use Rattle.answers.specs.Got.{found, refusedAs}

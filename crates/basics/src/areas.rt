@@ -75,7 +75,7 @@ pub extern "C" fn board_padded_area(s: &[u8]) -> Got
     }
 }
 
-// The position behind what was written.
+// The position after what was written.
 #[no_mangle]
 pub extern "C" fn board_rewrite(s: &[u8], out: &mut [u8]) -> Got
     ensures { λ r. ⌜ (r ≡ writtenGot (rewrittenTo (now (s .entry)) (now (out .entry)))) × (now (out .exit) ≡ rewrittenAfter (now (s .entry)) (now (out .entry))) ⌝ }
@@ -83,7 +83,7 @@ pub extern "C" fn board_rewrite(s: &[u8], out: &mut [u8]) -> Got
     written(rewrite_area(s, out))
 }
 
-// A UUID and the position behind it; at the end 0 and the position.
+// A UUID and the position after it; at the end 0 and the position.
 #[no_mangle]
 pub extern "C" fn board_uuid_at(data: &[u8], at: usize) -> Got
     ensures { λ r. ⌜ r ≡ uuidGot at (uuid16At (now («data» .entry)) at) ⌝ }
@@ -118,7 +118,7 @@ pub extern "C" fn board_known(s: &[u8], at: usize) -> Structure
     }
 }
 
-// Writes a record, which is given as `Structure` has it; the position behind it.
+// Writes a record, which is given as `Structure` has it; the position after it.
 #[no_mangle]
 pub extern "C" fn board_write(
     kind: u8,

@@ -18,7 +18,7 @@ use answers::packet::packet_said;
 use octets::bytes::ByteReader;
 use octets::bytes::ByteWriter;
 
-// A header's 16 bits, and the position behind it.
+// A header's 16 bits, and the position after it.
 #[no_mangle]
 pub extern "C" fn board_read_header(s: &[u8], at: usize) -> Got
     ensures { λ r. ⌜ r ≡ headerGot (headerAt (now (s .entry)) at) ⌝ }
@@ -30,7 +30,7 @@ pub extern "C" fn board_read_header(s: &[u8], at: usize) -> Got
     }
 }
 
-// The header of two octets is written; the position behind it.
+// The header of two octets is written; the position after it.
 #[no_mangle]
 pub extern "C" fn board_write_header(out: &mut [u8], at: usize, raw: &[u8]) -> Got
     ensures { λ r. ⌜ (r ≡ headerWritten (parsed (now (raw .entry))) (now (out .entry)) at) × (now (out .exit) ≡ headerAfter (parsed (now (raw .entry))) (now (out .entry)) at) ⌝ }

@@ -15,7 +15,7 @@ use octets::bytes::U8Read;
 use octets::bytes::U16Read;
 use octets::bytes::U32Read;
 
-// A part that was read, and the position behind it.
+// A part that was read, and the position after it.
 #[repr(C)]
 pub struct Part {
     pub number: u8,
@@ -24,7 +24,7 @@ pub struct Part {
     pub next: usize,
 }
 
-// Octets that were read, zeros where the read was refused, and the position behind them.
+// Octets that were read, zeros where the read was refused, and the position after them.
 #[repr(C)]
 pub struct Five {
     pub number: u8,
@@ -78,7 +78,7 @@ pub extern "C" fn board_read_slice(s: &[u8], at: usize, n: usize) -> Part
     }
 }
 
-// Fills `dst`; the position behind what was read.
+// Fills `dst`; the position after what was read.
 #[no_mangle]
 pub extern "C" fn board_read_into(s: &[u8], at: usize, dst: &mut [u8]) -> Got
     ensures { λ r. ⌜ (r ≡ passedGot (skipTo (length (now (dst .entry))) (now (s .entry)) at)) × (now (dst .exit) ≡ filled (now (s .entry)) at (now (dst .entry))) ⌝ }
@@ -116,7 +116,7 @@ pub extern "C" fn board_read_array6(s: &[u8], at: usize) -> Six
     }
 }
 
-// A number, and the position behind it.
+// A number, and the position after it.
 #[no_mangle]
 pub extern "C" fn board_read_u8(s: &[u8], at: usize) -> Got
     ensures { λ r. ⌜ r ≡ u8Got (u8Read (now (s .entry)) at) ⌝ }

@@ -17,7 +17,7 @@ use octets::uuid::Uuid32;
 use octets::uuid::Uuid32Read;
 use octets::uuid::Uuid128;
 
-// A UUID of 128 bits that was read, zeros where the read was refused, and the position behind it.
+// A UUID of 128 bits that was read, zeros where the read was refused, and the position after it.
 #[repr(C)]
 pub struct UuidRead {
     pub number: u8,
@@ -25,7 +25,7 @@ pub struct UuidRead {
     pub next: usize,
 }
 
-// A UUID, and the position behind it.
+// A UUID, and the position after it.
 #[no_mangle]
 pub extern "C" fn board_read_uuid16(s: &[u8], at: usize) -> Got
     ensures { λ r. ⌜ r ≡ uuid16Got (uuid16From (u16Read (now (s .entry)) at)) ⌝ }
@@ -64,7 +64,7 @@ pub extern "C" fn board_read_uuid128(s: &[u8], at: usize) -> UuidRead
     }
 }
 
-// The position behind a UUID that is written.
+// The position after a UUID that is written.
 #[no_mangle]
 pub extern "C" fn board_write_uuid16(out: &mut [u8], at: usize, value: u16) -> Got
     ensures { λ r. ⌜ (r ≡ writtenGot (writeTo 2 (now (out .entry)) at)) × (now (out .exit) ≡ outAfter (leBytes 2 value) (now (out .entry)) at) ⌝ }

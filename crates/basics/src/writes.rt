@@ -1,4 +1,4 @@
-// Octets written at a position, which may lie past the end: the position behind them.
+// Octets written at a position, which may lie past the end: the position after them.
 ghost use mathlib.Core.Path.{_≡_};
 ghost use mathlib.Core.List.{[], _∷_};
 ghost use lib.ListN.{length};
@@ -35,7 +35,7 @@ pub extern "C" fn board_write_slice(out: &mut [u8], at: usize, other: &[u8]) -> 
     written(ByteWriter { at }.write_slice(out, other))
 }
 
-// The number of octets that were written, and the position behind them.
+// The number of octets that were written, and the position after them.
 fn counted(t: Truncated) -> Got
     ensures { λ r. ⌜ r ≡ truncatedGot t ⌝ }
 {

@@ -100,7 +100,7 @@ module _ (h : Header) (p : List ℕ) where
   pub holds-decoded : typeOf h ≡ AdvNonconnInd → heardOf h p .outcome ≡ outcome.Accepted → Holds h p (heardOf h p .pdu)
   holds-decoded type-2 ok = holds (heardOf h p) type-2 (accepting-heard h p .sound ok .1)
 
-  -- what is heard of a beacon is what the hub reads behind the address
+  -- what is heard of a beacon is what the hub reads after the address
   read-heard : typeOf h ≡ AdvNonconnInd → heardOf h p .outcome ≡ outcome.Accepted
       → readPadded (drop 6 p) ≡ padded.Accepted (paddedOf h p .decoded .pdu .«adv_data» .count) (paddedOf h p .taken)
   read-heard type-2 ok = go (readPadded (drop 6 p)) refl

@@ -82,7 +82,7 @@ pub record Reports (s : BeaconScanner) (h : Header) (p : List ℕ) (crcOk : Bool
   pub records : scanned s h p crcOk list .report ≡ report.Beacon → dataIn (scanned s h p crcOk list .«adv_data») p ≡ drop 6 p
   pub number-of-records : scanned s h p crcOk list .report ≡ report.Beacon
       → readPadded (drop 6 p) ≡ padded.Accepted (scanned s h p crcOk list .«adv_data» .count) (scanned s h p crcOk list .taken)
-  -- by the octets alone: CRC-good, of type 2, counted by its header, and behind an address an area that the hub reads
+  -- by the octets alone: CRC-good, of type 2, counted by its header, and after an address an area that the hub reads
   pub heard : (n taken : ℕ) → crcOk ≡ true → bits 0 4 h ≡ 2 → lengthOf h ≡ length p → 6 ≤ length p → readPadded (drop 6 p) ≡ padded.Accepted n taken
       → Lets (s .filter .scan) list (addressOf (take 6 p) (kindOf (txAdd h)))
       → scanned s h p crcOk list
@@ -94,7 +94,7 @@ pub record Reports (s : BeaconScanner) (h : Header) (p : List ℕ) (crcOk : Bool
         channel = s .channel;
       }
 
--- The record area of a reported beacon is the part of its payload behind the address, in its own place.
+-- The record area of a reported beacon is the part of its payload after the address, in its own place.
 pub record Located (s : BeaconScanner) (h : Header) (p : RefT (List ℕ)) (crcOk : Bool) (list : List ℕ) : Type 0 where
   pub place : scanned s h (now p) crcOk list .report ≡ report.Beacon → dataPlace (scanned s h (now p) crcOk list .«adv_data») p ≡ (p .ptr .0, p .ptr .1 + 6)
 
@@ -193,16 +193,16 @@ abbrev pub kind2Entry : List ℕ
 kind2Entry = 0x02 ∷ 0x01 ∷ 0x02 ∷ 0x03 ∷ 0x04 ∷ 0x05 ∷ 0xC6 ∷ []
 
 pub record Examples : Type 0 where
-  -- no entry, the sender's, another kind's, and the sender's behind that
+  -- no entry, the sender's, another kind's, and the sender's after that
   pub lists : map listAnswer ([] ∷ senderEntry ∷ publicEntry ∷ (publicEntry ++ senderEntry) ∷ []) ≡ report.Nothing ∷ report.Beacon ∷ report.Nothing ∷ report.Beacon ∷ []
-  -- six octets, eight, a kind of 2, and one behind the entry that matches
+  -- six octets, eight, a kind of 2, and one after the entry that matches
   pub bad-lists : map (λ (list : List ℕ). reportNumber (listAnswer list)) (take 6 senderEntry ∷ (senderEntry ++ (0x00 ∷ [])) ∷ kind2Entry ∷ (senderEntry ++ kind2Entry) ∷ []) ≡ 3 ∷ 3 ∷ 3 ∷ 3 ∷ []
   -- a bad CRC, type 0, a header that counts 8 octets, and none of these
   pub crc : scanned openScanner (headerOf 0x0942) nine false [] .report ≡ report.Nothing
   pub type-0 : scanned openScanner (headerOf 0x0940) nine true [] .report ≡ report.Nothing
   pub decoding : scanned openScanner (headerOf 0x0842) nine true [] .report ≡ report.Nothing
   pub all-pass : scanned openScanner (headerOf 0x0942) nine true [] .report ≡ report.Beacon
-  -- zeros behind the record: reported with the whole area, one record and the octets that it took; an octet among them that is not zero: nothing
+  -- zeros after the record: reported with the whole area, one record and the octets that it took; an octet among them that is not zero: nothing
   pub zeros : (list : List ℕ) → scanned openScanner (headerOf 0x2542) (nine ++ replicate 28 0) true list
       ≡ record {
         report = report.Beacon;

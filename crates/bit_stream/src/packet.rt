@@ -4,10 +4,10 @@ ghost use Rattle.octets.specs.Error.{outcomeNumber};
 ghost use Rattle.whitening.specs.Crc.{crcOf, crcOctets};
 ghost use Rattle.whitening.specs.Packet.{whitenOf, whitenAfter, flagOf};
 ghost use Rattle.bit_stream.specs.Said.{flagSaid};
+use octets::error::Outcome;
 use whitening::crc::crc;
 use whitening::crc::crc_octets;
 use whitening::packet::Flag;
-use octets::error::Outcome;
 use whitening::packet::crc_flag;
 use whitening::packet::whiten;
 

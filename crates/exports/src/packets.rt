@@ -90,7 +90,7 @@ pub extern "C" fn board_set_header(raw: &[u8], tx_add: bool, rx_add: bool, lengt
     }
 }
 
-// A built PDU: its header, and its payload with zeros behind it.
+// A built PDU: its header, and its payload with zeros after it.
 #[repr(C)]
 pub struct Frame {
     pub number: u8,

@@ -121,7 +121,7 @@ pub record NameRows : Type 0 where
   pub passed-over-twice : nameOf (broken 0x09 ++ bo 0x08) (broken 0x09 ++ (broken 0x08 ++ ada 0x08)) ≡ InReply 8 3
   -- an empty name counts
   pub nothing-in-it : map (nameOf (ada 0x09)) (empty 0x09 ∷ (empty 0x09 ++ bo 0x09) ∷ empty 0x08 ∷ []) ≡ InReply 2 0 ∷ InReply 2 0 ∷ InAdvertisement 2 3 ∷ []
-  -- padding behind either, or in place of it; what stands behind the zero is no name, and 2
+  -- padding after either, or in place of it; what stands after the zero is no name, and 2
   pub padded-areas : map (λ (n : ℕ). nameOf (flags ++ zeros n) (bo 0x09 ++ zeros n)) (1 ∷ 24 ∷ []) ≡ InReply 2 2 ∷ InReply 2 2 ∷ []
   pub padded-alone : map (λ (n : ℕ). nameOf (bo 0x08 ++ zeros n) (zeros n)) (0 ∷ 1 ∷ 27 ∷ []) ≡ InAdvertisement 2 2 ∷ InAdvertisement 2 2 ∷ InAdvertisement 2 2 ∷ []
   pub zeros-alone : nameOf (zeros 31) (zeros 31) ≡ Refused NoName
@@ -132,7 +132,7 @@ pub record NameRows : Type 0 where
   pub bad-both : nameOf cut-short no-length ≡ Refused Eof
   pub bad-both-ways : nameOf no-length cut-short ≡ Refused InvalidLength
   pub bad-before-none : nameOf flags (flags ++ cut-short) ≡ Refused Eof
-  -- a bad record behind a name: its refusal
+  -- a bad record after a name: its refusal
   pub bad-behind : map (nameOf (ada 0x09 ++ cut-short)) ([] ∷ bo 0x09 ∷ []) ≡ Refused Eof ∷ Refused Eof ∷ []
 
 -- octets that are lent at a place

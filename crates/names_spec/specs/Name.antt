@@ -31,7 +31,7 @@ isName ty r = eqb (getD r 1 0) ty && isUtf8 (drop 2 r)
 unfoldable pub nameIn : ℕ → List ℕ → Found
 nameIn ty s = searched (isName ty) s
 
--- what a search of the reply, or of the advertisement, finds; or else what comes behind it
+-- what a search of the reply, or of the advertisement, finds; or else what comes after it
 unfoldable pub inReply : Found → NamePlace → NamePlace
 inReply (At start len) else = place.InReply start len
 inReply Nothing else = else

@@ -7,7 +7,7 @@ use denote.Ref.{RefT, now}
 use Rattle.octets.specs.Bytes.{partOr, partPlace}
 
 pub record PartOf (s : RefT (List ℕ)) : Type 0 where
-  -- octets xs that stand in s, behind others: these, in their own place
+  -- octets xs that stand in s, after others: these, in their own place
   pub there : (before xs behind : List ℕ) → now s ≡ before ++ (xs ++ behind)
       → (partOr (length xs) (now s) (length before) ≡ xs) × (partPlace (length xs) s (length before) ≡ (s .ptr .0, s .ptr .1 + length before))
   -- fewer than are asked for: none, at the start of s

@@ -105,7 +105,7 @@ pub record Refusing (d : State) (c : Call) (e : Error) : Type 0 where
   pub state : callOf d c .answer ≡ Refused e → callOf d c .state ≡ d
   pub buffers : callOf d c .answer ≡ Refused e → octetsOf d c ≡ lentBy c
 
--- An accepted tick writes the payload at the front of the transmit buffer and keeps the octets behind it. An accepted start's payload is the own address,
+-- An accepted tick writes the payload at the front of the transmit buffer and keeps the octets after it. An accepted start's payload is the own address,
 -- Flags and the records, whose undefined Flags bits are cleared.
 pub record Transmits (d : State) (tx : List ℕ) : Type 0 where
   pub ticking : numberIn (callOf d (tick tx) .answer) ≡ 0
@@ -127,7 +127,7 @@ pub record ReplyDecodes (own : DeviceAddress) (s : List ℕ) (n : ℕ) : Type 0 
 abbrev pub Bare : DeviceAddress → Type 0
 Bare own = ReplyOf own [] (fresh own .«scan_response»)
 
--- A start, in any mode, with a bad area is refused as its first bad record is, before its size and the transmit buffer are looked at; zeros behind the records are 2.
+-- A start, in any mode, with a bad area is refused as its first bad record is, before its size and the transmit buffer are looked at; zeros after the records are 2.
 pub record BadStart (d : State) (time : Instant) (interval : ℕ) (records tx : List ℕ) : Type 0 where
   pub bad-area : (e : Error) → readArea records ≡ area.Refused e → callOf d (start time interval records tx) ≡ record { answer = Refused e; state = d }
   pub zeros : ZeroLength records → callOf d (start time interval records tx) ≡ record { answer = Refused InvalidLength; state = d }

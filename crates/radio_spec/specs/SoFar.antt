@@ -67,7 +67,7 @@ mapIn p = fieldAt connectFigure 9 p
 abbrev pub hopIn : List ℕ → ℕ
 hopIn p = le (fieldAt connectFigure 10 p) % 32
 
--- LLData begins behind the two addresses
+-- LLData begins after the two addresses
 abbrev pub inRangesIn : List ℕ → Bool
 inRangesIn p = isWithin (settingsAt 12 p)
 

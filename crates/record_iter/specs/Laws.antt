@@ -66,7 +66,7 @@ pub record GoesThrough (area : RefT (List ℕ)) : Type 0 where
   -- after k moves `next` answers what reading record k of the area finds
   pub in-order : (k : ℕ) → nextAfter area k ≡ answerAt (reads (records (now area)) 0) k
   pub counted : AreaCounted area (readArea (now area))
-  -- what is left behind k records is the records from k on
+  -- what is left after k records is the records from k on
   pub left : (k : ℕ) → ((j : ℕ) → j < k → IsRecord (nextAfter area j)) → records (restOf (movedBy k (front area))) ≡ drop k (records (now area))
 
 -- so it is the very part of the area, and no equal octets elsewhere

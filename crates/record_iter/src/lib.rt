@@ -1,5 +1,5 @@
 // The record iterator: a struct that holds the lent records and a position in them, and thin functions over it. Each takes the struct apart
-// and calls a function on the slice and the position. `new` and `moved` alone make one: it stands at the front of its area or behind a record.
+// and calls a function on the slice and the position. `new` and `moved` alone make one: it stands at the front of its area or after a record.
 ghost use mathlib.Core.Path.{_≡_};
 ghost use lib.ListN.{drop};
 ghost use Rattle.records_spec.specs.Record.{recordAt};

@@ -155,7 +155,7 @@ exclusive n rest g (wrong-flags some there is other) = other (g .flags (same-typ
 exclusive n rest g (odd-list some there (inl is) even) = omega (arith, g .list (inl (same-type n rest some there ∙ is)))
 exclusive n rest g (odd-list some there (inr is) even) = omega (arith, g .list (inr (same-type n rest some there ∙ is)))
 
--- a good record adds one to the area behind it
+-- a good record adds one to the area after it
 good-before : (n : ℕ) (rest : List ℕ) (x : Read) (area : Area) → Class n rest x → Good n (take n rest) → withFirst x area ≡ counting 1 area
 unfolding withFirst counting
 good-before n rest (Record a next) (Accepted m) c g = ap Accepted (omega arith)
@@ -168,7 +168,7 @@ unfolding counting
 counting-more k (Accepted m) = ap Accepted (omega arith)
 counting-more k (Area.Refused e) = refl
 
--- good records add their number to the area behind them
+-- good records add their number to the area after them
 behind : (rs : List (List ℕ)) (rest : List ℕ) (at : ℕ) → AllGood rs
     → areaOf (reads (records (flatten rs ++ rest)) at) ≡ counting (length rs) (areaOf (reads (records rest) (at + length (flatten rs))))
 unfolding cut first reads areaOf flatten

@@ -112,7 +112,7 @@ ended s at e = empty (drop at s) (subst (Sized (first (drop at s)) at) e (sized 
     empty [] h = refl
     empty (n ∷ rest) h = cc
 
--- an area behind n good records
+-- an area after n good records
 unfoldable pub counting : ℕ → Area → Area
 counting n (Accepted m) = Accepted (n + m)
 counting n (Area.Refused e) = Area.Refused e
@@ -146,7 +146,7 @@ area-refused s at n {e} = go (drop at s)
     go [] is = cc
     go (x ∷ rest) is = rw is
 
--- an accepted area goes on behind a record, and ends where reading finds none
+-- an accepted area goes on after a record, and ends where reading finds none
 pub accepted-more : (s : List ℕ) (at : ℕ) {a : AdStructure} {next : ℕ} → here s at ≡ Record a next → AcceptedFrom s at → AcceptedFrom s next
 unfolding here areaOf reads withFirst
 accepted-more s at {a} {next} e from =

@@ -45,7 +45,7 @@ good-parts ((n ∷ body) ∷ ps) r qs all =
     let later = good-parts ps r qs (all .1) in
     ((all .0, later .0), later .1)
 
--- a record that is read behind good records is one more
+-- a record that is read after good records is one more
 pub one-more : (s : List ℕ) (at : ℕ) {count : ℕ} {a : AdStructure} {next : ℕ} → here s at ≡ Record a next → Tiling (take at s) count → Tiling (take next s) (count + 1)
 unfolding here recordRead first flatten
 one-more s at {count} {a} {next} e t = go (drop at s) refl

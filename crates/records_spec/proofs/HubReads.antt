@@ -29,7 +29,7 @@ use Rattle.records_spec.proofs.Restored.{rewriting}
 pub tiling-of : (s : List ℕ) {m : ℕ} → readArea s ≡ area.Accepted m → Tiling s m
 tiling-of s is = subst (Verdict s) is (decided s .verdict)
 
--- the octets before a zero length, behind good records
+-- the octets before a zero length, after good records
 pub unpadded-behind : (rs : List (List ℕ)) (l : List ℕ) → AllGood rs → unpadded (flatten rs ++ l) ≡ flatten rs ++ unpadded l
 unfolding unpadded beforeZero cut first flatten
 unpadded-behind [] l all = refl
@@ -132,7 +132,7 @@ module _ (front : List ℕ) {m : ℕ} (t : Tiling front m) where
       record { pieces = t .pieces; rest = n ∷ more; tile = ap (λ (l : List ℕ). l ++ (n ∷ more)) (t .tile); good = t .good; bad = still-bad n rest some bad } in
       rw (before, decided (front ++ (n ∷ more)) .refused f)
 
--- how an area begins: it is good records alone, or a zero length stands behind them, or another bad record does
+-- how an area begins: it is good records alone, or a zero length stands after them, or another bad record does
 pub data Cases (s : List ℕ) : Type 0 where
   whole : (m : ℕ) → Tiling s m → Cases s
   ended : (front rest : List ℕ) (m : ℕ) → s ≡ front ++ (0 ∷ rest) → Tiling front m → Cases s

@@ -5,7 +5,7 @@ use mathlib.Core.List.{List, [], _∷_}
 use Prim.Native.Nat.{ℕ, zero, suc}
 use lib.ListN.{length, take, drop}
 
--- a part that is cut short leaves the same behind it
+-- a part that is cut short leaves the same after it
 pub drop-length-take : (n : ℕ) (l : List ℕ) → drop (length (take n l)) l ≡ drop n l
 drop-length-take zero l = refl
 drop-length-take (suc n) [] = refl

@@ -38,7 +38,7 @@ module _ (s : List ℕ) (ty : ℕ) (d : List ℕ) (start : ℕ) (room : start + 
       go true false is e = record { type = is; inside = room; fine = rw (lies, e); octets = lies ∙ lent s ty d start room lies other }
       go false complete is e = tt
 
-  -- a number of two octets, and the data behind it
+  -- a number of two octets, and the data after it
   joined : 2 ≤ length d → getD d 0 0 < 256 → getD d 1 0 < 256 → leBytes 2 (le (part 2 d 0)) ++ part (length d - 2) s (start + 2) ≡ d
   joined two low high =
       let pair : part 2 d 0 ≡ getD d 0 0 ∷ getD d 1 0 ∷ [] = part-octets 1 d 0 two in

@@ -22,11 +22,11 @@ use Rattle.records_spec.proofs.Accepted.{Class, class}
 use Rattle.records_spec.proofs.Rewritten.{clean-length, rewritten-step, rewritten-length}
 use Rattle.records_spec.proofs.RoundTrip.{reads-clean, cleans, round-trip}
 
--- the position behind the record at p
+-- the position after the record at p
 abbrev pub next : List ℕ → ℕ → ℕ
 next s p = p + 1 + getD s p 0
 
--- where an accepted area goes on, there is a good record, and the area goes on behind it
+-- where an accepted area goes on, there is a good record, and the area goes on after it
 pub record Whole (s : List ℕ) (p : ℕ) : Type 0 where
   pub good : Good (getD s p 0) (take (getD s p 0) (drop (p + 1) s))
   pub step : Step s p (next s p)
@@ -56,7 +56,7 @@ whole-at s p from inside = go (here s p) refl
         let refused = area-refused s p 0 e in
         let z : _≡_ {A = ℕ} 0 1 = cc (refused, ap (counting 0) (from .accepted)) in absurd (omega arith)
 
--- where a record begins, the octets behind are those that rewriting from there on writes
+-- where a record begins, the octets after are those that rewriting from there on writes
 record Placed (s : List ℕ) (p : ℕ) : Type 0 where
   inside : p < length s
   whole : Whole s p

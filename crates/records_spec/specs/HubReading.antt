@@ -27,7 +27,7 @@ unfoldable pub isZeros : List ℕ → Bool
 isZeros [] = true
 isZeros (x ∷ l) = eqb x 0 && isZeros l
 
--- records that are read so and took `taken` octets, where behind them there are zeros alone, or not
+-- records that are read so and took `taken` octets, where after them there are zeros alone, or not
 unfoldable pub endedBy : Area → ℕ → Bool → PaddedArea
 endedBy (area.Accepted n) taken true = padded.Accepted n taken
 endedBy (area.Accepted n) taken false = padded.Refused InvalidLength

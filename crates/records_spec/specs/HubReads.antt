@@ -1,9 +1,9 @@
 -- The hub's reading in the words of document 02's Note 3: "a second reading, used by the hub, that stops there and reports how many octets the records took. A nonzero octet after that
 -- point is 2. Rewriting what it read gives the octets before the padding, save undefined Flags bits. .. the hub's differs from it only in this".
 --   Padding s m taken    == m records that are accepted strictly, in `taken` octets, and then zeros alone, perhaps none, make up s
---   Fault s e            == the first fault of s: a bad record before the first zero length, or behind it an octet that is not zero
+--   Fault s e            == the first fault of s: a bad record before the first zero length, or after it an octet that is not zero
 --   HubReads s           (HubReads.hub-reads)     s is accepted exactly if it is padded so, and refused exactly as its first fault is
---   ZeroLength s         == a zero length stands in s behind records that are accepted strictly, perhaps none: at a record's place
+--   ZeroLength s         == a zero length stands in s after records that are accepted strictly, perhaps none: at a record's place
 --   Differs s            (HubReads.differs)       where the two readings differ, and where they do not
 --   WithoutSize          (HubReads.without-size)  an answer without the octets taken
 --   Took s out m taken _ (HubReads.took)          what rewriting the octets taken writes
@@ -31,7 +31,7 @@ pub record Padding (s : List ℕ) (m taken : ℕ) : Type 0 where
   pub size : length front ≡ taken
 
 pub data Fault (s : List ℕ) : Error → Type 0 where
-  -- a record of another length than zero behind records that are accepted, refused as in the strict reading
+  -- a record of another length than zero after records that are accepted, refused as in the strict reading
   bad-record : (front : List ℕ) (m n : ℕ) (rest : List ℕ) {e : Error} → s ≡ front ++ (n ∷ rest) → readArea front ≡ area.Accepted m → 0 < n → Bad (n ∷ rest) e → Fault s e
   -- a zero length there, zeros, and an octet that is not
   not-zero : (front : List ℕ) (m zeros x : ℕ) (rest : List ℕ) → s ≡ front ++ (0 ∷ (replicate zeros 0 ++ (x ∷ rest))) → readArea front ≡ area.Accepted m → 0 < x → Fault s InvalidLength
@@ -90,7 +90,7 @@ pub record PaddedRows : Type 0 where
   -- nothing, and zeros alone: no records, and no octets taken; the areas of 31 octets and of 57
   pub zeros-alone : map readPadded ([] ∷ blanks 1 ∷ blanks 31 ∷ blanks 57 ∷ [])
       ≡ padded.Accepted 0 0 ∷ padded.Accepted 0 0 ∷ padded.Accepted 0 0 ∷ padded.Accepted 0 0 ∷ []
-  -- records that fill the area; one zero, or more, behind them
+  -- records that fill the area; one zero, or more, after them
   pub filling : readPadded flags ≡ padded.Accepted 1 3
   pub ended : map (λ (n : ℕ). readPadded (flags ++ (flags ++ blanks n))) (0 ∷ 1 ∷ 25 ∷ 51 ∷ [])
       ≡ padded.Accepted 2 6 ∷ padded.Accepted 2 6 ∷ padded.Accepted 2 6 ∷ padded.Accepted 2 6 ∷ []
@@ -103,7 +103,7 @@ pub record PaddedRows : Type 0 where
   -- a bad record before the zero decides: odd list data 1, wrong Flags 2; too few octets 1, though they are zeros
   pub before : map readPadded ((0x02 ∷ 0x03 ∷ 0x0F ∷ blanks 3) ∷ (0x01 ∷ 0x01 ∷ blanks 3) ∷ (0x05 ∷ 0x0A ∷ blanks 3) ∷ [])
       ≡ padded.Refused Eof ∷ padded.Refused InvalidLength ∷ padded.Refused Eof ∷ []
-  -- a bad record first, and an octet behind a zero as well: the first decides
+  -- a bad record first, and an octet after a zero as well: the first decides
   pub both : readPadded (0x02 ∷ 0x03 ∷ 0x0F ∷ 0x00 ∷ 0x01 ∷ []) ≡ padded.Refused Eof
   -- the strict reading of padded areas is 2
   pub strict : map readArea (blanks 1 ∷ (flags ++ blanks 1) ∷ (flags ++ blanks 28) ∷ [])

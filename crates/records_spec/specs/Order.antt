@@ -70,7 +70,7 @@ pub record NotWritten (a : AdStructure) (s out : List ℕ) (at : ℕ) (e : Error
   pub answers : writtenTo a s out at ≡ Written.Refused e
   pub kept : writtenAfter a s out at ≡ out
 
--- length and type are an octet each; the record stands there octet by octet, and all octets before and behind it are kept
+-- length and type are an octet each; the record stands there octet by octet, and all octets before and after it are kept
 pub record Put (a : AdStructure) (s out : List ℕ) (at : ℕ) : Type 0 where
   pub answers : writtenTo a s out at ≡ To (record { at = at + 2 + dataOctets a })
   pub as-long : length (writtenAfter a s out at) ≡ length out

@@ -70,7 +70,7 @@ pub record ReadOnAndRewritten (s : List ℕ) : Type 0 where
       → ReadOnAgain ty start len s out at b
   pub same : (a : AdStructure) → ((ty start len : ℕ) → a ≡ Unknown ty start len → ⊥) → knownRead a s ≡ Structure a
 
--- records lie one behind the other: the length octet of a record counts the octets behind it
+-- records lie one after the other: the length octet of a record counts the octets after it
 pub data Begins (s : List ℕ) : ℕ → Type 0 where
   at-the-front : 0 < length s → Begins s 0
   behind-one : {p : ℕ} → Begins s p → p + 1 + getD s p 0 < length s → Begins s (p + 1 + getD s p 0)
@@ -94,7 +94,7 @@ pub record Restores (s out : List ℕ) : Type 0 where
   pub restored : (i : ℕ) → i < length s → (FlagsOctet s i → ⊥) → getD (rewrittenAfter s out) i 0 ≡ getD s i 0
   -- unless it is the octet of a Flags record, which keeps its bits 0 to 4
   pub flags : (i : ℕ) → FlagsOctet s i → getD (rewrittenAfter s out) i 0 ≡ getD s i 0 % 32
-  -- the octets behind are the buffer's own
+  -- the octets after are the buffer's own
   pub behind : (i : ℕ) → length s ≤ i → getD (rewrittenAfter s out) i 0 ≡ getD out i 0
   -- reading what was written gives the same records at the same places
   pub area-again : readArea (take (length s) (rewrittenAfter s out)) ≡ readArea s

@@ -9,7 +9,7 @@ pub enum Area {
     Refused(Error),
 }
 
-// What the hub's reading of an area finds: a zero length may end the records, with zeros alone behind it (the Core, Vol 3 Part C, 11).
+// What the hub's reading of an area finds: a zero length may end the records, with zeros alone after it (the Core, Vol 3 Part C, 11).
 pub enum PaddedArea {
     // The number of records, and how many octets they took.
     Accepted(usize, usize),

@@ -5,11 +5,11 @@ ghost use Prim.Native.Nat.{_≤_};
 pub(crate) enum Fault {
     // A letter that names no request.
     NoRequest,
-    // A letter, and something else than a space behind it.
+    // A letter, and something else than a space after it.
     NoSpace,
     // Something that is no digit, where an octet stands.
     NoNumber,
-    // A digit with none behind it.
+    // A digit with none after it.
     OneDigit,
     // A carriage return.
     Return,

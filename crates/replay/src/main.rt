@@ -1,4 +1,4 @@
-// Reads requests from standard input, one a line, and prints what each comes to. A request is a letter and octets in hexadecimal, of either case, behind a
+// Reads requests from standard input, one a line, and prints what each comes to. A request is a letter and octets in hexadecimal, of either case, after a
 // space; further spaces are for the eye, though not within an octet. Of a number's octets the least one comes first.
 //
 //     a area                             an area: how many records, or why not
@@ -12,7 +12,7 @@
 //     i index                            a data channel: index, RF channel, frequency, start of whitening
 //     m octets 5                         a channel map
 //     h octets 5, unmapped, hop          a hop
-//     q octets 22                        the settings of a connect request, of the octets behind its addresses: window size and offset, interval, latency, timeout, map, hop
+//     q octets 22                        the settings of a connect request, of the octets after its addresses: window size and offset, interval, latency, timeout, map, hop
 //     n address 7                        a new device, for the calls that follow
 //     s time 4, interval 4, room, records    a start with a transmit buffer of `room` octets of FF
 //     t room                             a tick
@@ -22,13 +22,13 @@
 //     y records                          scan data to set
 //     k address 7, room, records         a beacon, made and sent
 //     c CRC, header 2, payload           a scanner that reports all senders: the sender, records and octets that they took, the whole area
-//     #                                  a remark: anything may stand behind it. Its answer is the letter alone, as of `n`
+//     #                                  a remark: anything may stand after it. Its answer is the letter alone, as of `n`
 //
 // Each line of the input is answered by one line, also the last where its line end is missing. The answer of a request begins with its letter; that of an
 // empty line is empty. Any other line changes nothing, and is answered `request 17: ` and what is met first in it, 17 being its number among all lines, from 1:
 //
 //     no such request               it begins with none of these letters
-//     no space behind its letter
+//     no space after its letter
 //     an octet that is no number    something else than a digit or a space
 //     an octet of one digit
 //     a carriage return             before the line end too
@@ -295,7 +295,7 @@ fn named<'a>(out: &mut Page, at: usize, advertisement: &'a [u8], reply: &'a [u8]
     }
 }
 
-// An advertisement of so many octets, and the reply behind it.
+// An advertisement of so many octets, and the reply after it.
 fn two_areas(out: &mut Page, at: usize, size: usize, areas: &[u8]) -> usize {
     named(out, at, start(areas, size), rest(areas, size))
 }
@@ -643,7 +643,7 @@ fn call(d: Device, letter: u8, s: &[u8], lent: &mut [u8]) -> Called {
 
 // Requests
 
-// The device after a request, and the place behind the answer.
+// The device after a request, and the place after the answer.
 struct Step {
     device: Device,
     at: usize,

@@ -1,4 +1,4 @@
-// Printing through a buffer. Each function writes to `out` from the place `at` on, and answers the place behind what it wrote. A full buffer is
+// Printing through a buffer. Each function writes to `out` from the place `at` on, and answers the place after what it wrote. A full buffer is
 // written out on the way. Where that fails, standard error has a line that says so, and the place is `STOPPED` from there on: nothing more is printed.
 use libc::STDOUT_FILENO;
 ghost use mathlib.Core.Path.{_≡_};

@@ -154,7 +154,7 @@ pub record Taking (at : ℕ) (s : List ℕ) (t : Taken) : Type 0 where
 abbrev pub Settles : List ℕ → Type 0
 Settles p = Taking 12 p (takenOf (requestOf p))
 
--- The 22 octets alone, and behind any two addresses.
+-- The 22 octets alone, and after any two addresses.
 pub record Alone (o : List ℕ) : Type 0 where
   pub octets : Taking 0 o (aloneOf o)
   pub addresses : (front : List ℕ) → length front ≡ 12 → takenOf (requestOf (front ++ o)) ≡ aloneOf o

@@ -1,13 +1,13 @@
 // Runs vectors from outside: each channel's whitening octets, CRCs, and the flags of packets as heard. Each line prints what came of one.
 use libc::STDOUT_FILENO;
 use octets::error::Error;
+use octets::error::Outcome;
 use whitening::crc::CRC_POLY;
 use whitening::crc::CRC_PRESET;
 use whitening::crc::crc;
 use whitening::crc::crc_octets;
 use whitening::packet::ACCESS_ADDRESS;
 use whitening::packet::Flag;
-use octets::error::Outcome;
 use whitening::packet::crc_flag;
 use whitening::packet::whiten;
 

@@ -108,7 +108,7 @@ bits-low (suc n) a r = ap₂ (λ (d h : ℕ). eqb d 1 ∷ bits n h) (block-odd a
 pub bits-24 : (x : ℕ) → bits 24 (x % 2 ^ 24) ≡ bits 24 x
 bits-24 x = sym (bits-low 24 (x / 2 ^ 24) (x % 2 ^ 24)) ∙ ap (bits 24) (div-add-mod' x (2 ^ 24))
 
--- the bits of a number behind those of another
+-- the bits of a number after those of another
 abbrev pub more : ℕ → ℕ → ℕ
 more zero m = m
 more (suc n) m = suc (more n m)

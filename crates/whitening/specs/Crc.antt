@@ -5,8 +5,8 @@
 --   crcAfter register bs     == the register after the bits bs
 --   crcRegister start octets == the register after octets
 --   crcOf start octets       == the CRC as a number, position 23 its lowest bit
---   crcOctets start octets   == the three octets that are sent behind octets: position 23 first
---   crcGood start packet     == the last three octets are those that are sent behind the others, whatever the header says
+--   crcOctets start octets   == the three octets that are sent after octets: position 23 first
+--   crcGood start packet     == the last three octets are those that are sent after the others, whatever the header says
 use Prim.Native.Nat.{ℕ, _-_}
 use mathlib.Core.Bool.{Bool, true, false, xor, _&&_}
 use mathlib.Core.List.{List, [], _∷_, reverse}

@@ -79,7 +79,7 @@ unfoldable pub product : List Bool → List Bool
 product [] = replicate 24 false
 product (q ∷ qs) = sum (each q (terms 25 (24 ∷ 10 ∷ 9 ∷ 6 ∷ 4 ∷ 3 ∷ 1 ∷ 0 ∷ [])) ++ replicate (length qs) false) (false ∷ product qs)
 
--- The bits as they are heard and 24 zeros behind them, the start value's 24 bits added to the front, position 23 first: divided by the polynomial, they leave the CRC.
+-- The bits as they are heard and 24 zeros after them, the start value's 24 bits added to the front, position 23 first: divided by the polynomial, they leave the CRC.
 pub record Divides (start : ℕ) (octets : List ℕ) : Type 0 where
   pub quotient : List Bool
   pub size : length quotient ≡ length (heard octets)

@@ -283,7 +283,7 @@ module _ {M : Type 1} (𝓤 : URA M) (H : Heap 𝓤) (A : Atoms 𝓤) (W : Given
         assigns-last ! (bin ! (load ! (from ! (stop !)) (look ! 11 refl)) (lit ! tt) (record { fits = more })) (from ! (stop !)) (store ! 11 refl (tt, record { fits = more })) $
         forget ! 3 refl $ forget ! 7 refl $ again ! (less (now s)) Inv t (turn-on (now s) t e) later-on)))))
       where
-        -- the iterator moved on stands behind the record
+        -- the iterator moved on stands after the record
         past : onward (iter (t .at)) ≡ iter n
         past = ap (λ (r : Read). iter (after (t .at) r)) e
 

@@ -10,7 +10,7 @@ use borrow.Author.Needs.{needs}
 use Rattle.advertising.proofs.pdu_buf.rewrite_behind.Statement.{statement}
 use Rattle.advertising.proofs.pdu_buf.rewrite_behind.Tie as tie
 
--- a part that is all that follows is put back behind the front
+-- a part that is all that follows is put back after the front
 put-rest : (start : ℕ) (xs ys : List ℕ) → start ≤ length xs → putMid start (length xs - start) xs ys ≡ take start xs ++ ys
 put-rest start xs ys h = rw (post-is start (length xs) xs h, drop-length xs, append-nil ys)
 

@@ -1,4 +1,4 @@
--- `records::ad_structure::put_raw` meets its contract: the stores and copies, one behind the other, are one write.
+-- `records::ad_structure::put_raw` meets its contract: the stores and copies, one after the other, are one write.
 -- Assumes nothing.
 use mathlib.Core.Path.{_≡_, refl, ap, _∙_}
 use mathlib.Core.List.{List, [], _∷_, _++_, append-nil}
@@ -15,7 +15,7 @@ use Rattle.octets.proofs.Laws.{set-written, part-written, written-written}
 use Rattle.records.proofs.ad_structure.put_raw.Statement.{statement}
 use Rattle.records.proofs.ad_structure.put_raw.Tie as tie
 
--- what stands after the two stores, and after a copy behind what was written
+-- what stands after the two stores, and after a copy after what was written
 stored : (n ty : ℕ) (out : List ℕ) (at : ℕ) → at + 2 ≤ length out → set (set out at n) (at + 1) ty ≡ written (n ∷ ty ∷ []) out at
 stored n ty out at h =
     let first = set-written n out at (omega arith) in

@@ -26,7 +26,7 @@ loop-holds c = (refl, omega arith, omega arith)
 answered : (c : tie.After-read-record Inv-loop μ-loop) → here (c .before .before .before .args .s .now) (c .before .loop .at) ≡ c .read-record .result
 answered c = sym (c .read-record .ensures ∙ at-here _ _ (c .before .loop .inv .2))
 
--- it reads a record and goes on behind it
+-- it reads a record and goes on after it
 found : (c : tie.After-next Inv-loop μ-loop)
     → here (c .before .before .before .before .before .args .s .now) (c .before .before .before .loop .at) ≡ Record (c .next .given .0 .0) (c .next .given .0 .1 .0)
 found c = answered (c .before .before) ∙ c .next .given .1

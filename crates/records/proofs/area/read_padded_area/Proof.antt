@@ -1,4 +1,4 @@
--- `records::area::read_padded_area` meets its contract, by what stands behind the good records. Assumes nothing.
+-- `records::area::read_padded_area` meets its contract, by what stands after the good records. Assumes nothing.
 use mathlib.Core.Bool.{Bool, cond}
 use mathlib.Core.List.{List}
 use mathlib.Core.Path.{_≡_, sym, ap, subst, _∙_}

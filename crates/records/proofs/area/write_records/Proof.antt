@@ -1,5 +1,5 @@
 -- `records::area::write_records` meets its contract. The loop's invariant: what was written so far, with what rewriting the rest gives, is
--- what is wanted; it ends where the loop stands, and `out` is as it was behind it.
+-- what is wanted; it ends where the loop stands, and `out` is as it was after it.
 -- Assumes nothing.
 use mathlib.Core.Path.{_≡_, refl, sym, ap, _∙_}
 use mathlib.Core.List.{List, [], _++_, append-assoc, append-nil, flatten}

@@ -9,7 +9,7 @@ use Rattle.advertising.specs.Pdu.{requestOf}
 use Rattle.advertising.proofs.pdu.ConnectRequestData.from_octets.Statement.{statement}
 use Rattle.advertising.proofs.pdu.ConnectRequestData.from_octets.Tie as tie
 
--- the 22 octets as the code puts them behind two addresses
+-- the 22 octets as the code puts them after two addresses
 placed-behind : (o : List ℕ) → length o ≡ 22 → outAfter o (replicate 34 0) 12 ≡ replicate 12 0 ++ o
 placed-behind o size = rw size (simp append-nil)
 
