@@ -9,7 +9,7 @@ use lib.Dec.{eqb}
 use Rattle.octets.specs.Error.{numberOf}
 use Rattle.octets.specs.declared.error.Error.{Error}
 use Rattle.records_spec.specs.Record.{knownRead}
-use Rattle.flags.specs.Flags.{named, bit}
+use Rattle.flags.specs.Flags.{named, bitAt}
 use Rattle.records_spec.specs.declared.ad_structure.AdStructure.{AdStructure}
 use Rattle.records_spec.specs.declared.ad_structure.AdStructure.the-variants as ad
 use Rattle.records_spec.specs.declared.ad_structure.NextUuid16.{NextUuid16}
@@ -88,9 +88,9 @@ abbrev pub flagsSaid : ℕ → FlagsSaid
 flagsSaid x =
     record {
       bits = named (named x);
-      classic = eqb (bit 2 (named x)) 0;
-      limited = eqb (bit 0 (named x)) 1;
-      general = eqb (bit 1 (named x)) 1;
-      controller = eqb (bit 3 (named x)) 1;
-      host = eqb (bit 4 (named x)) 1;
+      classic = eqb (bitAt 2 (named x)) 0;
+      limited = eqb (bitAt 0 (named x)) 1;
+      general = eqb (bitAt 1 (named x)) 1;
+      controller = eqb (bitAt 3 (named x)) 1;
+      host = eqb (bitAt 4 (named x)) 1;
     }

@@ -8,14 +8,14 @@ use native.Mathlib.Omega.{arith}
 use lib.Pow.{pow-mono}
 use lib.Dec.{eqb}
 use lib.Bits.{bitAnd, and-mask}
-use Rattle.flags.specs.Flags.{named, bit, NamedBits, digit, withBits, Queries}
+use Rattle.flags.specs.Flags.{named, bitAt, NamedBits, digit, withBits, Queries}
 
 -- the code's mask clears the bits that have no name
 pub masked : (b : ℕ) → bitAnd b 31 ≡ named b
 unfolding named
 masked b = and-mask b 5
 
-kept : (x b : ℕ) → b < 5 → bit b (x % 32) ≡ bit b x
+kept : (x b : ℕ) → b < 5 → bitAt b (x % 32) ≡ bitAt b x
 kept x zero h = omega arith
 kept x (suc zero) h = omega arith
 kept x (suc (suc zero)) h = omega arith
@@ -23,7 +23,7 @@ kept x (suc (suc (suc zero))) h = omega arith
 kept x (suc (suc (suc (suc zero)))) h = omega arith
 kept x (suc (suc (suc (suc (suc b))))) h = absurd (omega arith)
 
-cleared : (x b : ℕ) → 5 ≤ b → bit b (x % 32) ≡ 0
+cleared : (x b : ℕ) → 5 ≤ b → bitAt b (x % 32) ≡ 0
 cleared x b h =
     let wide : 2 ^ 5 ≤ 2 ^ b = pow-mono h in
     let small : x % 32 < 2 ^ b = omega arith in

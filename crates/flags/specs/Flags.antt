@@ -1,5 +1,5 @@
 -- The octet of Flags: its five bits that have a name in the Rust `Flags`, and what is asked of them (the Supplement, Part A, 1.3).
---   named x, bit b x                     == an octet of Flags without the bits that have no name; bit b of x, 0 or 1
+--   named x, bitAt b x                   == an octet of Flags without the bits that have no name; bitAt b of x, 0 or 1
 --   limitedDiscoverable, generalDiscoverable, supportsClassic, bothByController, bothByHost   == what bits 0 to 4 say
 --   discoverableFlags, broadcastFlags   == the octet of a start, and that of a beacon
 --   NamedBits x                         == `named x` keeps these five bits of x, and no other
@@ -14,27 +14,27 @@ use lib.Dec.{eqb}
 unfoldable pub named : ℕ → ℕ
 named x = x % 32
 
-abbrev pub bit : ℕ → ℕ → ℕ
-bit b x = x / 2 ^ b % 2
+abbrev pub bitAt : ℕ → ℕ → ℕ
+bitAt b x = x / 2 ^ b % 2
 
 -- LE Limited Discoverable Mode
 abbrev pub limitedDiscoverable : ℕ → Bool
-limitedDiscoverable x = eqb (bit 0 x) 1
+limitedDiscoverable x = eqb (bitAt 0 x) 1
 
 -- LE General Discoverable Mode
 abbrev pub generalDiscoverable : ℕ → Bool
-generalDiscoverable x = eqb (bit 1 x) 1
+generalDiscoverable x = eqb (bitAt 1 x) 1
 
 -- BR/EDR Not Supported
 abbrev pub supportsClassic : ℕ → Bool
-supportsClassic x = eqb (bit 2 x) 0
+supportsClassic x = eqb (bitAt 2 x) 0
 
 -- Simultaneous LE and BR/EDR to Same Device Capable: the controller, and the host
 abbrev pub bothByController : ℕ → Bool
-bothByController x = eqb (bit 3 x) 1
+bothByController x = eqb (bitAt 3 x) 1
 
 abbrev pub bothByHost : ℕ → Bool
-bothByHost x = eqb (bit 4 x) 1
+bothByHost x = eqb (bitAt 4 x) 1
 
 abbrev pub discoverableFlags : ℕ
 discoverableFlags = 0x06
@@ -43,8 +43,8 @@ abbrev pub broadcastFlags : ℕ
 broadcastFlags = 0x04
 
 pub record NamedBits (x : ℕ) : Type 0 where
-  pub kept : (b : ℕ) → b < 5 → bit b (named x) ≡ bit b x
-  pub cleared : (b : ℕ) → 5 ≤ b → bit b (named x) ≡ 0
+  pub kept : (b : ℕ) → b < 5 → bitAt b (named x) ≡ bitAt b x
+  pub cleared : (b : ℕ) → 5 ≤ b → bitAt b (named x) ≡ 0
 
 abbrev pub digit : Bool → ℕ
 digit b = cond b 1 0

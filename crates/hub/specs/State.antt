@@ -1,7 +1,7 @@
 -- A hub and what its calls return, read as records of the specification: the contracts of src/ say of each which record it is.
---   hubState h                     == the hub h, whose fields are private
---   loggedStep, turnStep, takenStep == what logging items, a turn and taking octets in return
---   Whole                          == these leave nothing out: what is read as the same is the same
+--   hubState h                       == the hub h, whose fields are private
+--   loggedStep, blockStep, takenStep == what logging items, a block and taking octets in return
+--   Whole                            == these leave nothing out: what is read as the same is the same
 use mathlib.Core.Path.{_≡_}
 use Rattle.beacon.specs.State.{scannerState}
 use Rattle.hub_spec.specs.State as spec
@@ -9,7 +9,7 @@ use Rattle.hub.specs.declared.Hub.{Hub}
 use Rattle.hub.specs.declared.Logged.{Logged}
 use Rattle.hub.specs.declared.TakenIn.{TakenIn}
 use Rattle.hub.specs.declared.TakenIn.the-variants as code
-use Rattle.hub.specs.declared.Turn.{Turn}
+use Rattle.hub.specs.declared.Block.{Block}
 
 abbrev pub hubState : Hub → spec.Hub
 hubState h = record { items = h .items; reports = h .reports; scanner = scannerState (h .scanner) }
@@ -17,14 +17,14 @@ hubState h = record { items = h .items; reports = h .reports; scanner = scannerS
 abbrev pub loggedStep : Logged → spec.Logged
 loggedStep r = record { hub = hubState (r .hub); taken = r .taken; written = r .written }
 
-abbrev pub turnStep : Turn → spec.Turn
-turnStep r = record { hub = hubState (r .hub); written = r .written; kept = r .kept; «is_stopped» = r .«is_stopped» }
+abbrev pub blockStep : Block → spec.Block
+blockStep r = record { hub = hubState (r .hub); written = r .written; kept = r .kept; «is_stopped» = r .«is_stopped» }
 
 abbrev pub takenStep : TakenIn → spec.TakenIn
-takenStep (code.Turn t) = spec.turned (turnStep t)
+takenStep (code.Block t) = spec.block (blockStep t)
 takenStep code.Refused = spec.refused
 
 pub record Whole : Type 0 where
   pub hub : (a b : Hub) → hubState a ≡ hubState b → a ≡ b
-  pub turn : (a b : Turn) → turnStep a ≡ turnStep b → a ≡ b
+  pub block : (a b : Block) → blockStep a ≡ blockStep b → a ≡ b
   pub taken : (a b : TakenIn) → takenStep a ≡ takenStep b → a ≡ b

@@ -10,8 +10,8 @@ ghost use Rattle.columns.specs.Column.{leading, column};
 ghost use Rattle.columns.specs.Table.{octetColumns};
 ghost use Rattle.beacon.specs.State.{scannerState, scanStep};
 ghost use Rattle.hub_spec.specs.Line.{reportLine, line, reportsIn, lineSize, lastSize, roomFor, SentIn};
-ghost use Rattle.hub_spec.specs.Log.{start, heardIn, scannerAfter, leftOver, lastLine, fresh, isStuck, loggedOf, turnOf, RunCounts, isReady, takenIn, restIn, linesIn, restAfter, linesAfter};
-ghost use Rattle.hub.specs.State.{hubState, loggedStep, turnStep, takenStep};
+ghost use Rattle.hub_spec.specs.Log.{start, heardIn, scannerAfter, leftOver, lastLine, fresh, isStuck, loggedOf, blockOf, RunCounts, isReady, takenIn, restIn, linesIn, restAfter, linesAfter};
+ghost use Rattle.hub.specs.State.{hubState, loggedStep, blockStep, takenStep};
 use addresses::device_address::DeviceAddress;
 use addresses::header::Header;
 use addresses::header::HeaderMade;
@@ -48,7 +48,7 @@ struct Logged {
 }
 
 // What taking in the octets that a read brought did.
-pub struct Turn {
+pub struct Block {
     pub hub: Hub,
     // The octets of the lines.
     pub written: usize,
@@ -58,9 +58,9 @@ pub struct Turn {
     pub is_stopped: bool,
 }
 
-// A turn, or none: the buffer has fewer octets than it is said to hold, there is too little room for lines, or no run counts as this hub does.
+// A block, or none: the buffer has fewer octets than it is said to hold, there is too little room for lines, or no run counts as this hub does.
 pub enum TakenIn {
-    Turn(Turn),
+    Block(Block),
     Refused,
 }
 
@@ -347,9 +347,9 @@ fn keep(buf: &mut [u8], from: usize, end: usize)
 }
 
 // `take_in` where all is ready.
-fn take_turn(hub: Hub, buf: &mut [u8], filled: usize, out: &mut [u8]) -> Turn
+fn take_block(hub: Hub, buf: &mut [u8], filled: usize, out: &mut [u8]) -> Block
     requires { ⌜ RunCounts (hubState hub) × ((filled ≤ length (now buf)) × (roomFor filled ≤ length (now out))) ⌝ }
-    ensures { λ r. ⌜ (turnStep r ≡ turnOf (hubState hub) (take filled (now (buf .entry)))) × ((now (buf .exit) ≡ restIn (hubState hub) (now (buf .entry)) filled) × (now (out .exit) ≡ linesIn (hubState hub) (take filled (now (buf .entry))) (now (out .entry)))) ⌝ }
+    ensures { λ r. ⌜ (blockStep r ≡ blockOf (hubState hub) (take filled (now (buf .entry)))) × ((now (buf .exit) ≡ restIn (hubState hub) (now (buf .entry)) filled) × (now (out .exit) ≡ linesIn (hubState hub) (take filled (now (buf .entry))) (now (out .entry)))) ⌝ }
 {
     let table = columns::octets();
     let logged = log_items(&table, hub, &buf[..filled], out);
@@ -357,7 +357,7 @@ fn take_turn(hub: Hub, buf: &mut [u8], filled: usize, out: &mut [u8]) -> Turn
     let taken = logged.taken;
     let is_stopped = is_stuck(after.items, &buf[taken..filled]);
     keep(buf, taken, filled);
-    Turn {
+    Block {
         hub: after,
         written: logged.written,
         kept: filled - taken,
@@ -419,7 +419,7 @@ impl Hub {
         ensures { λ r. ⌜ (takenStep r ≡ takenIn (hubState self) (now (buf .entry)) filled (now (out .entry))) × ((now (buf .exit) ≡ restAfter (hubState self) (now (buf .entry)) filled (now (out .entry))) × (now (out .exit) ≡ linesAfter (hubState self) (now (buf .entry)) filled (now (out .entry)))) ⌝ }
     {
         if self.is_ready(filled, buf.len(), out.len()) {
-            return TakenIn::Turn(take_turn(self, buf, filled, out));
+            return TakenIn::Block(take_block(self, buf, filled, out));
         }
         TakenIn::Refused
     }

@@ -1,4 +1,4 @@
--- However an input is cut into reads, the log of the input is written: `any-reads`; and what a turn leaves for the next: `turning`. Assumes nothing.
+-- However an input is cut into reads, the log of the input is written: `any-reads`; and what a block leaves for the next: `block-taken`. Assumes nothing.
 use mathlib.Core.Path.{_≡_, refl, sym, ap, _∙_}
 use mathlib.Core.Logic.{⊎-elim}
 use mathlib.Core.Bool.{Bool, true, false, cond, true≢false, _&&_}
@@ -14,7 +14,7 @@ use Rattle.hub_spec.specs.Line.{lineSize, reportsIn, roomFor}
 use Rattle.octets.proofs.Places.{both-true}
 use Rattle.items.specs.Item.{sizeOf, wholeSize, items, behind}
 use Rattle.hub_spec.specs.Log.{mostItems, heardIn, after, afterAll, printed, printedAll, itemsFor, linesOf, hubOf, restOf, isStuck, fresh, lastLine, logOf, isReady}
-use Rattle.hub_spec.specs.Reads.{writtenFor, AnyReads, Ready, Turning}
+use Rattle.hub_spec.specs.Reads.{writtenFor, AnyReads, Ready, BlockTaken}
 use Rattle.items.proofs.Items.{none-whole, one-whole, none-left, none-more, no-size, begun, at-front, items-fit, items-more, behind-more}
 use Rattle.hub_spec.proofs.Reports.{line-size, line-room, one-report}
 
@@ -178,8 +178,8 @@ rest-all : (h : Hub) (s : List ℕ) → length (flatten (itemsFor h s)) + length
 unfolding behind
 rest-all h s = rw length-drop (omega (arith, items-fit (mostItems - h .items) s))
 
-pub turning : (h : Hub) (s : List ℕ) → Turning h s
-turning h s =
+pub block-taken : (h : Hub) (s : List ℕ) → BlockTaken h s
+block-taken h s =
     record {
       accepted = λ buf filled out all. simp (ready h buf filled out all);
       refused = λ buf filled out not-all. let is = unready h buf filled out not-all in (simp is, (simp is, simp is));

@@ -38,7 +38,7 @@ use Rattle.hub_spec.specs.Log.{mostItems, start, isCrcGood, heardIn, sca
 use Rattle.hub_spec.specs.Reported as spec
 use Rattle.hub_spec.specs.Reported.{reportWidths, lastWidths, lineEach, IsReported, Prints, TickCount, Rows, Reported, Continued, Rowed, Added, Stopping}
 use Rattle.hub_spec.specs.State.{Hub}
-use Rattle.hub_spec.proofs.AnyReads.{counted, items-most, turning}
+use Rattle.hub_spec.proofs.AnyReads.{counted, items-most, block-taken}
 use Rattle.hub_spec.proofs.Fitting.{octets-in, rows-fit, lines-read, lines-size}
 use Rattle.hub_spec.proofs.Reports.{is-beacon}
 
@@ -326,7 +326,7 @@ reported s =
     let log : logOf s ≡ lineEach (all .rows) ++ last = rw (all .lines, last-is end (length (behind its s)), size, sum) refl in
     let fit : Octets s → AllFit reportWidths (all .rows) = all .fit (omega arith, omega arith) in
     let last-fits : Fits lastWidths (length its ∷ length (all .rows) ∷ flag ∷ []) =
-    rw (size, sum) at (rowed end 0 .last-fits (turning fresh s .counted (omega arith, omega arith)) flag (over-one (length (behind its s)))) in
+    rw (size, sum) at (rowed end 0 .last-fits (block-taken fresh s .counted (omega arith, omega arith)) flag (over-one (length (behind its s)))) in
     record {
       rows = all .rows;
       flag = flag;

@@ -19,7 +19,7 @@ use Rattle.records_spec.specs.Record.{first, flagsRead, dataRead, upTo, recordR
 use Rattle.flags.specs.Flags.{named}
 use Rattle.hub_spec.specs.Line.{lineSize, reportLine, line, reportsIn}
 use Rattle.hub_spec.specs.Log.{mostItems, heardIn, scannerAfter, after, printed, afterAll, printedAll, lastLine, fresh, logOf}
-use Rattle.hub_spec.specs.Sample.{beacon, badBeacon, paddedBeacon, unendedBeacon, longPacket, shortBeacon, sixItems, turnItems, Sample, JustRoom}
+use Rattle.hub_spec.specs.Sample.{beacon, badBeacon, paddedBeacon, unendedBeacon, longPacket, shortBeacon, sixItems, tickItems, Sample, JustRoom}
 
 -- step by step: computing `items` would unfold it 999,999 times
 both : items mostItems (0x00 ∷ beacon) ≡ (0x00 ∷ []) ∷ beacon ∷ []
@@ -74,13 +74,13 @@ each-found (item ∷ its) n rest all =
     let one-more : length (item ∷ its) + n ≡ suc (length its + n) = omega arith in
     rw (one-more, append-assoc) (falls (length its + n) [] .found item (flatten its ++ rest) (all .0) ∙ ap (λ (l : List (List ℕ)). item ∷ l) (each-found its n rest (all .1)))
 
-turned : items mostItems (flatten turnItems) ≡ turnItems
+ticked-items : items mostItems (flatten tickItems) ≡ tickItems
 unfolding sizeOf wholeSize
-turned =
-    ap (items mostItems) (sym (append-nil (flatten turnItems)))
-    ∙ each-found turnItems (mostItems - 11) []
+ticked-items =
+    ap (items mostItems) (sym (append-nil (flatten tickItems)))
+    ∙ each-found tickItems (mostItems - 11) []
     (packet _ _ _ _ (inl refl) refl, (tick, (packet _ _ _ _ (inl refl) refl, (tick, (packet _ _ _ _ (inr refl) refl, (tick, (packet _ _ _ _ (inl refl) refl, (packet _ _ _ _ (inl refl) refl, (tick, (tick, (packet _ _ _ _ (inl refl) refl, tt)))))))))))
-    ∙ ap (λ (l : List (List ℕ)). turnItems ++ l) (none-whole (mostItems - 11) [] refl)
+    ∙ ap (λ (l : List (List ℕ)). tickItems ++ l) (none-whole (mostItems - 11) [] refl)
 
 six : items mostItems (flatten sixItems ++ (0x03 ∷ [])) ≡ sixItems
 unfolding sizeOf wholeSize
@@ -103,7 +103,7 @@ sample =
       broken = rw broken-item;
       cut-short = rw cut-item;
       six-items = rw six;
-      turns = rw turned;
+      channels = rw ticked-items;
     }
 
 -- short beacons, one behind the other

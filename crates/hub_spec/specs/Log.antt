@@ -11,7 +11,7 @@
 --   logOf s                     == THE LOG of the input s; specs/Reported says what is in it, in the papers' words
 --   itemsFor, linesOf, hubOf, restOf h s    == of octets s that a hub h takes in: the whole items, their lines, the hub after them, what is left over
 --   isStuck n s                 == after n items, no octets that follow s make an item of it
---   turnOf h s                  == what taking in s answers
+--   blockOf h s                 == what taking in s answers
 --   Sizes                       == how long lines are (Pieces.sizes)
 use mathlib.Core.Path.{_≡_}
 use Prim.Native.Nat.{ℕ, _+_, _-_, _≤_}
@@ -31,7 +31,7 @@ use Rattle.beacon_spec.specs.declared.beacon.Report.the-variants as report
 use Rattle.columns.specs.Column.{column}
 use Rattle.items.specs.Item.{items, behind}
 use Rattle.hub_spec.specs.Line.{reportLine, line, reportsIn, lineSize, lastSize, roomFor}
-use Rattle.hub_spec.specs.State.{Hub, Logged, TakenIn, Turn}
+use Rattle.hub_spec.specs.State.{Hub, Logged, TakenIn, Block}
 use Rattle.hub_spec.specs.State as taken
 
 -- reading stops "beyond 999,999"
@@ -114,8 +114,8 @@ isStuck count (first ∷ rest) = cond (leb mostItems count) true (ltb 2 first)
 abbrev pub loggedOf : Hub → List ℕ → Logged
 loggedOf h s = record { hub = hubOf h s; taken = length (flatten (itemsFor h s)); written = length (linesOf h s) }
 
-abbrev pub turnOf : Hub → List ℕ → Turn
-turnOf h s =
+abbrev pub blockOf : Hub → List ℕ → Block
+blockOf h s =
     record {
       hub = hubOf h s;
       written = length (linesOf h s);
@@ -140,7 +140,7 @@ linesIn h s out = linesOf h s ++ drop (length (linesOf h s)) out
 
 -- what `take_in` answers, and what the two buffers hold then
 abbrev pub takenIn : Hub → List ℕ → ℕ → List ℕ → TakenIn
-takenIn h buf filled out = cond (isReady h filled (length buf) (length out)) (taken.turned (turnOf h (take filled buf))) taken.refused
+takenIn h buf filled out = cond (isReady h filled (length buf) (length out)) (taken.block (blockOf h (take filled buf))) taken.refused
 
 abbrev pub restAfter : Hub → List ℕ → ℕ → List ℕ → List ℕ
 restAfter h buf filled out = cond (isReady h filled (length buf) (length out)) (restIn h buf filled) buf

@@ -2,7 +2,7 @@
 --   beacon, badBeacon               == the sample's packet, and the same CRC-bad
 --   paddedBeacon, unendedBeacon     == a beacon with zeros behind its record, and with another octet at their end
 --   shortBeacon, longPacket         == a beacon without records, and a packet that is none
---   sixItems, turnItems             == items with reports among them, and with ticks between reports
+--   sixItems, tickItems             == items with reports among them, and with ticks between reports
 --   oneItem, brokenAtOnce           == the logs of one item that is not reported, and of an input whose first item is broken
 --   Sample                          == the logs of these (Samples.sample)
 --   JustRoom k                      == no less room than `roomFor` says would do for the lines of k short beacons (Samples.just-room)
@@ -58,8 +58,8 @@ sixItems =
     ∷ []
 
 -- five beacons: a tick before the second, two before the third with a CRC-bad packet between them, none before the fourth, two before the last
-abbrev pub turnItems : List (List ℕ)
-turnItems =
+abbrev pub tickItems : List (List ℕ)
+tickItems =
     beacon
     ∷ (0x00 ∷ [])
     ∷ beacon
@@ -109,8 +109,8 @@ pub record Sample : Type 0 where
       ∷ 32 ∷ 32 ∷ 32 ∷ 32 ∷ 32 ∷ 54 ∷ 32 ∷ 32 ∷ 32 ∷ 32 ∷ 32 ∷ 51 ∷ 32 ∷ 49 ∷ 10 ∷ []
   -- the channel (Note 7): 37 before any tick, 38, 37 after two ticks between which a packet was heard and not reported, 37 still, and 39 after two ticks
   -- between which nothing was heard: "     1 37 1   1   2   3   4   5 198  1", "     3 38 1 ..", "     7 37 1 ..", "     8 37 1 ..", "    11 39 1 .." and "    11     5 0"
-  pub turns :
-      logOf (flatten turnItems)
+  pub channels :
+      logOf (flatten tickItems)
       ≡ 32 ∷ 32 ∷ 32 ∷ 32 ∷ 32 ∷ 49 ∷ 32 ∷ 51 ∷ 55 ∷ 32 ∷ 49 ∷ 32 ∷ 32 ∷ 32 ∷ 49 ∷ 32 ∷ 32 ∷ 32 ∷ 50 ∷ 32 ∷ 32 ∷ 32 ∷ 51 ∷ 32 ∷ 32 ∷ 32 ∷ 52 ∷ 32 ∷ 32 ∷ 32 ∷ 53 ∷ 32 ∷ 49 ∷ 57 ∷ 56 ∷ 32 ∷ 32 ∷ 49 ∷ 10
       ∷ 32 ∷ 32 ∷ 32 ∷ 32 ∷ 32 ∷ 51 ∷ 32 ∷ 51 ∷ 56 ∷ 32 ∷ 49 ∷ 32 ∷ 32 ∷ 32 ∷ 49 ∷ 32 ∷ 32 ∷ 32 ∷ 50 ∷ 32 ∷ 32 ∷ 32 ∷ 51 ∷ 32 ∷ 32 ∷ 32 ∷ 52 ∷ 32 ∷ 32 ∷ 32 ∷ 53 ∷ 32 ∷ 49 ∷ 57 ∷ 56 ∷ 32 ∷ 32 ∷ 49 ∷ 10
       ∷ 32 ∷ 32 ∷ 32 ∷ 32 ∷ 32 ∷ 55 ∷ 32 ∷ 51 ∷ 55 ∷ 32 ∷ 49 ∷ 32 ∷ 32 ∷ 32 ∷ 49 ∷ 32 ∷ 32 ∷ 32 ∷ 50 ∷ 32 ∷ 32 ∷ 32 ∷ 51 ∷ 32 ∷ 32 ∷ 32 ∷ 52 ∷ 32 ∷ 32 ∷ 32 ∷ 53 ∷ 32 ∷ 49 ∷ 57 ∷ 56 ∷ 32 ∷ 32 ∷ 49 ∷ 10

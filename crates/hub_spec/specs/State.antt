@@ -1,8 +1,8 @@
 -- A hub, and what its calls return. The structs of these names in hub, whose fields are private, are read as these records (specs/State.antt there).
 --   Hub         == what the hub has counted, and the scanner that it listens with
 --   Logged      == what logging the items of a block did: the hub, the octets of the whole items, and the octets of the lines
---   Turn        == what taking in the octets that a read brought did
---   TakenIn     == a turn, or none: the buffer has fewer octets than it is said to hold, there is too little room for lines, or no run counts as this hub does
+--   Block       == what taking in the octets that a read brought did
+--   TakenIn     == a block, or none: the buffer has fewer octets than it is said to hold, there is too little room for lines, or no run counts as this hub does
 use mathlib.Core.Bool.{Bool}
 use Prim.Native.Nat.{ℕ}
 use Rattle.beacon_spec.specs.State.{BeaconScanner}
@@ -18,12 +18,12 @@ pub record Logged : Type 0 where
   pub written : ℕ
 
 -- the octets of the lines; the octets that are left over, at the front of the buffer; no octets that may follow change the log
-pub record Turn : Type 0 where
+pub record Block : Type 0 where
   pub hub : Hub
   pub written : ℕ
   pub kept : ℕ
   pub «is_stopped» : Bool
 
 pub data TakenIn : Type 0 where
-  turned : Turn → TakenIn
+  block : Block → TakenIn
   refused : TakenIn

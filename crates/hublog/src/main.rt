@@ -3,18 +3,18 @@
 // A read or a write that fails ends the run. Nothing is printed after it but a line on standard error, which has the item.
 mod say;
 
+use hub::Block;
 use hub::Hub;
 use hub::TakenIn;
-use hub::Turn;
 use libc::STDIN_FILENO;
 use libc::STDOUT_FILENO;
 ghost use mathlib.Core.Path.{_≡_};
 ghost use mathlib.Core.Bool.{false};
 ghost use Prim.Native.Nat.{_≤_};
 ghost use lib.ListN.{length, take};
-ghost use Rattle.hub.specs.State.{hubState, turnStep};
+ghost use Rattle.hub.specs.State.{hubState, blockStep};
 ghost use Rattle.hub_spec.specs.Line.{roomFor};
-ghost use Rattle.hub_spec.specs.Log.{restOf, turnOf, RunCounts};
+ghost use Rattle.hub_spec.specs.Log.{restOf, blockOf, RunCounts};
 ghost use Rattle.hub_spec.specs.Reads.{Next};
 
 // How many octets a buffer holds after a read, or how many of its octets are written after a write.
@@ -23,9 +23,9 @@ struct Moved {
     is_failed: bool,
 }
 
-// A turn, and whether its read or its write failed.
+// A block, and whether its read or its write failed.
 struct Step {
-    turn: Turn,
+    block: Block,
     is_failed: bool,
 }
 
@@ -111,17 +111,17 @@ fn write_out(s: &[u8]) -> Moved
 // Takes in the first `filled` octets, and writes their lines. What is left over of them stands at the front of `buf` then.
 fn log_read(hub: Hub, buf: &mut [u8], filled: usize, out: &mut [u8]) -> Step
     requires { ⌜ RunCounts (hubState hub) × ((filled ≤ length (now buf)) × (roomFor filled ≤ length (now out))) ⌝ }
-    ensures { λ r. ⌜ (turnStep (r .turn) ≡ turnOf (hubState hub) (take filled (now (buf .entry)))) × (take (r .turn .kept) (now (buf .exit)) ≡ restOf (hubState hub) (take filled (now (buf .entry)))) ⌝ }
+    ensures { λ r. ⌜ (blockStep (r .block) ≡ blockOf (hubState hub) (take filled (now (buf .entry)))) × (take (r .block .kept) (now (buf .exit)) ≡ restOf (hubState hub) (take filled (now (buf .entry)))) ⌝ }
 {
     match hub.take_in(buf, filled, out) {
-        TakenIn::Turn(turn) => {
-            let written = turn.written;
+        TakenIn::Block(block) => {
+            let written = block.written;
             let is_failed = !log_lines(&out[..written]);
-            Step { turn, is_failed }
+            Step { block, is_failed }
         }
         // The proof shows that this does not happen.
         TakenIn::Refused => Step {
-            turn: no_turn(hub, 0, true),
+            block: no_block(hub, 0, true),
             is_failed: true,
         },
     }
@@ -150,11 +150,11 @@ fn log_last(hub: Hub, kept: usize) {
     }
 }
 
-// A turn that takes nothing in, where `kept` octets are left over.
-fn no_turn(hub: Hub, kept: usize, is_stopped: bool) -> Turn
+// A block of which nothing is taken in, where `kept` octets are left over.
+fn no_block(hub: Hub, kept: usize, is_stopped: bool) -> Block
     ensures { λ r. ⌜ (r .hub ≡ hub) × (r .kept ≡ kept) ⌝ }
 {
-    Turn {
+    Block {
         hub,
         written: 0,
         kept,
@@ -162,28 +162,28 @@ fn no_turn(hub: Hub, kept: usize, is_stopped: bool) -> Turn
     }
 }
 
-// A read that failed. One that a signal interrupted brought nothing, and the next turn reads again.
+// A read that failed. One that a signal interrupted brought nothing, and the next read tries again.
 fn unread(hub: Hub, kept: usize) -> Step
-    ensures { λ r. ⌜ (r .turn .hub ≡ hub) × (r .turn .kept ≡ kept) ⌝ }
+    ensures { λ r. ⌜ (r .block .hub ≡ hub) × (r .block .kept ≡ kept) ⌝ }
 {
     if os::errno() == libc::EINTR {
         return Step {
-            turn: no_turn(hub, kept, false),
+            block: no_block(hub, kept, false),
             is_failed: false,
         };
     }
     let line = hub.last_line(kept);
     say::fail(b"hublog: reading failed after item ", &line, 0);
     Step {
-        turn: no_turn(hub, kept, true),
+        block: no_block(hub, kept, true),
         is_failed: true,
     }
 }
 
 // Reads once, and writes the lines. The end of the input stops reading too.
-fn next_turn(hub: Hub, kept: usize, buf: &mut [u8], out: &mut [u8]) -> Step
+fn next_block(hub: Hub, kept: usize, buf: &mut [u8], out: &mut [u8]) -> Step
     requires { ⌜ RunCounts (hubState hub) × ((kept ≤ length (now buf)) × (roomFor (length (now buf)) ≤ length (now out))) ⌝ }
-    ensures { λ r. ⌜ (RunCounts (hubState (r .turn .hub)) × (r .turn .kept ≤ length (now (buf .entry)))) × Next (hubState hub) (take kept (now (buf .entry))) (turnStep (r .turn)) (take (r .turn .kept) (now (buf .exit))) ⌝ }
+    ensures { λ r. ⌜ (RunCounts (hubState (r .block .hub)) × (r .block .kept ≤ length (now (buf .entry)))) × Next (hubState hub) (take kept (now (buf .entry))) (blockStep (r .block)) (take (r .block .kept) (now (buf .exit))) ⌝ }
 {
     let read = read_more(buf, kept);
     if read.is_failed {
@@ -192,30 +192,30 @@ fn next_turn(hub: Hub, kept: usize, buf: &mut [u8], out: &mut [u8]) -> Step
     let filled = read.upto;
     if filled == kept {
         return Step {
-            turn: no_turn(hub, kept, true),
+            block: no_block(hub, kept, true),
             is_failed: false,
         };
     }
     log_read(hub, buf, filled, out)
 }
 
-// A proved loop has to end, and nothing says that the input does. So the loop counts its turns down, from a number that no run uses up.
+// A proved loop has to end, and nothing says that the input does. So the loop counts its reads down, from a number that no run uses up.
 fn log_all(buf: &mut [u8], out: &mut [u8])
     requires { ⌜ roomFor (length (now buf)) ≤ length (now out) ⌝ }
 {
     let mut hub = Hub::new();
     let mut kept = 0;
-    let mut turns = u64::MAX;
-    while 0 < turns {
-        turns -= 1;
-        let step = next_turn(hub, kept, buf, out);
-        let turn = step.turn;
-        hub = turn.hub;
-        kept = turn.kept;
+    let mut reads = u64::MAX;
+    while 0 < reads {
+        reads -= 1;
+        let step = next_block(hub, kept, buf, out);
+        let block = step.block;
+        hub = block.hub;
+        kept = block.kept;
         if step.is_failed {
             return;
         }
-        if turn.is_stopped {
+        if block.is_stopped {
             log_last(hub, kept);
             return;
         }

@@ -134,10 +134,10 @@ loop-holds c =
       all-octets = omega arith;
     }
 
--- a turn that takes an item
-turn : (c : tie.Else1 Inv-loop μ-loop)
+-- a round that takes an item
+round : (c : tie.Else1 Inv-loop μ-loop)
     → c .before .before .before .loop .at + c .before .whole-size .result ≤ length (c .before .before .before .before .before .before .before .before .args .s .now)
-turn c =
+round c =
     let at-loop = c .before .before .before in
     fits (at-loop .loop .inv) (at-loop .before .before .before .before .before .pre .1 .1) _ (c .before .whole-size .ensures) (c .before .before .loop-test .taken) (c .if1 .left)
 
@@ -149,7 +149,7 @@ log-item-requires c κs =
     let at-test = c .before .before in
     let at-loop = at-test .before .before .before in
     let start = at-loop .before .before .before .before .before in
-    (start .pre .0, simp (length-take, length-drop, same at-loop) (omega (arith, turn at-test, at-loop .loop .inv .room, start .pre .1 .1)))
+    (start .pre .0, simp (length-take, length-drop, same at-loop) (omega (arith, round at-test, at-loop .loop .inv .room, start .pre .1 .1)))
 
 -- what the item's line adds
 added : (c : tie.After-log-item Inv-loop μ-loop) → c .log-item .result ≤ 1
@@ -178,11 +178,11 @@ log-items-spec =
     μ-loop
     loop-holds
     (λ c κs. search needs)
-    (λ c. omega (arith, turn c))
+    (λ c. omega (arith, round c))
     (λ c. omega arith)
     (λ c. omega arith)
-    (λ c. omega (arith, turn c))
-    (λ c. omega (arith, turn c))
+    (λ c. omega (arith, round c))
+    (λ c. omega (arith, round c))
     log-item-requires
     (λ c. omega (arith, added (c .before .before), c .before .before .before .before .before .before .before .before .loop .inv .counted))
     (λ c κs. search needs)

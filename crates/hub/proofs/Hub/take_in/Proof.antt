@@ -5,8 +5,8 @@ use mathlib.Core.List.{List}
 use Prim.Native.Nat.{ℕ}
 use lib.ListN.{length, take}
 use borrow.Author.Needs.{needs}
-use Rattle.hub_spec.specs.Log.{turnOf, isReady, restIn, linesIn, takenIn, restAfter, linesAfter}
-use Rattle.hub_spec.specs.State.{Hub, TakenIn, Turn}
+use Rattle.hub_spec.specs.Log.{blockOf, isReady, restIn, linesIn, takenIn, restAfter, linesAfter}
+use Rattle.hub_spec.specs.State.{Hub, TakenIn, Block}
 use Rattle.hub_spec.specs.State as taken
 use Rattle.hub_spec.proofs.AnyReads.{all-ready}
 use Rattle.hub.specs.State.{hubState}
@@ -21,19 +21,19 @@ module _ (h : Hub) (buf : List ℕ) (filled : ℕ) (out : List ℕ) where
   Takes : TakenIn → List ℕ → List ℕ → Type 0
   Takes r buf′ out′ = (r ≡ takenIn h buf filled out) × ((buf′ ≡ restAfter h buf filled out) × (out′ ≡ linesAfter h buf filled out))
 
-  turned : {t : Turn} {buf′ out′ : List ℕ} → ready ≡ true → (t ≡ turnOf h (take filled buf)) × ((buf′ ≡ restIn h buf filled) × (out′ ≡ linesIn h (take filled buf) out))
-      → Takes (taken.turned t) buf′ out′
+  took : {t : Block} {buf′ out′ : List ℕ} → ready ≡ true → (t ≡ blockOf h (take filled buf)) × ((buf′ ≡ restIn h buf filled) × (out′ ≡ linesIn h (take filled buf) out))
+      → Takes (taken.block t) buf′ out′
   unfolding Takes
-  turned is e =
-      (ap taken.turned (e .0) ∙ ap (λ (b : Bool). cond b (taken.turned (turnOf h (take filled buf))) taken.refused) (sym is), (e .1 .0 ∙ ap (λ (b : Bool). cond b (restIn h buf filled) buf) (sym is), e .1 .1 ∙ ap (λ (b : Bool). cond b (linesIn h (take filled buf) out) out) (sym is)))
+  took is e =
+      (ap taken.block (e .0) ∙ ap (λ (b : Bool). cond b (taken.block (blockOf h (take filled buf))) taken.refused) (sym is), (e .1 .0 ∙ ap (λ (b : Bool). cond b (restIn h buf filled) buf) (sym is), e .1 .1 ∙ ap (λ (b : Bool). cond b (linesIn h (take filled buf) out) out) (sym is)))
 
   refused : ready ≡ false → Takes taken.refused buf out
   unfolding Takes
   refused is =
-      (ap (λ (b : Bool). cond b (taken.turned (turnOf h (take filled buf))) taken.refused) (sym is), (ap (λ (b : Bool). cond b (restIn h buf filled) buf) (sym is), ap (λ (b : Bool). cond b (linesIn h (take filled buf) out) out) (sym is)))
+      (ap (λ (b : Bool). cond b (taken.block (blockOf h (take filled buf))) taken.refused) (sym is), (ap (λ (b : Bool). cond b (restIn h buf filled) buf) (sym is), ap (λ (b : Bool). cond b (linesIn h (take filled buf) out) out) (sym is)))
 
-take-turn-requires : tie.Need-take-turn-requires
-take-turn-requires c κs =
+take-block-requires : tie.Need-take-block-requires
+take-block-requires c κs =
     let start = c .before .before .before .before .before .before in
     all-ready (hubState (start .args .self)) (start .args .buf .now) (start .args .filled) (start .args .out .now) (sym (c .before .before .before .is-ready .ensures) ∙ c .before .before .if1 .taken)
 
@@ -41,7 +41,7 @@ returns : tie.Need-returns
 unfolding Takes
 returns c =
     let a = c .before .before .before .before .before .before .before .before .before .before .before .args in
-    turned (hubState (a .self)) (a .buf .now) (a .filled) (a .out .now) (sym (c .before .before .before .before .before .before .before .before .is-ready .ensures) ∙ c .before .before .before .before .before .before .before .if1 .taken) (c .before .before .before .before .take-turn .ensures)
+    took (hubState (a .self)) (a .buf .now) (a .filled) (a .out .now) (sym (c .before .before .before .before .before .before .before .before .is-ready .ensures) ∙ c .before .before .before .before .before .before .before .if1 .taken) (c .before .before .before .before .take-block .ensures)
 
 returns-2 : tie.Need-returns-2
 unfolding Takes
@@ -50,4 +50,4 @@ returns-2 c =
     refused (hubState (a .self)) (a .buf .now) (a .filled) (a .out .now) (sym (c .before .is-ready .ensures) ∙ c .if1 .left)
 
 pub take-in-spec : {M : Type 1} → statement M
-take-in-spec = tie.close (tie.spec (λ c κs. search needs) take-turn-requires (λ c. search needs) (λ c. search needs) returns returns-2)
+take-in-spec = tie.close (tie.spec (λ c κs. search needs) take-block-requires (λ c. search needs) (λ c. search needs) returns returns-2)

@@ -1,4 +1,4 @@
--- `hub::take_turn` meets its contract: what is left over of the octets is what the items do not take. Assumes nothing.
+-- `hub::take_block` meets its contract: what is left over of the octets is what the items do not take. Assumes nothing.
 use mathlib.Core.Path.{_≡_, sym, ap, _∙_}
 use mathlib.Core.Bool.{Bool}
 use mathlib.Core.List.{List, _++_}
@@ -7,12 +7,12 @@ use native.Mathlib.Omega.{arith}
 use lib.ListN.{length, take, drop, length-take, length-drop}
 use borrow.Author.Needs.{needs}
 use Rattle.items.specs.Item.{behind}
-use Rattle.hub_spec.specs.Log.{mostItems, hubOf, restOf, isStuck, loggedOf, turnOf, restIn}
+use Rattle.hub_spec.specs.Log.{mostItems, hubOf, restOf, isStuck, loggedOf, blockOf, restIn}
 use Rattle.hub_spec.specs.State.{Hub, Logged}
 use Rattle.items.proofs.Items.{items-fit}
 use Rattle.hub.specs.State.{hubState, loggedStep}
-use Rattle.hub.proofs.take_turn.Statement.{statement}
-use Rattle.hub.proofs.take_turn.Tie as tie
+use Rattle.hub.proofs.take_block.Statement.{statement}
+use Rattle.hub.proofs.take_block.Tie as tie
 use Rattle.octets.proofs.Places.{drop-take}
 
 module _ (h : Hub) (buf : List ℕ) (filled : ℕ) (g : Logged) (inside : filled ≤ length buf) (is : g ≡ loggedOf h (take filled buf)) where
@@ -35,7 +35,7 @@ module _ (h : Hub) (buf : List ℕ) (filled : ℕ) (g : Logged) (inside : filled
   left-long = sym (simp (length-take, length-drop) (omega arith)) ∙ ap length left-over
 
   answer : {stopped : Bool} → stopped ≡ isStuck (g .hub .items) left
-      → record { hub = g .hub; written = g .written; kept = filled - g .taken; «is_stopped» = stopped } ≡ turnOf h (take filled buf)
+      → record { hub = g .hub; written = g .written; kept = filled - g .taken; «is_stopped» = stopped } ≡ blockOf h (take filled buf)
   answer is-stopped =
       let stop : _ ≡ isStuck (hubOf h (take filled buf) .items) (restOf h (take filled buf)) = is-stopped ∙ (λ i. isStuck (is i .hub .items) (left-over i)) in
       λ i. record { hub = is i .hub; written = is i .written; kept = left-long i; «is_stopped» = stop i }
@@ -57,8 +57,8 @@ returns c =
     let e = at-items .log-items .ensures in
     (answer (hubState (a .hub)) (a .buf .now) (a .filled) (loggedStep (at-items .log-items .result)) (start .pre .1 .0) (e .0) (c .before .before .before .before .is-stuck .ensures), (moved (hubState (a .hub)) (a .buf .now) (a .filled) (loggedStep (at-items .log-items .result)) (start .pre .1 .0) (e .0) (c .before .before .keep .ensures), e .1))
 
-pub take-turn-spec : {M : Type 1} → statement M
-take-turn-spec =
+pub take-block-spec : {M : Type 1} → statement M
+take-block-spec =
     tie.close
     (tie.spec
     (λ c κs. search needs)
