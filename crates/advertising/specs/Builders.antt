@@ -8,12 +8,12 @@ use mathlib.Core.Bool.{true, false}
 use mathlib.Core.List.{List, [], _∷_, _++_, map}
 use mathlib.Core.Path.{_≡_}
 use Prim.Native.Nat.{ℕ, _+_, _-_, _*_, _≤_, _<_}
-use lib.ListN.{length, drop, replicate}
+use lib.ListN.{length, replicate}
 use Rattle.addresses.specs.Address.{kindNumber, addressOf}
 use Rattle.addresses.specs.Header.{pduType}
 use Rattle.addresses.specs.declared.device_address.AddressKind.the-variants.{Public, Random}
 use Rattle.addresses.specs.declared.device_address.DeviceAddress.{DeviceAddress}
-use Rattle.octets.specs.Bytes.{leBytes}
+use Rattle.octets.specs.Bytes.{leBytes, atFront}
 use Rattle.octets.specs.declared.bytes.Written.the-variants as written
 use Rattle.octets.specs.declared.error.Error.{Error}
 use Rattle.octets.specs.declared.error.Error.the-variants.{Eof}
@@ -57,7 +57,7 @@ pub record Directed (a b : DeviceAddress) : Type 0 where
 -- "a transmit buffer shorter than the payload is 1"; else the payload stands at its front, and the octets after them are kept.
 pub record Writing (b : PduBuf) (out : List ℕ) : Type 0 where
   pub fits : length (payloadOf b) ≤ length out → payloadTo b out ≡ written.To (record { at = length (payloadOf b) })
-  pub octets : length (payloadOf b) ≤ length out → payloadAfter b out ≡ payloadOf b ++ drop (length (payloadOf b)) out
+  pub octets : length (payloadOf b) ≤ length out → payloadAfter b out ≡ atFront (payloadOf b) out
   pub short : length out < length (payloadOf b) → payloadTo b out ≡ written.Refused Eof
   pub kept : length out < length (payloadOf b) → payloadAfter b out ≡ out
 

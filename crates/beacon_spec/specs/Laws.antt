@@ -17,7 +17,7 @@ use Prim.Native.Nat.{ℕ, zero, suc, _+_, _-_, _*_, _/_, _%_, _≤_, _<_}
 use lib.Dec.{eqb}
 use lib.ListN.{length, getD, take, drop, replicate}
 use denote.Ref.{RefT, now}
-use Rattle.octets.specs.Bytes.{le}
+use Rattle.octets.specs.Bytes.{le, atFront}
 use Rattle.octets.specs.Time.{later}
 use Rattle.octets.specs.declared.error.Error.{Error}
 use Rattle.octets.specs.declared.error.Error.the-variants.{Eof, InvalidValue}
@@ -132,7 +132,7 @@ pub record Scanning (s : BeaconScanner) (interval : ℕ) (times : ℕ → Instan
 pub record Sends (b : Beacon) (tx : List ℕ) : Type 0 where
   pub sent : length (payloadOf (b .pdu)) ≤ length tx
       → broadcastOf b tx ≡ broadcast.Transmit (b .pdu .header) (record { first = Channel37; second = Channel38; third = Channel39 })
-  pub octets : length (payloadOf (b .pdu)) ≤ length tx → payloadAfter (b .pdu) tx ≡ payloadOf (b .pdu) ++ drop (length (payloadOf (b .pdu))) tx
+  pub octets : length (payloadOf (b .pdu)) ≤ length tx → payloadAfter (b .pdu) tx ≡ atFront (payloadOf (b .pdu)) tx
   pub short : length tx < length (payloadOf (b .pdu)) → broadcastNumber (broadcastOf b tx) ≡ 1
   pub kept : length tx < length (payloadOf (b .pdu)) → payloadAfter (b .pdu) tx ≡ tx
 

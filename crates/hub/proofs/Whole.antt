@@ -1,7 +1,7 @@
--- Reading a hub and what its calls return as records leaves nothing out. Assumes nothing.
+-- Reading a hub and what its calls return as records leaves nothing out (`whole`) and changes nothing that callers see (`as-it-is`). Assumes nothing.
 use mathlib.Core.Path.{_≡_, refl, sym, ap, _∙_}
 use Rattle.hub_spec.specs.State as spec
-use Rattle.hub.specs.State.{takenStep, Whole}
+use Rattle.hub.specs.State.{takenStep, Whole, AsItIs}
 use Rattle.hub.specs.declared.Hub.{Hub}
 use Rattle.hub.specs.declared.TakenIn.{TakenIn}
 use Rattle.hub.specs.declared.TakenIn.the-variants as code
@@ -34,3 +34,6 @@ whole =
       block = λ a b same. ap blockOf same;
       taken = λ a b same. sym (again a) ∙ (ap takenOf same ∙ again b);
     }
+
+pub as-it-is : AsItIs
+as-it-is = record { hub = λ r. refl; written = λ r. refl; kept = λ r. refl; stopped = λ r. refl; block = λ r. refl; refused = refl }

@@ -1,4 +1,4 @@
--- A hub, and what its calls return. The structs of these names in hub, whose fields are private, are read as these records (specs/State.antt there).
+-- A hub, and what its calls return. The structs of these names in hub are read as these records (specs/State.antt there); a hub has private fields.
 --   Hub         == what the hub has counted, and the scanner that it listens with
 --   Logged      == what logging the items of a block did: the hub, the octets of the whole items, and the octets of the lines
 --   Block       == what taking in the octets that a read brought did

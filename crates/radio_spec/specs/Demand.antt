@@ -27,7 +27,8 @@ use mathlib.Core.List.{List, [], _∷_, _++_}
 use mathlib.Core.Path.{_≡_}
 use Prim.Native.Nat.{ℕ, suc, _+_, _*_, _%_, _≤_, _<_}
 use lib.Dec.{eqb}
-use lib.ListN.{length, drop}
+use lib.ListN.{length}
+use Rattle.octets.specs.Bytes.{atFront}
 use Rattle.octets.specs.Error.{numberOf}
 use Rattle.octets.specs.Time.{later}
 use Rattle.octets.specs.declared.time.Instant.{Instant}
@@ -90,9 +91,9 @@ Each P k (e ∷ es) = P k e × Each P (suc k) es
 
 -- a call's lent buffers with a payload written at the front of the transmit buffer, and its other octets kept; only a start, a tick and a packet have one
 abbrev pub transmitted : List ℕ → Call → List (List ℕ)
-transmitted payload (start time interval records tx) = records ∷ (payload ++ drop (length payload) tx) ∷ []
-transmitted payload (tick tx) = (payload ++ drop (length payload) tx) ∷ []
-transmitted payload (packet end header p crcGood tx) = p ∷ (payload ++ drop (length payload) tx) ∷ []
+transmitted payload (start time interval records tx) = records ∷ atFront payload tx ∷ []
+transmitted payload (tick tx) = atFront payload tx ∷ []
+transmitted payload (packet end header p crcGood tx) = p ∷ atFront payload tx ∷ []
 transmitted payload event = []
 transmitted payload stop = []
 transmitted payload (setScanData records) = records ∷ []

@@ -16,7 +16,7 @@ use mathlib.Core.Logic.{_⊎_}
 use mathlib.Core.Path.{_≡_}
 use Prim.Native.Nat.{ℕ, _+_, _*_, _%_, _≤_, _<_}
 use lib.ListN.{length, drop}
-use Rattle.octets.specs.Bytes.{part, le}
+use Rattle.octets.specs.Bytes.{part, le, atFront}
 use Rattle.octets.specs.Time.{later}
 use Rattle.octets.specs.declared.error.Error.{Error}
 use Rattle.octets.specs.declared.error.Error.the-variants.{Eof, InvalidLength, WrongMode, EmptyMap, OutOfRange}
@@ -109,10 +109,10 @@ pub record Refusing (d : State) (c : Call) (e : Error) : Type 0 where
 -- Flags and the records, whose undefined Flags bits are cleared.
 pub record Transmits (d : State) (tx : List ℕ) : Type 0 where
   pub ticking : numberIn (callOf d (tick tx) .answer) ≡ 0
-      → octetsOf d (tick tx) ≡ (payloadOf (d .adv .pdu) ++ drop (length (payloadOf (d .adv .pdu))) tx) ∷ []
+      → octetsOf d (tick tx) ≡ atFront (payloadOf (d .adv .pdu)) tx ∷ []
   pub starting : length (d .«dev_addr» .bytes) ≡ 6 → (time : Instant) (interval : ℕ) (records : List ℕ) → numberIn (callOf d (start time interval records tx) .answer) ≡ 0
       → let payload : List ℕ = (d .«dev_addr» .bytes ++ flagsRecord) ++ rewritten records in
-      octetsOf d (start time interval records tx) ≡ records ∷ (payload ++ drop (length payload) tx) ∷ []
+      octetsOf d (start time interval records tx) ≡ records ∷ atFront payload tx ∷ []
 
 -- What is answered and written is, by the Core, a SCAN_RSP of the address `own`, kind included, with the records of s, of which there are n.
 pub record ReplyDecodes (own : DeviceAddress) (s : List ℕ) (n : ℕ) : Type 0 where
