@@ -3,11 +3,14 @@ use mathlib.Core.Path.{refl}
 use Rattle.columns.specs.Column.{leading, column, digits, readDecimal}
 use Rattle.columns.specs.Examples.{Examples}
 use Rattle.columns.specs.Row.{rowOf, readColumn, readRow}
+use Rattle.columns.specs.Text.{ascii, lines}
 
 pub examples : Examples
-unfolding leading column digits readDecimal rowOf readColumn readRow
+unfolding leading column digits readDecimal rowOf readColumn readRow ascii lines
 examples =
     record {
+      characters = refl;
+      text-lines = refl;
       kind = refl;
       octet = refl;
       records = refl;

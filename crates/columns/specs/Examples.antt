@@ -1,28 +1,24 @@
--- Worked values: digits and spaces in ASCII (the codes 48 to 57, and 32), in the widths of document 01's lines and of document 02's Note 7, and rows read again.
+-- Worked values: columns in the widths of document 01's lines and of document 02's Note 7, their characters in ASCII, and rows read again.
 use mathlib.Core.Path.{_≡_}
 use mathlib.Core.List.{[], _∷_, map}
 use Rattle.columns.specs.Column.{column, digits}
 use Rattle.columns.specs.Row.{rowOf, readColumn, readRow}
+use Rattle.columns.specs.Text.{ascii, lines}
 
 pub record Examples : Type 0 where
-  -- " 0", " 1"
-  pub kind : map (column 2) (0 ∷ 1 ∷ []) ≡ (32 ∷ 48 ∷ []) ∷ (32 ∷ 49 ∷ []) ∷ []
-  -- an octet: "   0", "   9", "  10", "  99", " 100", " 198", " 255"
-  pub octet :
-      map (column 4) (0 ∷ 9 ∷ 10 ∷ 99 ∷ 100 ∷ 198 ∷ 255 ∷ [])
-      ≡ (32 ∷ 32 ∷ 32 ∷ 48 ∷ []) ∷ (32 ∷ 32 ∷ 32 ∷ 57 ∷ []) ∷ (32 ∷ 32 ∷ 49 ∷ 48 ∷ []) ∷ (32 ∷ 32 ∷ 57 ∷ 57 ∷ []) ∷ (32 ∷ 49 ∷ 48 ∷ 48 ∷ []) ∷ (32 ∷ 49 ∷ 57 ∷ 56 ∷ []) ∷ (32 ∷ 50 ∷ 53 ∷ 53 ∷ []) ∷ []
-  -- "  1", "  9", " 10"
-  pub records : map (column 3) (1 ∷ 9 ∷ 10 ∷ []) ≡ (32 ∷ 32 ∷ 49 ∷ []) ∷ (32 ∷ 32 ∷ 57 ∷ []) ∷ (32 ∷ 49 ∷ 48 ∷ []) ∷ []
-  -- "     1", "100000", "999999"
-  pub number : map (column 6) (1 ∷ 100000 ∷ 999999 ∷ []) ≡ (32 ∷ 32 ∷ 32 ∷ 32 ∷ 32 ∷ 49 ∷ []) ∷ (49 ∷ 48 ∷ 48 ∷ 48 ∷ 48 ∷ 48 ∷ []) ∷ (57 ∷ 57 ∷ 57 ∷ 57 ∷ 57 ∷ 57 ∷ []) ∷ []
-  -- "99", "00", "23": of a number that is too long, the last digits
-  pub too-long : map (column 2) (99 ∷ 100 ∷ 123 ∷ []) ≡ (57 ∷ 57 ∷ []) ∷ (48 ∷ 48 ∷ []) ∷ (50 ∷ 51 ∷ []) ∷ []
+  pub characters : ascii " 0123456789" ≡ 32 ∷ 48 ∷ 49 ∷ 50 ∷ 51 ∷ 52 ∷ 53 ∷ 54 ∷ 55 ∷ 56 ∷ 57 ∷ []
+  pub text-lines : lines ("1" ∷ "" ∷ "20" ∷ []) ≡ 49 ∷ 10 ∷ 10 ∷ 50 ∷ 48 ∷ 10 ∷ []
+  pub kind : map (column 2) (0 ∷ 1 ∷ []) ≡ map ascii (" 0" ∷ " 1" ∷ [])
+  pub octet : map (column 4) (0 ∷ 9 ∷ 10 ∷ 99 ∷ 100 ∷ 198 ∷ 255 ∷ []) ≡ map ascii ("   0" ∷ "   9" ∷ "  10" ∷ "  99" ∷ " 100" ∷ " 198" ∷ " 255" ∷ [])
+  pub records : map (column 3) (1 ∷ 9 ∷ 10 ∷ []) ≡ map ascii ("  1" ∷ "  9" ∷ " 10" ∷ [])
+  pub number : map (column 6) (1 ∷ 100000 ∷ 999999 ∷ []) ≡ map ascii ("     1" ∷ "100000" ∷ "999999" ∷ [])
+  -- of a number that is too long, the last digits
+  pub too-long : map (column 2) (99 ∷ 100 ∷ 123 ∷ []) ≡ map ascii ("99" ∷ "00" ∷ "23" ∷ [])
   pub no-width : column 0 7 ≡ []
-  pub ten : digits 10 1234567890 ≡ 49 ∷ 50 ∷ 51 ∷ 52 ∷ 53 ∷ 54 ∷ 55 ∷ 56 ∷ 57 ∷ 48 ∷ []
-  -- "     2 38 1" and the octet 0A
-  pub row : rowOf (6 ∷ 3 ∷ 2 ∷ []) (2 ∷ 38 ∷ 1 ∷ []) ≡ 32 ∷ 32 ∷ 32 ∷ 32 ∷ 32 ∷ 50 ∷ 32 ∷ 51 ∷ 56 ∷ 32 ∷ 49 ∷ 10 ∷ []
-  -- "  0", " 38", "100", and spaces alone
-  pub read : map readColumn ((32 ∷ 32 ∷ 48 ∷ []) ∷ (32 ∷ 51 ∷ 56 ∷ []) ∷ (49 ∷ 48 ∷ 48 ∷ []) ∷ (32 ∷ 32 ∷ 32 ∷ []) ∷ []) ≡ 0 ∷ 38 ∷ 100 ∷ 0 ∷ []
+  pub ten : digits 10 1234567890 ≡ ascii "1234567890"
+  pub row : rowOf (6 ∷ 3 ∷ 2 ∷ []) (2 ∷ 38 ∷ 1 ∷ []) ≡ lines ("     2 38 1" ∷ [])
+  -- the last one spaces alone
+  pub read : map (λ t. readColumn (ascii t)) ("  0" ∷ " 38" ∷ "100" ∷ "   " ∷ []) ≡ 0 ∷ 38 ∷ 100 ∷ 0 ∷ []
   -- the largest numbers that two and three columns hold, which stand directly behind each other; and one more, which lose their first digits
   pub full : readRow (2 ∷ 3 ∷ []) (rowOf (2 ∷ 3 ∷ []) (99 ∷ 999 ∷ [])) ≡ 99 ∷ 999 ∷ []
   pub lost : readRow (2 ∷ 3 ∷ []) (rowOf (2 ∷ 3 ∷ []) (100 ∷ 1000 ∷ [])) ≡ 0 ∷ 0 ∷ []

@@ -2,12 +2,13 @@
 use mathlib.Core.Path.{refl}
 use mathlib.Core.List.{flatten}
 use Rattle.columns.specs.Column.{leading, column}
+use Rattle.columns.specs.Text.{ascii, lines}
 use Rattle.hub_spec.specs.Line.{reportLine}
 use Rattle.hub_spec.specs.Log.{scannerAfter, lastLine, isStuck}
 use Rattle.hub_spec.specs.Examples.{Examples}
 
 pub examples : Examples
-unfolding leading column flatten reportLine scannerAfter lastLine isStuck
+unfolding leading column ascii lines flatten reportLine scannerAfter lastLine isStuck
 examples =
     record {
       public-line = refl;

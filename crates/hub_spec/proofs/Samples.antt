@@ -10,6 +10,7 @@ use Rattle.advertising.specs.Pdu.{decodeBy, byType, undirected, withArea}
 use Rattle.beacon_spec.specs.Scanner.{scanned}
 use Rattle.columns.proofs.Widths.{column-length}
 use Rattle.columns.specs.Column.{leading, column}
+use Rattle.columns.specs.Text.{ascii, lines}
 use Rattle.items.proofs.Falling.{falls}
 use Rattle.items.proofs.Items.{one-whole, none-whole}
 use Rattle.items.specs.Item.{sizeOf, wholeSize, items, behind, tick, packet, AllItems}
@@ -90,7 +91,7 @@ six =
     ∙ ap (λ (l : List (List ℕ)). sixItems ++ l) (none-whole (mostItems - 6) (0x03 ∷ []) refl)
 
 pub sample : Sample
-unfolding leading column behind flatten scanned heardIn scannerAfter reportLine line reportsIn after printed afterAll printedAll lastLine logOf decodeBy byType undirected withArea pduType readPadded endedBy isZeros unpadded beforeZero areaIn readArea areaOf reads withFirst cut first recordRead dataRead flagsRead upTo named
+unfolding leading column ascii lines behind flatten scanned heardIn scannerAfter reportLine line reportsIn after printed afterAll printedAll lastLine logOf decodeBy byType undirected withArea pduType readPadded endedBy isZeros unpadded beforeZero areaIn readArea areaOf reads withFirst cut first recordRead dataRead flagsRead upTo named
 sample =
     record {
       sample = rw both;

@@ -5,6 +5,7 @@ use Prim.Native.Nat.{ℕ, zero, suc, _+_, _-_, _≤_}
 use native.Mathlib.Omega.{arith}
 use lib.ListN.{length, replicate, length-replicate, length-drop}
 use Rattle.columns.specs.Column.{leading, column}
+use Rattle.columns.specs.Text.{ascii, lines}
 use Rattle.items.specs.Item.{items, behind, tick}
 use Rattle.items.proofs.Falling.{falls}
 use Rattle.hub_spec.specs.Line.{line, reportsIn}
@@ -14,20 +15,20 @@ use Rattle.hub_spec.specs.State.{Hub}
 
 -- n ticks among m, each an item, which prints nothing and is counted
 record Ticked (n m : ℕ) (h : Hub) : Type 0 where
-  lines : printedAll h (items n (replicate m 0)) ≡ []
+  none-printed : printedAll h (items n (replicate m 0)) ≡ []
   count : afterAll h (items n (replicate m 0)) .items ≡ h .items + n
   reports : afterAll h (items n (replicate m 0)) .reports ≡ h .reports
   octets : length (flatten (items n (replicate m 0))) ≡ n
 
 ticked : (n m : ℕ) → n ≤ m → (h : Hub) → Ticked n m h
 unfolding items printedAll afterAll flatten printed line reportsIn heardIn after
-ticked zero m few h = record { lines = refl; count = omega arith; reports = refl; octets = refl }
+ticked zero m few h = record { none-printed = refl; count = omega arith; reports = refl; octets = refl }
 ticked (suc n) zero few h = absurd (omega arith)
 ticked (suc n) (suc m) few h =
     let first : items (suc n) (replicate (suc m) 0) ≡ (0 ∷ []) ∷ items n (replicate m 0) = falls n [] .found (0 ∷ []) (replicate m 0) tick in
     let later = ticked n m (omega arith) (after h (0 ∷ [])) in
     record {
-      lines = rw first (later .lines);
+      none-printed = rw first (later .none-printed);
       count = rw first (later .count ∙ omega arith);
       reports = rw first (later .reports ∙ omega arith);
       octets = rw first (ap suc (later .octets));
@@ -43,8 +44,8 @@ unfolding logOf lastLine
 ticks-log ticks over is =
     let all = ticked mostItems ticks (omega arith) fresh in
     let rest : length (behind (items mostItems (replicate ticks 0)) (replicate ticks 0)) ≡ over = left mostItems ticks (omega arith) ∙ omega arith in
-    rw (all .lines, all .count, all .reports, rest)
+    rw (all .none-printed, all .count, all .reports, rest)
 
 pub limit : (ticks : ℕ) → Limit ticks
-unfolding column leading
+unfolding column leading ascii lines
 limit ticks = record { most = λ is. ticks-log ticks 0 (omega arith); beyond = λ is. ticks-log ticks 1 (omega arith) }

@@ -6,6 +6,7 @@ use Prim.Native.Nat.{ℕ}
 use Rattle.channels.specs.declared.phy.AdvertisingChannel.the-variants.{Channel37, Channel38, Channel39}
 use Rattle.addresses.specs.declared.device_address.AddressKind.the-variants.{Public, Random}
 use Rattle.beacon_spec.specs.State.{BeaconScanner}
+use Rattle.columns.specs.Text.{lines}
 use Rattle.hub_spec.specs.Line.{reportLine, roomFor}
 use Rattle.hub_spec.specs.Log.{isCrcGood, scannerAfter, leftOver, lastLine, fresh, isStuck, isReady}
 use Rattle.hub_spec.specs.State.{Hub}
@@ -19,13 +20,12 @@ abbrev ticked : BeaconScanner → BeaconScanner
 ticked s = scannerAfter s (0x00 ∷ [])
 
 pub record Examples : Type 0 where
-  -- "999999 39 0   0   9  10  99 100 255 12": kind 0 is public
-  pub public-line : reportLine 999999 Channel39 (record { bytes = 0 ∷ 9 ∷ 10 ∷ 99 ∷ 100 ∷ 255 ∷ []; kind = Public }) 12 ≡ 57 ∷ 57 ∷ 57 ∷ 57 ∷ 57 ∷ 57 ∷ 32 ∷ 51 ∷ 57 ∷ 32 ∷ 48 ∷ 32 ∷ 32 ∷ 32 ∷ 48 ∷ 32 ∷ 32 ∷ 32 ∷ 57 ∷ 32 ∷ 32 ∷ 49 ∷ 48 ∷ 32 ∷ 32 ∷ 57 ∷ 57 ∷ 32 ∷ 49 ∷ 48 ∷ 48 ∷ 32 ∷ 50 ∷ 53 ∷ 53 ∷ 32 ∷ 49 ∷ 50 ∷ 10 ∷ []
-  -- "     1 37 1 198   5   4   3   2   1  0": kind 1 is random
-  pub random-line : reportLine 1 Channel37 (record { bytes = 0xC6 ∷ 5 ∷ 4 ∷ 3 ∷ 2 ∷ 1 ∷ []; kind = Random }) 0 ≡ 32 ∷ 32 ∷ 32 ∷ 32 ∷ 32 ∷ 49 ∷ 32 ∷ 51 ∷ 55 ∷ 32 ∷ 49 ∷ 32 ∷ 49 ∷ 57 ∷ 56 ∷ 32 ∷ 32 ∷ 32 ∷ 53 ∷ 32 ∷ 32 ∷ 32 ∷ 52 ∷ 32 ∷ 32 ∷ 32 ∷ 51 ∷ 32 ∷ 32 ∷ 32 ∷ 50 ∷ 32 ∷ 32 ∷ 32 ∷ 49 ∷ 32 ∷ 32 ∷ 48 ∷ 10 ∷ []
-  -- "999999999998 1", "    10     9 0"
-  pub last-full : lastLine (hubWith 999999 999998) 65 ≡ 57 ∷ 57 ∷ 57 ∷ 57 ∷ 57 ∷ 57 ∷ 57 ∷ 57 ∷ 57 ∷ 57 ∷ 57 ∷ 56 ∷ 32 ∷ 49 ∷ 10 ∷ []
-  pub last-whole : lastLine (hubWith 10 9) 0 ≡ 32 ∷ 32 ∷ 32 ∷ 32 ∷ 49 ∷ 48 ∷ 32 ∷ 32 ∷ 32 ∷ 32 ∷ 32 ∷ 57 ∷ 32 ∷ 48 ∷ 10 ∷ []
+  -- kind 0 is public
+  pub public-line : reportLine 999999 Channel39 (record { bytes = 0 ∷ 9 ∷ 10 ∷ 99 ∷ 100 ∷ 255 ∷ []; kind = Public }) 12 ≡ lines ("999999 39 0   0   9  10  99 100 255 12" ∷ [])
+  -- kind 1 is random
+  pub random-line : reportLine 1 Channel37 (record { bytes = 0xC6 ∷ 5 ∷ 4 ∷ 3 ∷ 2 ∷ 1 ∷ []; kind = Random }) 0 ≡ lines ("     1 37 1 198   5   4   3   2   1  0" ∷ [])
+  pub last-full : lastLine (hubWith 999999 999998) 65 ≡ lines ("999999999998 1" ∷ [])
+  pub last-whole : lastLine (hubWith 10 9) 0 ≡ lines ("    10     9 0" ∷ [])
   pub left-over : map leftOver (0 ∷ 1 ∷ 2 ∷ 65 ∷ []) ≡ 0 ∷ 1 ∷ 1 ∷ 1 ∷ []
   -- the shortest item that is reported has nine octets, and its line 39
   pub room : map roomFor (0 ∷ 8 ∷ 9 ∷ 17 ∷ 18 ∷ 65536 ∷ []) ≡ 0 ∷ 0 ∷ 39 ∷ 39 ∷ 78 ∷ 283959 ∷ []

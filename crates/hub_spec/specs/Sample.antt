@@ -12,6 +12,7 @@ use mathlib.Core.List.{List, [], _∷_, _++_, flatten}
 use Prim.Native.Nat.{ℕ, _+_, _<_, _≤_}
 use lib.ListN.{length, replicate}
 use Rattle.advertising.specs.Laws.{nine}
+use Rattle.columns.specs.Text.{lines}
 use Rattle.hub_spec.specs.Line.{roomFor}
 use Rattle.hub_spec.specs.Log.{mostItems, fresh, linesOf, logOf}
 
@@ -34,13 +35,13 @@ paddedBeacon = 0x01 ∷ 0x42 ∷ 0x25 ∷ (nine ++ replicate 28 0)
 abbrev pub unendedBeacon : List ℕ
 unendedBeacon = 0x01 ∷ 0x42 ∷ 0x25 ∷ (nine ++ (replicate 27 0 ++ (0x01 ∷ [])))
 
--- "     1     0 0": one whole item, no report, nothing left over
+-- one whole item, no report, nothing left over
 abbrev pub oneItem : List ℕ
-oneItem = 32 ∷ 32 ∷ 32 ∷ 32 ∷ 32 ∷ 49 ∷ 32 ∷ 32 ∷ 32 ∷ 32 ∷ 32 ∷ 48 ∷ 32 ∷ 48 ∷ 10 ∷ []
+oneItem = lines ("     1     0 0" ∷ [])
 
--- "     0     0 1": no whole item, and octets left over
+-- no whole item, and octets left over
 abbrev pub brokenAtOnce : List ℕ
-brokenAtOnce = 32 ∷ 32 ∷ 32 ∷ 32 ∷ 32 ∷ 48 ∷ 32 ∷ 32 ∷ 32 ∷ 32 ∷ 32 ∷ 48 ∷ 32 ∷ 49 ∷ 10 ∷ []
+brokenAtOnce = lines ("     0     0 1" ∷ [])
 
 -- a beacon without records
 abbrev pub shortBeacon : List ℕ
@@ -74,24 +75,23 @@ tickItems =
     ∷ []
 
 pub record Sample : Type 0 where
-  -- a tick and that packet print "     2 38 1   1   2   3   4   5 198  1" and "     2     1 0"
+  -- a tick and that packet
   pub sample :
       logOf (0x00 ∷ beacon)
-      ≡ 32 ∷ 32 ∷ 32 ∷ 32 ∷ 32 ∷ 50 ∷ 32 ∷ 51 ∷ 56 ∷ 32 ∷ 49
-      ∷ 32 ∷ 32 ∷ 32 ∷ 49 ∷ 32 ∷ 32 ∷ 32 ∷ 50 ∷ 32 ∷ 32 ∷ 32 ∷ 51 ∷ 32 ∷ 32 ∷ 32 ∷ 52 ∷ 32 ∷ 32 ∷ 32 ∷ 53 ∷ 32 ∷ 49 ∷ 57 ∷ 56
-      ∷ 32 ∷ 32 ∷ 49 ∷ 10
-      ∷ 32 ∷ 32 ∷ 32 ∷ 32 ∷ 32 ∷ 50 ∷ 32 ∷ 32 ∷ 32 ∷ 32 ∷ 32 ∷ 49 ∷ 32 ∷ 48 ∷ 10 ∷ []
-  -- "     0     0 0"
-  pub empty : logOf [] ≡ 32 ∷ 32 ∷ 32 ∷ 32 ∷ 32 ∷ 48 ∷ 32 ∷ 32 ∷ 32 ∷ 32 ∷ 32 ∷ 48 ∷ 32 ∷ 48 ∷ 10 ∷ []
+      ≡ lines
+      ("     2 38 1   1   2   3   4   5 198  1"
+      ∷ "     2     1 0"
+      ∷ [])
+  pub empty : logOf [] ≡ lines ("     0     0 0" ∷ [])
   -- a CRC-bad packet is an item and no report
   pub crc-bad : logOf badBeacon ≡ oneItem
-  -- zeros behind the record: "     1 37 1   1   2   3   4   5 198  1" and "     1     1 0"; an octet among them that is not zero: no report
+  -- zeros behind the record; an octet among them that is not zero: no report
   pub zeros :
       logOf paddedBeacon
-      ≡ 32 ∷ 32 ∷ 32 ∷ 32 ∷ 32 ∷ 49 ∷ 32 ∷ 51 ∷ 55 ∷ 32 ∷ 49
-      ∷ 32 ∷ 32 ∷ 32 ∷ 49 ∷ 32 ∷ 32 ∷ 32 ∷ 50 ∷ 32 ∷ 32 ∷ 32 ∷ 51 ∷ 32 ∷ 32 ∷ 32 ∷ 52 ∷ 32 ∷ 32 ∷ 32 ∷ 53 ∷ 32 ∷ 49 ∷ 57 ∷ 56
-      ∷ 32 ∷ 32 ∷ 49 ∷ 10
-      ∷ 32 ∷ 32 ∷ 32 ∷ 32 ∷ 32 ∷ 49 ∷ 32 ∷ 32 ∷ 32 ∷ 32 ∷ 32 ∷ 49 ∷ 32 ∷ 48 ∷ 10 ∷ []
+      ≡ lines
+      ("     1 37 1   1   2   3   4   5 198  1"
+      ∷ "     1     1 0"
+      ∷ [])
   pub another : logOf unendedBeacon ≡ oneItem
   -- the length has six bits, and the two above them do not count
   pub six-bits : logOf longPacket ≡ oneItem
@@ -99,24 +99,27 @@ pub record Sample : Type 0 where
   -- another first octet, and an item that is cut short
   pub broken : logOf (0x03 ∷ []) ≡ brokenAtOnce
   pub cut-short : logOf (0x01 ∷ 0x42 ∷ []) ≡ brokenAtOnce
-  -- six items, of which the third, the fourth and the sixth are reported, and an octet that begins none: "     3 38 1  10  11  12  13  14 207  0",
-  -- "     4 38 1   1   2   3   4   5 198  2", "     6 38 0   1   2   3   4   5 198  1" and "     6     3 1"
+  -- six items, of which the third, the fourth and the sixth are reported, and an octet that begins none
   pub six-items :
       logOf (flatten sixItems ++ (0x03 ∷ []))
-      ≡ 32 ∷ 32 ∷ 32 ∷ 32 ∷ 32 ∷ 51 ∷ 32 ∷ 51 ∷ 56 ∷ 32 ∷ 49 ∷ 32 ∷ 32 ∷ 49 ∷ 48 ∷ 32 ∷ 32 ∷ 49 ∷ 49 ∷ 32 ∷ 32 ∷ 49 ∷ 50 ∷ 32 ∷ 32 ∷ 49 ∷ 51 ∷ 32 ∷ 32 ∷ 49 ∷ 52 ∷ 32 ∷ 50 ∷ 48 ∷ 55 ∷ 32 ∷ 32 ∷ 48 ∷ 10
-      ∷ 32 ∷ 32 ∷ 32 ∷ 32 ∷ 32 ∷ 52 ∷ 32 ∷ 51 ∷ 56 ∷ 32 ∷ 49 ∷ 32 ∷ 32 ∷ 32 ∷ 49 ∷ 32 ∷ 32 ∷ 32 ∷ 50 ∷ 32 ∷ 32 ∷ 32 ∷ 51 ∷ 32 ∷ 32 ∷ 32 ∷ 52 ∷ 32 ∷ 32 ∷ 32 ∷ 53 ∷ 32 ∷ 49 ∷ 57 ∷ 56 ∷ 32 ∷ 32 ∷ 50 ∷ 10
-      ∷ 32 ∷ 32 ∷ 32 ∷ 32 ∷ 32 ∷ 54 ∷ 32 ∷ 51 ∷ 56 ∷ 32 ∷ 48 ∷ 32 ∷ 32 ∷ 32 ∷ 49 ∷ 32 ∷ 32 ∷ 32 ∷ 50 ∷ 32 ∷ 32 ∷ 32 ∷ 51 ∷ 32 ∷ 32 ∷ 32 ∷ 52 ∷ 32 ∷ 32 ∷ 32 ∷ 53 ∷ 32 ∷ 49 ∷ 57 ∷ 56 ∷ 32 ∷ 32 ∷ 49 ∷ 10
-      ∷ 32 ∷ 32 ∷ 32 ∷ 32 ∷ 32 ∷ 54 ∷ 32 ∷ 32 ∷ 32 ∷ 32 ∷ 32 ∷ 51 ∷ 32 ∷ 49 ∷ 10 ∷ []
+      ≡ lines
+      ("     3 38 1  10  11  12  13  14 207  0"
+      ∷ "     4 38 1   1   2   3   4   5 198  2"
+      ∷ "     6 38 0   1   2   3   4   5 198  1"
+      ∷ "     6     3 1"
+      ∷ [])
   -- the channel (Note 7): 37 before any tick, 38, 37 after two ticks between which a packet was heard and not reported, 37 still, and 39 after two ticks
-  -- between which nothing was heard: "     1 37 1   1   2   3   4   5 198  1", "     3 38 1 ..", "     7 37 1 ..", "     8 37 1 ..", "    11 39 1 .." and "    11     5 0"
+  -- between which nothing was heard
   pub channels :
       logOf (flatten tickItems)
-      ≡ 32 ∷ 32 ∷ 32 ∷ 32 ∷ 32 ∷ 49 ∷ 32 ∷ 51 ∷ 55 ∷ 32 ∷ 49 ∷ 32 ∷ 32 ∷ 32 ∷ 49 ∷ 32 ∷ 32 ∷ 32 ∷ 50 ∷ 32 ∷ 32 ∷ 32 ∷ 51 ∷ 32 ∷ 32 ∷ 32 ∷ 52 ∷ 32 ∷ 32 ∷ 32 ∷ 53 ∷ 32 ∷ 49 ∷ 57 ∷ 56 ∷ 32 ∷ 32 ∷ 49 ∷ 10
-      ∷ 32 ∷ 32 ∷ 32 ∷ 32 ∷ 32 ∷ 51 ∷ 32 ∷ 51 ∷ 56 ∷ 32 ∷ 49 ∷ 32 ∷ 32 ∷ 32 ∷ 49 ∷ 32 ∷ 32 ∷ 32 ∷ 50 ∷ 32 ∷ 32 ∷ 32 ∷ 51 ∷ 32 ∷ 32 ∷ 32 ∷ 52 ∷ 32 ∷ 32 ∷ 32 ∷ 53 ∷ 32 ∷ 49 ∷ 57 ∷ 56 ∷ 32 ∷ 32 ∷ 49 ∷ 10
-      ∷ 32 ∷ 32 ∷ 32 ∷ 32 ∷ 32 ∷ 55 ∷ 32 ∷ 51 ∷ 55 ∷ 32 ∷ 49 ∷ 32 ∷ 32 ∷ 32 ∷ 49 ∷ 32 ∷ 32 ∷ 32 ∷ 50 ∷ 32 ∷ 32 ∷ 32 ∷ 51 ∷ 32 ∷ 32 ∷ 32 ∷ 52 ∷ 32 ∷ 32 ∷ 32 ∷ 53 ∷ 32 ∷ 49 ∷ 57 ∷ 56 ∷ 32 ∷ 32 ∷ 49 ∷ 10
-      ∷ 32 ∷ 32 ∷ 32 ∷ 32 ∷ 32 ∷ 56 ∷ 32 ∷ 51 ∷ 55 ∷ 32 ∷ 49 ∷ 32 ∷ 32 ∷ 32 ∷ 49 ∷ 32 ∷ 32 ∷ 32 ∷ 50 ∷ 32 ∷ 32 ∷ 32 ∷ 51 ∷ 32 ∷ 32 ∷ 32 ∷ 52 ∷ 32 ∷ 32 ∷ 32 ∷ 53 ∷ 32 ∷ 49 ∷ 57 ∷ 56 ∷ 32 ∷ 32 ∷ 49 ∷ 10
-      ∷ 32 ∷ 32 ∷ 32 ∷ 32 ∷ 49 ∷ 49 ∷ 32 ∷ 51 ∷ 57 ∷ 32 ∷ 49 ∷ 32 ∷ 32 ∷ 32 ∷ 49 ∷ 32 ∷ 32 ∷ 32 ∷ 50 ∷ 32 ∷ 32 ∷ 32 ∷ 51 ∷ 32 ∷ 32 ∷ 32 ∷ 52 ∷ 32 ∷ 32 ∷ 32 ∷ 53 ∷ 32 ∷ 49 ∷ 57 ∷ 56 ∷ 32 ∷ 32 ∷ 49 ∷ 10
-      ∷ 32 ∷ 32 ∷ 32 ∷ 32 ∷ 49 ∷ 49 ∷ 32 ∷ 32 ∷ 32 ∷ 32 ∷ 32 ∷ 53 ∷ 32 ∷ 48 ∷ 10 ∷ []
+      ≡ lines
+      ("     1 37 1   1   2   3   4   5 198  1"
+      ∷ "     3 38 1   1   2   3   4   5 198  1"
+      ∷ "     7 37 1   1   2   3   4   5 198  1"
+      ∷ "     8 37 1   1   2   3   4   5 198  1"
+      ∷ "    11 39 1   1   2   3   4   5 198  1"
+      ∷ "    11     5 0"
+      ∷ [])
 
 -- There is just room: the lines of k items of the shortest kind fill it, and up to eight octets more ask for none.
 abbrev pub JustRoom : ℕ → Type 0
@@ -124,7 +127,5 @@ JustRoom k = k ≤ mostItems → (more : ℕ) → more < 9 → length (linesOf f
 
 -- "beyond 999,999": so many ticks are all counted; of one more, the last is left over
 pub record Limit (ticks : ℕ) : Type 0 where
-  -- "999999     0 0"
-  pub most : ticks ≡ 999999 → logOf (replicate ticks 0x00) ≡ 57 ∷ 57 ∷ 57 ∷ 57 ∷ 57 ∷ 57 ∷ 32 ∷ 32 ∷ 32 ∷ 32 ∷ 32 ∷ 48 ∷ 32 ∷ 48 ∷ 10 ∷ []
-  -- "999999     0 1"
-  pub beyond : ticks ≡ 1000000 → logOf (replicate ticks 0x00) ≡ 57 ∷ 57 ∷ 57 ∷ 57 ∷ 57 ∷ 57 ∷ 32 ∷ 32 ∷ 32 ∷ 32 ∷ 32 ∷ 48 ∷ 32 ∷ 49 ∷ 10 ∷ []
+  pub most : ticks ≡ 999999 → logOf (replicate ticks 0x00) ≡ lines ("999999     0 0" ∷ [])
+  pub beyond : ticks ≡ 1000000 → logOf (replicate ticks 0x00) ≡ lines ("999999     0 1" ∷ [])
