@@ -1,4 +1,9 @@
--- Worked values of addresses, filters and headers, each with where it comes from: `Examples`, proved by `Examples.examples`.
+-- Worked values of addresses, filters and headers, each with where it comes from.
+--   six            == six octets of an address
+--   entryOf kind   == an entry of a whitelist, of this kind, with these octets
+--   other          == an entry of another address
+--   random, public == the addresses of the six octets, of either kind
+--   Examples       (Examples.examples)  the values
 use mathlib.Core.Bool.{true, false}
 use mathlib.Core.List.{List, [], _∷_, _++_}
 use mathlib.Core.Path.{_≡_}

@@ -3,13 +3,19 @@
 --     | PDU type | reserved | TxAdd   | RxAdd   | length   | reserved  |
 --     | bits 0-3 | bits 4-5 | bit 6   | bit 7   | bits 8-13| bits 14-15|
 --
---   headerOf n            == the header of 16 bits; newHeader ty: of a type alone; headerOctets h: its two octets
---   typeCode ty           == the code of a type (the Core's table of PDU types), and pduType n the type of a code
---   bits b w h            == the w bits of a header from bit b on
---   setBits b w v h       == the header with v in their place
---   parsed s              == what `parse` answers
---   headerRead r          == the header that was read as a number of two octets; headerAt s at: what `from_bytes` answers
---   lengthSet n h         == what `set_payload_length` answers
+--   headerOf n                                == the header of the 16 bits n
+--   typeCode ty, pduType n                    == the code of a type (the Core's table of PDU types), and the type of a code
+--   newHeader ty                              == the header of a type alone
+--   isBeacon ty, allowsAdvData ty             == the type is that of a beacon; it is one with records
+--   bits b w h                                == the w bits of a header from bit b on
+--   setBits b w v h                           == the header with v in their place
+--   typeOf h, txAdd h, rxAdd h, lengthOf h    == what the header says: its type, TxAdd, RxAdd and length
+--   setTxAdd v h, setRxAdd v h, setLength n h == the header with another TxAdd, RxAdd or length, and nothing else changed
+--   parsed s                                  == what `parse` answers
+--   headerRead r                              == the header that was read as a number of two octets
+--   headerAt s at                             == what `from_bytes` answers
+--   headerOctets h                            == the two octets of a header
+--   lengthSet n h                             == what `set_payload_length` answers
 use mathlib.Core.Bool.{Bool, true, false, cond, _||_}
 use mathlib.Core.List.{List}
 use Prim.Native.Nat.{ℕ, _+_, _-_, _*_, _/_, _%_, _^_}

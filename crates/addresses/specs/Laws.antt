@@ -1,13 +1,15 @@
--- The laws of addresses, filters and headers, each with the theorem of proofs/ that proves it.
---   Equality      Addresses.equality    the test of two addresses
---   Listed        Entries.listed        a whitelist, and no filter
---   Policies      Entries.policies      which filter each request is held to
---   OwnBits       Boxes.own-bits        the setters of a header of 16 bits
---   HeaderFigure  Boxes.figures         the figure of a header, read and set box by box
---   HeaderReading Headers.reading       two octets as a header; 4 and 1
---   Codes         Boxes.codes           the types of document 01 by their codes
---   Types         Boxes.types           which codes are beacons and which have records
--- Worked values stand in specs/Examples.
+-- The laws of addresses, filters and headers, each with the theorem of proofs/ that proves it. Worked values stand in specs/Examples.
+--   Equality a b                    (Addresses.equality)  the test of two addresses
+--   Entry list a                    == an entry of the list that is the address a
+--   Listed list a                   (Entries.listed)      a whitelist, and no filter
+--   Policies scan connect list a    (Entries.policies)    which filter each request is held to
+--   boxes h                         == the boxes of the figure of a header, in order
+--   OwnBits h                       (Boxes.own-bits)      the setters of a header of 16 bits
+--   figure ty low tx rx n top       == the header that has these in the boxes of the figure
+--   HeaderFigure ty low tx rx n top (Boxes.figures)       the figure of a header, read and set box by box
+--   HeaderReading s at              (Headers.reading)     two octets as a header; 4 and 1
+--   Codes                           (Boxes.codes)         the types of document 01 by their codes
+--   Types n                         (Boxes.types)         which codes are beacons and which have records
 use mathlib.Core.Bool.{Bool, true, false, cond, _||_}
 use mathlib.Core.List.{List, [], _∷_}
 use mathlib.Core.Path.{_≡_}

@@ -1,9 +1,13 @@
 -- What each builder builds, by numbers and octets (document 01, advertising.rs).
---   Builds code flags most build a s   what a builder makes of the address a and the records s
---   Builders a s    (Builders.builders)   the builders, each by its type's code
---   Directed a b    (Builders.directed)   the builder of two addresses
---   Writing b out   (Builders.writing)    the payload copied to a buffer
---   Examples        (Builders.examples)   worked values
+--   Builds code flags most build a s == what a builder makes of the address a and the records s
+--   Builders a s                     (Builders.builders)  the builders, each by its type's code
+--   Directed a b                     (Builders.directed)  the builder of two addresses
+--   Writing b out                    (Builders.writing)   the payload copied to a buffer
+--   anAddress, another               == a random address, and a public one
+--   long k                           == a record of k octets
+--   asSent b                         == the two octets of a PDU's header, and its payload
+--   endOf offset size                == the end of the transmit window, by WinOffset and WinSize in µs
+--   Examples                         (Builders.examples)  worked values
 use mathlib.Core.Bool.{true, false}
 use mathlib.Core.List.{List, [], _∷_, _++_, map}
 use mathlib.Core.Path.{_≡_}

@@ -1,10 +1,21 @@
 -- The laws of PDUs, each with the theorem of proofs/ that proves it; refusals are in specs/Refusals.antt, what each builder builds in specs/Builders.antt.
---   Accepting, AcceptingHeard      Accepting.accepting, accepting-heard       which headers and payloads are accepted, and what is read of them
---   RecordArea, RecordAreaHeard    Accepting.record-area, record-area-heard   where the records of a payload lie
---   Building      Building.building      what is read of a PDU that was built
---   Example       Examples.example       a connect request, field by field, and what a type lacks
---   Accuracies    Examples.accuracies    the sleep clock accuracies by their codes
---   WindowEnd     Examples.window-end    the end of the transmit window
+--   Figure widths fields further p  == the payload p is these fields, of the widths of a figure, and further octets
+--   ShapedBy reading h p d          == the payload p has the figure of the type of the header h, and both say what d says; records are read by `reading`
+--   AcceptingBy reading decoder h p == a decoder accepts exactly what its header counts and is shaped by this reading, and answers what the shape says
+--   Accepting h p                   (Accepting.accepting)          which headers and payloads the general decoder accepts, and what it reads of them
+--   AcceptingHeard h p              (Accepting.accepting-heard)    the same of the hub's decoder
+--   ReadsBack ty a flags s n        == a PDU of type ty is built of the address a, the octets `flags` and the n records of s, and decodes to these
+--   Building                        (Building.building)            what is read of a PDU that was built
+--   row h0 h1 p                     == what the two octets of a header and a payload decode to
+--   nine                            == the nine octets of document 01's first rows
+--   counted                         == the payload of a connect request: the octets 00 to 21, counted in hexadecimal
+--   Example                         (Examples.example)             a connect request, field by field, and what a type lacks
+--   worstOf a                       == the worst clock of an accuracy, in ppm
+--   Accuracies                      (Examples.accuracies)          the sleep clock accuracies by their codes
+--   WindowEnd                       (Examples.window-end)          the end of the transmit window
+--   RecordAreaBy decoder h p        == the records of a payload that a decoder accepts are its part after the address, in its own place
+--   RecordArea h p                  (Accepting.record-area)        where the records of a payload lie that the general decoder accepts
+--   RecordAreaHeard h p             (Accepting.record-area-heard)  the same of the hub's decoder
 use mathlib.Core.Bool.{true, false}
 use mathlib.Core.List.{List, [], _∷_, _++_, map, flatten}
 use mathlib.Core.Logic.{_⊎_}

@@ -1,7 +1,10 @@
--- The hub's decoder in the words of document 02's Note 3: what it finds, and that it differs from the general one only where a zero length stands at a record's place.
---   Heard h p      (Padded.heard)    what is heard, by what the hub's reading finds after the address
---   Alike h p      (Padded.alike)    where the two decoders answer alike
---   PaddedRows     (Padded.rows)     worked values
+-- The hub's decoder in the words of document 02's Note 3: what it finds, and that it differs from the general one only where a zero length stands at a
+-- record's place.
+--   Heard h p         (Padded.heard)  what is heard, by what the hub's reading finds after the address
+--   Alike h p         (Padded.alike)  where the two decoders answer alike
+--   strictNumber ty p == the number that the general decoder answers for p and a header of type ty that counts p
+--   heardNumbers ty p == what the hub's decoder answers for them: the number, the octets of the area, the records, and the octets that these took
+--   PaddedRows        (Padded.rows)   worked values
 use mathlib.Core.Bool.{true, false}
 use mathlib.Core.List.{List, [], _∷_, _++_, map}
 use mathlib.Core.Path.{_≡_}

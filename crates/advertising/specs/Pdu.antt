@@ -8,24 +8,30 @@
 --     LLData      | AA 4 | CRCInit 3 | WinSize 1 | WinOffset 2 | Interval 2 | Latency 2 | Timeout 2 | ChM 5 | Hop 5 bits, SCA 3 bits |
 --
 -- TxAdd is the kind of the first address and RxAdd that of the second. Numbers stand least significant octet first.
---   fieldAt widths k p        == field k of a payload, where its figure has these widths in octets
---   requestOf p               == the LLData of a connect request
---   accuracyOf n              == the sleep clock accuracy of a code (2.3.3.1)
---   windowEnd d               == the end of the transmit window, from the end of a request with these data
---   senderOf h p, receiverOf h p   == the first and the second address
---   hasReceiver ty            == a type with a second address
---   dataIn d p                == the part of a payload where records lie, and dataPlace d p where that part lies
---   decodedAs o ty s r d l    == an answer, with all that it says
---   refusedPdu e              == the refusal e, with an empty PDU
---   undirected, directed, connectRequest   == the answer by type, once the length agrees
---   decodeBy reading h p      == the answer for a header and a payload, where records are read so
---   decodeOf h p              == the same where they are read strictly; wellFormed h p: it is no refusal
---   decodedAt found s         == the same for a header that was found in s, or not, and what follows it
---   asHub s                   == an area as the hub reads it, the octets taken left out
---   heardOf h p               == the answer where records are read as the hub does: zeros may follow them (document 02, Note 3)
---   hasArea h p               == there are records to read: the type has them, the length agrees and there is an address (for two inner contracts)
---   octetsTaken d p           == how many octets the records take of the part d of a payload
---   paddedOf h p              == what is heard, and how many octets its records took
+--   total widths                         == the sum of these widths
+--   fieldAt widths k p                   == field k of a payload, where its figure has these widths in octets
+--   undirectedFigure, directedFigure, connectFigure == the widths of the figures: with records, with two addresses, and of a connect request
+--   accuracyOf n                         == the sleep clock accuracy of a code (2.3.3.1)
+--   requestOf p                          == the LLData of a connect request
+--   windowEnd d                          == the end of the transmit window, from the end of a request with these data
+--   noRequest, noAddress, noData         == zeros for LLData, for an address, and for the place of records
+--   senderOf h p, receiverOf h p         == the first and the second address
+--   hasReceiver ty                       == a type with a second address
+--   dataIn d p, dataPlace d p            == the part of a payload where records lie, and where that part lies
+--   decodedAs o ty s r d l               == an answer, with all that it says
+--   refusedPdu e                         == the refusal e, with an empty PDU
+--   withArea ty h p a                    == the answer for a type with records, by what reading these found
+--   Reading                              == a way to read an area of records
+--   undirected, directed, connectRequest == the answer by type, once the length agrees
+--   byType reading ty h p                == the one of these that the type takes, or the refusal of a type without a name
+--   decodeBy reading h p                 == the answer for a header and a payload, where records are read by `reading`
+--   decodeOf h p, wellFormed h p         == the same where they are read strictly; it is no refusal
+--   decodedAt found s                    == the same for a header that was found in s, or not, and what follows it
+--   hasArea h p                          == there are records to read: the type has them, the length agrees and there is an address (for two inner contracts)
+--   asHub s                              == an area as the hub reads it, the octets taken left out
+--   heardOf h p                          == the answer where records are read as the hub does: zeros may follow them (document 02, Note 3)
+--   octetsTaken d p                      == how many octets the records take of the part d of a payload
+--   paddedOf h p                         == what is heard, and how many octets its records took
 use mathlib.Core.Bool.{Bool, true, false, cond, _&&_}
 use mathlib.Core.List.{List, [], _∷_}
 use Prim.Native.Nat.{ℕ, _+_, _-_, _*_, _/_, _%_}

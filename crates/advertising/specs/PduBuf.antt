@@ -1,14 +1,16 @@
 -- What the builders of PDUs build (layouts: specs/Pdu.antt; sizes and refusals: document 01, advertising.rs).
---   to37 xs                 == 37 octets: xs and zeros
---   headerFor ty tx rx n      == the header of a PDU of type ty with a payload of n octets
---   bufOf ty tx rx xs         == the PDU of type ty with the payload xs
---   emptyBuf                  == a PDU of zeros, without payload
---   refusedBuf e              == the refusal e, with that
---   withRecords ty tx front s == the PDU whose payload is `front` and the records of s, read and written again
---   builtOf ty a flags s      == the PDU of the address a, the record `flags` if there is one, and the records of s
+--   to37 xs                             == 37 octets: xs and zeros
+--   headerFor ty tx rx n                == the header of a PDU of type ty with a payload of n octets
+--   bufOf ty tx rx xs                   == the PDU of type ty with the payload xs
+--   emptyBuf                            == a PDU of zeros, without payload
+--   refusedBuf e                        == the refusal e, with that
+--   afterReading ty tx front s a        == what is built of `front` and the records of s, by what reading these found
+--   withRecords ty tx front s           == the PDU whose payload is `front` and the records of s, read and written again
+--   builtOf ty a flags s                == the PDU of the address a, the record `flags` if there is one, and the records of s
+--   flagsRecord                         == the record of Flags that stands before the others in a discoverable PDU
 --   connectablePdu, nonconnectablePdu, scannablePdu, beaconPdu, discoverablePdu, scanResponsePdu a s == what each builder builds
---   builtDirected a b         == the PDU of two addresses
---   payloadOf b               == the payload of a PDU
+--   builtDirected a b                   == the PDU of two addresses
+--   payloadOf b                         == the payload of a PDU
 --   payloadTo b out, payloadAfter b out == what copying it to the front of `out` answers, and what `out` then holds
 use mathlib.Core.Bool.{Bool, false, cond}
 use mathlib.Core.List.{List, [], _∷_, _++_}

@@ -1,11 +1,13 @@
 -- Which header and payload are refused, and with which number (document 01: "Order: length, type, fields from the front.").
---   numberFor n p     == document 01's number for a header of the 16 bits n and the payload p, 0 where they are accepted
---   needed            == how many octets the fields of types 0 to 6 need
---   Among c cs        == c is one of cs
---   Order n p         (Refusals.order)       that number, by the header's bits and the payload's length
---   pduFrom s at      == what is read of header and payload in one slice, from position `at` on
---   FromBytes s       (Refusals.from-bytes)  that, by the octets of s
---   Rows              (Refusals.rows)        worked values beside each limit, and where two conditions hold at once
+--   numberFor n p   == document 01's number for a header of the 16 bits n and the payload p, 0 where they are accepted
+--   needed          == how many octets the fields of types 0 to 6 need
+--   Among c cs      == c is one of cs
+--   Order n p       (Refusals.order)       that number, by the header's bits and the payload's length
+--   pduFrom s at    == what is read of header and payload in one slice, from position `at` on
+--   FromBytes s     (Refusals.from-bytes)  that, by the octets of s
+--   zeros ty k      == the number for a header of type ty that counts k octets, all zero
+--   numberFrom s at == the number of what is read from position `at` on
+--   Rows            (Refusals.rows)        worked values beside each limit, and where two conditions hold at once
 use mathlib.Core.List.{List, [], _∷_, _++_, map}
 use mathlib.Core.Logic.{_⊎_}
 use mathlib.Core.Path.{_≡_}

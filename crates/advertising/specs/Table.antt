@@ -1,4 +1,10 @@
--- Document 01, "Packets beside each limit": the starred rows as one table, in the paper's order. `table` of proofs/Table.antt proves it by computation.
+-- Document 01, "Packets beside each limit": the starred rows as one table, in the paper's order.
+--   Result             == what a row says: a type, a random or public sender and a number of records; a number of records alone; or a refusal
+--   resultOf outcome p == that of a decoded PDU
+--   packet h0 h1 p     == that of the two octets of a header and a payload
+--   areaResult a       == that of what reading an area found
+--   areaRow s          == that of the octets of an area
+--   Table              (Table.table)  the rows, proved by computation
 use mathlib.Core.Bool.{Bool, true, false}
 use mathlib.Core.List.{List, [], _∷_}
 use mathlib.Core.Path.{_≡_}

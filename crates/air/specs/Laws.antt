@@ -1,9 +1,12 @@
--- A packet on the air: what is built is sent with its CRC and whitened, and heard. `Air` is proved as Passing.air.
---   sentOn channel start octets   == octets with their CRC after them, whitened: what goes on the air
---   headerIn, payloadIn packet    == a packet's header and its payload, the CRC left out
---   Passes, Beacons               == a header and payload pass through the air unchanged, and the flag is good; a beacon decodes to what was built
---   Air                           == these, of every header and payload, every beacon, every channel and every start value
---   Examples                      == document 01's row on the air, proved as Passing.examples
+-- A packet on the air: what is built is sent with its CRC and whitened, and heard.
+--   sentOn channel start octets       == octets with their CRC after them, whitened: what goes on the air
+--   headerIn packet, payloadIn packet == a packet's header and its payload, the CRC left out
+--   Passes channel start h p          == a header and payload pass through the air unchanged, and the flag is good
+--   onAir a s channel start           == the beacon of an address and records as it goes on the air
+--   clear a s channel start           == that beacon as it is heard, its whitening taken off
+--   Beacons a s n channel start       == its flag is good, it decodes to what was built, and a scanner that lets the address pass reports it
+--   Air                               (Passing.air)       these, of every header and payload, every beacon, every channel and every start value
+--   Examples                          (Passing.examples)  document 01's row on the air
 use mathlib.Core.Bool.{true}
 use mathlib.Core.List.{List, [], _∷_, _++_, map}
 use mathlib.Core.Path.{_≡_}

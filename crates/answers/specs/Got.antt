@@ -1,4 +1,7 @@
 -- Answers that are up to two numbers: a refusal's number (document 01), 0 where there is none.
+--   found a b                 == the numbers a and b, and no refusal
+--   refusedAs e               == the number of the refusal e, and zeros
+--   writtenGot w, passedGot s == the position after a write, and after octets that were passed over, or the refusal
 use Prim.Native.Nat.{ℕ}
 use Rattle.octets.specs.Error.{numberOf}
 use Rattle.octets.specs.declared.bytes.Skipped.{Skipped}

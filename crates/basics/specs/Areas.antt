@@ -1,7 +1,12 @@
 -- Records as numbers: the kinds count from 1 in the order of `AdStructure`, and 0 is the end of an area.
+--   areaGot a, paddedGot a, uuidGot at u      == the numbers of an area, of one that the hub reads, and of a UUID in a list
 --   structureIn kind complete value start len == the record of these numbers
---   structureSaid a next, readSaid, parsedSaid, knownSaid == the numbers of a record, of what was read, and of that read on
---   areaGot, paddedGot, uuidGot, flagsSaid == the numbers of an area, of one that the hub reads, of a UUID in a list, and of an octet of Flags
+--   said kind complete value start len next   == these numbers, and no refusal
+--   refusedSaid e                             == the number of the refusal e, and zeros
+--   structureSaid a next                      == the numbers of a record
+--   parsedSaid p next, readSaid r             == the numbers of what was parsed, and of what was read
+--   knownSaid s r                             == those of what was read, read on
+--   flagsSaid x                               == the numbers of an octet of Flags
 use mathlib.Core.Bool.{Bool, false, cond}
 use mathlib.Core.List.{List}
 use Prim.Native.Nat.{ℕ, _%_}

@@ -1,4 +1,8 @@
 -- What was read, as numbers: a refusal's number (document 01), or 0, what was read, and the position after it.
+--   leftGot left empty                  == how many octets are left, and 1 where there is none
+--   u8Got r, u16Got r, u32Got r         == a number that was read
+--   partSaid r                          == a part that was read: where it lies, and its length
+--   fiveSaid octets g, sixSaid octets g == five octets, and six, with the number and the position that g has
 use mathlib.Core.Bool.{Bool, cond}
 use mathlib.Core.List.{List}
 use Prim.Native.Nat.{ℕ}

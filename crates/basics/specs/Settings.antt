@@ -1,7 +1,8 @@
 -- Settings as numbers.
---   saidOf s          == their values, with the number 0
---   settingsSaid t    == the same, or the number of a refusal, and zeros
---   Examples          == worked values, proved as Settings.examples
+--   saidOf s         == their values, with the number 0
+--   saidBy s outcome == the same where they were taken, or the number of a refusal, and zeros
+--   settingsSaid t   == that of settings that were taken, or not
+--   Examples         (Settings.examples)  worked values
 use mathlib.Core.List.{[], _∷_}
 use mathlib.Core.Path.{_≡_}
 use Rattle.octets.specs.Error.{numberOf}

@@ -1,15 +1,20 @@
 -- The laws of beacons and their scanner, each with the theorem of proofs/ that proves it.
---   Reports       Reports.reports             which packets are reported, and what of them
---   Located       Reports.located             where a reported beacon's records lie
---   BadList       Reports.bad-list            which filter lists are refused
---   Unfiltered    Reports.without-filter      what a scanner without a filter reports
---   Scanning      Runs.scanning               the channels and instants of a run of calls
---   Sends         Broadcasts.sends            what is transmitted and written
---   NoBeacon      Broadcasts.no-beacon        which records make no beacon
---   Broadcasting  Broadcasts.broadcasting     what is heard of a beacon that was made
---   Sendable      Broadcasts.sendable         what can be sent whatever the records, after a refusal too
---   Row           Rows.row                    document 01's row
---   Examples      Rows.examples               worked values
+--   Lets f list a                        == the filter f lets the address a pass: it accepts all, or some entry of its list is equal
+--   Checks f h p crcOk list              == a packet passes document 01's checks: CRC, type 2, decoding, filter
+--   Reports s h p crcOk list             (Reports.reports)          which packets are reported, and what of them
+--   Located s h p crcOk list             (Reports.located)          where a reported beacon's records lie
+--   BadList s h p crcOk list             (Reports.bad-list)         which filter lists are refused
+--   Unfiltered h p crcOk list            (Reports.without-filter)   what a scanner without a filter reports
+--   run s interval times k               == what call k of a run answers: call 0 configures the scanner, the others are timer updates
+--   Scanning s interval times k          (Runs.scanning)            the channels and instants of a run of calls
+--   Sends b tx                           (Broadcasts.sends)         what is transmitted and written
+--   NoBeacon a s                         (Broadcasts.no-beacon)     which records make no beacon
+--   Broadcasting a s n                   (Broadcasts.broadcasting)  what is heard of a beacon that was made
+--   Sendable a s                         (Broadcasts.sendable)      what can be sent whatever the records, after a refusal too
+--   Row                                  (Rows.row)                 document 01's row
+--   listAnswer list                      == what a scanner with a filter answers to that row, with this list
+--   senderEntry, publicEntry, kind2Entry == entries of a list: the row's sender, it as a public address, and one of kind 2
+--   Examples                             (Rows.examples)            worked values
 use mathlib.Core.Bool.{Bool, true, false, cond}
 use mathlib.Core.List.{List, [], _∷_, _++_, map}
 use mathlib.Core.Path.{_≡_}

@@ -1,7 +1,17 @@
 -- Beacons and scanners as numbers.
---   beaconSent made tx, beaconAfter made tx == what is transmitted of a beacon that was made, or not, and the transmit buffer afterwards
---   scannerWith f t i n       == a scanner with a filter or without, configured at time t with interval i, after up to 3 timer updates at time t
---   heardFrom s made p crc l  == what a scanner says of a packet whose header was made, or not
+--   notSent e                                 == the number of the refusal e, and zeros
+--   broadcastSent b                           == what is transmitted: the header and the three channels, or the refusal
+--   sentBy b tx outcome, afterBy b tx outcome == what is transmitted of the beacon b where it was made, and the transmit buffer afterwards
+--   beaconSent made tx, beaconAfter made tx   == the same of a beacon that was made, or not
+--   updated t u, updatedTimes n t u           == a scanner after one more timer update at time t, and after up to 3
+--   at t                                      == the instant t
+--   scannerWith f t i n                       == a scanner with a filter or without, configured at time t with interval i, after up to 3 timer updates then
+--   updatedGot u                              == the channel on which a scanner listens, and its next instant
+--   heardSaid s                               == the numbers of what a scanner says of a packet
+--   unheard e                                 == the number of the refusal e, and zeros
+--   judgedBy r s e                            == the refusal of a filter list where the report r is one, and otherwise the refusal e of a header
+--   headlessOf s list e                       == what a scanner says of a packet whose header was refused with e: a bad filter list is told first
+--   heardFrom s made p crc l                  == what a scanner says of a packet whose header was made, or not
 use mathlib.Core.Bool.{Bool, false, cond}
 use mathlib.Core.List.{List, [], _∷_}
 use Prim.Native.Nat.{ℕ}

@@ -1,10 +1,15 @@
 -- Lists of calls given as octets, 272 for each call (drawn in src/lists.rt), on a fresh device with two transmit buffers.
---   callIn c tx               == the call of 272 octets, lent a transmit buffer
---   bufferAfter d c tx        == the transmit buffer after a call
---   Board, board              == the state of a device and its two transmit buffers
---   calledBy c s, stepOf c s  == what the call of octets c answers, and the state after it
---   ranAll own calls a b      == the state after all calls on a fresh device
---   answerSaid, calledSaid    == an answer as numbers, with the mode
+--   headerOr made                       == the header that was made, or one of zeros
+--   timeIn c, intervalIn c, headerIn c, octetsIn c == what the octets c of a call have: its time, interval and header, and its records or payload
+--   callIn c tx                         == the call of 272 octets, lent a transmit buffer
+--   bufferAfter d c tx                  == the transmit buffer after a call
+--   Board, board d a b                  == the state of a device and its two transmit buffers
+--   usesSecond c                        == the call of octets c is lent the second buffer
+--   calledBy c s, stepOf c s            == what the call of octets c answers, and the state after it
+--   ran s calls n                       == the state after the first n calls
+--   ranAll own calls a b                == the state after all calls on a fresh device
+--   saying number kind ..               == the numbers of an answer
+--   answerSaid a adv conn, calledSaid c == an answer as numbers, with the mode
 use mathlib.Core.Bool.{Bool, cond}
 use mathlib.Core.List.{List, [], _∷_}
 use Prim.Native.Nat.{ℕ, zero, suc, _*_, _/_}

@@ -1,7 +1,10 @@
 -- Headers and built PDUs as numbers.
---   headerSaid made           == what a header says
---   headSet h tx rx n         == a header with TxAdd, RxAdd and length set; parsedSet: of one that was made, or not
---   builtAs which a s         == the PDU of a builder with records; frameOf, builtFrame: its numbers
+--   headerSaid made                  == what a header says
+--   setGot made                      == the 16 bits of a header that was made, or the refusal
+--   headSet h tx rx n                == a header with TxAdd, RxAdd and length set
+--   parsedSet made tx rx n           == the same of a header that was made, or not
+--   builtAs which a s                == the PDU of a builder with records
+--   frameOf number pdu, builtFrame b == the numbers of a PDU, and those of one that was built, or not
 use mathlib.Core.Bool.{Bool, false, cond}
 use mathlib.Core.List.{List, []}
 use Prim.Native.Nat.{ℕ}

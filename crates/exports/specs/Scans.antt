@@ -1,8 +1,9 @@
 -- Lists of entries given as octets, 272 for each entry (drawn in src/scans.rt), on a fresh scanner.
---   listenSaid u, hearSaid s  == what a scanner says when it listens anew, and of a packet
---   entryAfter c s            == the scanner after the entry of octets c
---   entriesAfter s cs         == the scanner after all entries
---   entrySaid c list s        == what the entry of octets c answers, with a filter list
+--   listenSaid u, hearSaid s == what a scanner says when it listens anew, and of a packet
+--   entryAfter c s           == the scanner after the entry of octets c
+--   entriesUpTo s entries n  == the scanner after the first n entries
+--   entriesAfter s entries   == the scanner after all entries
+--   entrySaid c list s       == what the entry of octets c answers, with a filter list
 use mathlib.Core.Bool.{false, cond}
 use mathlib.Core.List.{List, [], _∷_}
 use Prim.Native.Nat.{ℕ, zero, suc, _*_, _/_}

@@ -1,10 +1,11 @@
 -- The octet of Flags: its five bits that have a name in the Rust `Flags`, and what is asked of them (the Supplement, Part A, 1.3).
---   named x, bitAt b x                   == an octet of Flags without the bits that have no name; bitAt b of x, 0 or 1
---   limitedDiscoverable, generalDiscoverable, supportsClassic, bothByController, bothByHost   == what bits 0 to 4 say
---   discoverableFlags, broadcastFlags   == the octet of a start, and that of a beacon
---   NamedBits x                         == `named x` keeps these five bits of x, and no other
---   withBits l g n c h above            == the octet whose bits 0 to 4 are these, and `above` those above them
---   Queries l g n c h above             == each query of it answers by its own bit, whatever the others are
+--   named x, bitAt b x                == an octet of Flags without the bits that have no name; bit b of x, 0 or 1
+--   limitedDiscoverable, generalDiscoverable, supportsClassic, bothByController, bothByHost == what bits 0 to 4 say
+--   discoverableFlags, broadcastFlags == the octet of a start, and that of a beacon
+--   NamedBits x                       (Bits.named-bits)  `named x` keeps these five bits of x, and no other
+--   digit b                           == 1 where b is true, otherwise 0
+--   withBits l g n c h above          == the octet whose bits 0 to 4 are these, and `above` those above them
+--   Queries l g n c h above           (Bits.queries)     each query of it answers by its own bit, whatever the others are
 use mathlib.Core.Path.{_≡_}
 use mathlib.Core.Bool.{Bool, cond, not}
 use Prim.Native.Nat.{ℕ, _+_, _*_, _/_, _%_, _^_, _<_, _≤_}

@@ -1,14 +1,25 @@
--- The look-up in the words of document 02's Note 4: "The result is the name's own octets in whichever of the two lent areas holds it. A complete name in the reply comes first, then complete
--- in the advertisement, then shortened in the reply, then shortened in the advertisement. Within an area the first such record with well-formed UTF-8 counts; others are passed over. New
--- numbers: 11, neither area has such a record, after the reading refusals of the advertisement and then the reply."
---   Named ty type octets      == a record of type ty whose data are well-formed UTF-8; `First (Named ty) s start len` (records_spec, specs/Search): the first such record of s has its data there
---   Answers a r p             == p is the answer for the advertisement a and the reply r
---   LooksUp a r               (Names.looks-up)       `nameOf` is that answer, and no other place is
---   Eleven a r                (Names.eleven)         11 exactly where both are read and no such record of either type stands in either
---   HandsOn a r               (Names.hands-on)       the part handed on is the data of the record that is found, in its own area and place
---   AnyPlace a r              (Names.any-place)      the part that any place names, in any two areas
---   NameRows, PartRows x      (Names.rows, Names.part-rows)   worked values: places, and what is handed on
---   Holds                     (Names.holds)          all of these, of every two areas
+-- The look-up in the words of document 02's Note 4: "The result is the name's own octets in whichever of the two lent areas holds it. A complete name in
+-- the reply comes first, then complete in the advertisement, then shortened in the reply, then shortened in the advertisement. Within an area the first such
+-- record with well-formed UTF-8 counts; others are passed over. New numbers: 11, neither area has such a record, after the reading refusals of the
+-- advertisement and then the reply." `First (Named ty) s start len` (records_spec, specs/Search): the first such record of s has its data there.
+--   Named ty type octets        == a record of type ty whose data are well-formed UTF-8
+--   completeType, shortenedType == the type octets of a complete name, and of a shortened one
+--   Answers a r p               == p is the answer for the advertisement a and the reply r
+--   LooksUp a r                 (Names.looks-up)   `nameOf` is that answer, and no other place is
+--   NoNames a r                 == both are read, and no name of either type stands in either
+--   Eleven a r                  (Names.eleven)     11 exactly where this is so
+--   HandsOn a r                 (Names.hands-on)   the part handed on is the data of the record that is found, in its own area and place
+--   Hands s start len from part == what is handed on of s for a place: the octets there, where they lie; none, at its start, where it has fewer
+--   AnyPlace a r                (Names.any-place)  the part that any place names, in any two areas
+--   flags                       == a record of Flags
+--   ada, bo, broken, empty ty   == records of type ty: names "Ada" and "Bo", one that is not UTF-8, and an empty one
+--   zeros n                     == n zeros
+--   cut-short, no-length        == a record that is cut short, and a zero length before another octet
+--   NameRows                    (Names.rows)       worked values: places
+--   lent x at octets            == octets that are lent at a place
+--   handed x a r                == where the name lies for an advertisement and a reply, and its octets
+--   PartRows x                  (Names.part-rows)  worked values: what is handed on
+--   Holds                       (Names.holds)      all of these, of every two areas
 use mathlib.Core.Bool.{true}
 use mathlib.Core.List.{List, [], _∷_, _++_, map}
 use mathlib.Core.Path.{_≡_}

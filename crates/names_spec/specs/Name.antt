@@ -1,10 +1,12 @@
 -- The player's name beside a move (document 02, Note 4; types: Assigned Numbers, 2.3). specs/Laws says it in the Note's words.
---   isName ty r               == a record's octets r: its type is ty, and its data are well-formed UTF-8
---   nameIn ty s               == where the first such record of the area s, which has no padding, has its data
---   chosen a r                == the first of the four searches that finds something, in an advertisement a and a reply r without padding
---   nameOf a r                == the same where both are read as the hub reads them, or the refusal
---   handedFrom p a r, handedOn p a r   == where the octets lie that a place p names in the areas a and r, and these octets
---   nameFrom a r, nameOctets a r       == the same of the place that is found
+--   isName ty r                            == a record's octets r: its type is ty, and its data are well-formed UTF-8
+--   nameIn ty s                            == where the first such record of the area s, which has no padding, has its data
+--   inReply f else, inAdvertisement f else == what a search of the reply, or of the advertisement, found, or `else` where it found nothing
+--   chosen a r                             == the first of the four searches that finds something, in an advertisement a and a reply r without padding
+--   afterReading a name                    == the refusal of an area, or `name` where it was accepted
+--   nameOf a r                             == the place chosen where both are read as the hub reads them, or the refusal
+--   handedFrom p a r, handedOn p a r       == where the octets lie that a place p names in the areas a and r, and these octets
+--   nameFrom a r, nameOctets a r           == the same of the place that is found
 use mathlib.Core.Bool.{Bool, _&&_}
 use mathlib.Core.List.{List, []}
 use Prim.Native.Nat.{ℕ}

@@ -1,25 +1,35 @@
 -- What each call answers, the state of the device after it, and what it leaves in the transmit buffer (document 01, "link/mod.rs, connection.rs" and
 -- "Refused calls").
---   fresh own                 == a device in standby with its own address
---   isAdvertising m, isConnected m
---   refusal d e               == the refusal e, nothing changed
---   advanced a                == the advertisement a after a tick: the next channel, the next instant
---   advertised d a            == an accepted tick of a
---   sent d a w                == a tick of a whose payload was written to the transmit buffer, or not
---   beginning t i pdu         == the advertisement that a start sets up
---   isFor own pdu             == the PDU has a second address, and that is `own`, kind included
---   isScanRequest ty
---   listens d                 == the device keeps listening
---   responds d w              == a scan request whose reply was written to the transmit buffer, or not
---   repliedIf scanRequest d tx      == the transmit buffer with the reply's payload at its front, where that was scanRequest for and there is room
---   connectedAt, begun d end l s == the connection that a request asksToConnect for, with the settings s, at its first event
---   connectsTo d end l        == the same where the settings are taken, or their refusal
---   addressed d end l tx ty   == a packet of type ty that is for this device
---   heard d end pdu tx        == a CRC-good packet
---   repliesWith d pdu         == the device with another reply; setTo d pdu o: where the builder took the data
---   hops d                    == the next event of the connection
---   startOf, tickOf, packetOf, scanDataOf, eventOf, stopOf == what the six calls answer
---   startAfter, tickAfter, packetAfter == the transmit buffer after them
+--   isAdvertising m, isConnected m == the mode is that of an advertising device, of a connected one
+--   instant t                      == the instant t
+--   fresh own                      == a device in standby with its own address
+--   refusal d e                    == the refusal e, nothing changed
+--   advanced a                     == the advertisement a after a tick: the next channel, the next instant
+--   advertised d a                 == an accepted tick of a
+--   sent d a w                     == a tick of a whose payload was written to the transmit buffer, or not
+--   tickOf d tx, tickAfter d tx    == what a tick answers, and the transmit buffer after it
+--   beginning t i pdu              == the advertisement that a start sets up
+--   discoverable d records         == the PDU that a start builds, or its refusal
+--   started d a tx outcome         == a start whose PDU was built, or not; startedAfter pdu tx outcome: the transmit buffer after it
+--   startOf d t i records tx       == what a start answers; startAfter d records tx: the transmit buffer after it
+--   isFor own pdu                  == the PDU has a second address, and that is `own`, kind included
+--   listens d                      == the device keeps listening
+--   responds d w                   == a scan request whose reply was written to the transmit buffer, or not
+--   repliedIf scanRequest d tx     == the transmit buffer with the reply's payload at its front, where the packet was a scan request and there is room
+--   firstEventAt end l             == the instant of the first event after a request with the data l that ended at `end`
+--   connectedAt d end l s u c      == a connection with the settings s, whose first event has the unmapped channel u and the channel c
+--   begun d end l s                == the connection that a request asks for, with the settings s, at its first event
+--   settled d end l s outcome      == the same where the settings are taken, or their refusal
+--   connectsTo d end l             == that of the settings which the request has
+--   isScanRequest ty               == the type is that of a scan request
+--   addressed d end l tx ty        == a packet of type ty that is for this device
+--   heard d end pdu tx             == a CRC-good packet
+--   packetOf d end h p crc tx      == what a packet answers; packetAfter d h p crc tx: the transmit buffer after it
+--   repliesWith d pdu              == the device with another reply; setTo d pdu o: where the builder took the data
+--   scanDataOf d records           == what setting scan data answers
+--   hoppedTo d hop                 == an event where the hop found a channel, or its refusal
+--   hops d                         == the next event of the connection
+--   eventOf d, stopOf d            == what an event and a stop answer
 use mathlib.Core.Bool.{Bool, true, false, cond, _&&_}
 use mathlib.Core.List.{List, [], _∷_}
 use Prim.Native.Nat.{ℕ, _+_}

@@ -1,7 +1,7 @@
 -- Demand 3: what holds of every list of calls from a fresh device in standby. `demand-3` of proofs/Demand.antt proves it of every own address of six
--- octets and every list; `Words` of specs/Laws.antt says what its words mean, `SetsScanData`, `HearsPacket` and `Limits` there which calls the table refuses, and
--- specs/Trace.antt has `Call`, `Entry` and `trace`. A call of a `Device` of radio is such a call: its contract there equates what it returns, read as a step,
--- with what `callOf` says of the state (`startOf`, `tickOf` ..).
+-- octets and every list; `Words` of specs/Laws.antt says what its words mean, `SetsScanData` and `HearsPacket` there and `Limits` of specs/Examples.antt
+-- which calls the table refuses; `Call` is in specs/Call.antt, `Entry` and `trace` in specs/Trace.antt. A call of a `Device` of radio is such a call: its
+-- contract there equates what it returns, read as a step, with what `callOf` says of the state (`startOf`, `tickOf` ..).
 --
 --     an Entry of the trace  | mode, channel, scanData, number, call      | result, octets                                        |
 --                            | what the list says: the mode before, the   | what the call of the device returned, and what stands |
@@ -10,7 +10,7 @@
 --
 -- `AtEach P (trace ..)` says P of each entry with the entries after it; `gather role after` is those of them that belong to a run (of accepted ticks, of
 -- accepted events, of packets), up to its end. Words of the crates below have their laws there: `marked`, `marks`, `channelAt`, `eventChannel` and `cycles`
--- in channels, `later` and `le` in octets, `rewritten` in records, `headerFor` in advertising.
+-- in channels, `later` and `le` in octets, `rewritten` in records_spec, `headerFor` in advertising.
 --   numberIn a                == the number that an answer refuses with; 0 where it refuses nothing
 --   isFirstEvent a, isReply a == the answer is a connection's first event, a reply to a scan request
 --   Each P k es               == P holds of each entry and its place, counted from k
@@ -21,7 +21,7 @@
 --   repliedTo own e           == the list says that this call is a scan request to an advertising board, with room for the reply
 --   Reply                     == what such a call answers and writes
 --   RefusedAt, TicksFrom, ListeningFrom, RepliesAt, BeginsAt, EventsFrom, StopsAt, SetsAt   == what holds at an entry, with the entries after it
---   Demand3 own calls         == the whole of demand 3
+--   Demand3 own calls         (Demand.demand-3)   the whole of demand 3
 use mathlib.Core.Bool.{Bool, true, false, not, _&&_}
 use mathlib.Core.List.{List, [], _∷_, _++_}
 use mathlib.Core.Path.{_≡_}

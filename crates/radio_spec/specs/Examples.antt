@@ -1,10 +1,17 @@
--- Worked lists of calls, on both sides of each limit: what each call answers, and the octets that it leaves. proofs/Example.antt computes them.
---   Example                   == a start, a tick, a connect request and 36 events (exampleTrace), with document 01's row of the hop
---   TitleExample              == scan data, and replies with them (titledTrace)
---   Limits                    == calls beside each limit (limitsTrace)
---   board, request            == an address, and the payload of a connect request to it
---   title, manufacturer n     == records: Flags with an undefined bit and the name "Go", and n octets of manufacturer specific data
---   sentTo, scanRequest, publicScanRequest, requesting == packets: any, scan requests, connect requests
+-- Worked lists of calls, on both sides of each limit: what each call answers, and the octets that it leaves.
+--   board, request               == an address, and the payload of a connect request to it
+--   exampleTrace, exampleAnswers == a start, a tick, a connect request and 36 events, and what these answer
+--   Example                      (Example.example)        what they answer and leave, with document 01's row of the hop
+--   title                        == records: Flags with an undefined bit and the name "Go"
+--   sentTo header last crcGood n == a packet of a header to an address that ends in `last`, with a transmit buffer of n octets
+--   scanRequest n                == a scan request to the board with the random address, with such a buffer
+--   titledTrace                  == scan data that are set, and scan requests
+--   TitleExample                 (Example.title-example)  what these answer and leave: replies with the scan data
+--   manufacturer n               == a record of n octets of manufacturer specific data
+--   publicScanRequest n          == a scan request to `board`, with a transmit buffer of n octets
+--   requesting mapAndHop         == the connect request with another map and hop
+--   limitsTrace                  == calls beside each limit
+--   Limits                       (Example.limits)         what these answer and leave
 use mathlib.Core.Bool.{Bool, true, false}
 use mathlib.Core.List.{List, [], _∷_, _++_, map}
 use mathlib.Core.Path.{_≡_}

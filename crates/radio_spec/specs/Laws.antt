@@ -1,15 +1,18 @@
--- The laws of the device, each with the theorem of proofs/ that proves it.
---   Demand3       Demand.demand-3          every list of calls (specs/Demand)
---   Words         Words.words              what the words of demand 3 mean; ForBoard, Requests, Scans: packets, by their octets
---   Modes         Words.modes              which mode advertises, and which is connected
---   Refusing      Words.refusing           a refused call changes nothing
---   Transmits     Words.transmits          what an accepted start and tick write
---   BadStart      Words.bad-start          a start with a bad area
---   ReplyDecodes  Replies.reply-decodes    a reply by the Core: its header by numbers, and what it is read as
---   Bare          Replies.bare             a fresh device's reply has no scan data
---   SetsScanData  Replies.sets-scan-data   which scan data are set, what that changes, and that no other call changes the reply
---   HearsPacket   Words.hears-packet       what a packet call answers and writes
--- Worked lists are in specs/Examples.
+-- The laws of the device, each with the theorem of proofs/ that proves it. Every list of calls: Demand3 (Demand.demand-3), which is in specs/Demand;
+-- worked lists are in specs/Examples.
+--   ForBoard own h p                    == by its octets: a well-formed packet of type 1, 3 or 5 whose second address is `own`
+--   Requests own h p crcGood            == by its octets: a CRC-good connect request to `own` that begins a connection
+--   Scans own h p crcGood               == by its octets: a CRC-good scan request to `own`
+--   Words own h p                       (Words.words)             what the words of demand 3 mean
+--   Modes m                             (Words.modes)             which mode advertises, and which is connected
+--   lentBy c                            == the octets of a call's lent buffers, as they were lent
+--   Refusing d c e                      (Words.refusing)          a refused call changes nothing
+--   Transmits d tx                      (Words.transmits)         what an accepted start and tick write
+--   ReplyDecodes own s n                (Replies.reply-decodes)   a reply by the Core: its header by numbers, and what it is read as
+--   Bare own                            (Replies.bare)            a fresh device's reply has no scan data
+--   BadStart d time interval records tx (Words.bad-start)         a start with a bad area
+--   SetsScanData d                      (Replies.sets-scan-data)  which scan data are set, what that changes, and that no other call changes the reply
+--   HearsPacket d end h p crcGood tx    (Words.hearing)           what a packet call answers and writes
 use mathlib.Core.Bool.{Bool, true, false}
 use mathlib.Core.List.{List, [], _∷_, _++_, map}
 use mathlib.Core.Logic.{_⊎_}

@@ -1,18 +1,19 @@
 -- What the list alone says of a call, and of the calls so far (document 01, "The list of demand 3"): nothing here asks the device.
---   forBoard own h p          == "for this board if it has type 1, 3 or 5 and its second address equals the device's own"
+--   isConnectRequest ty          == the type is that of a connect request
+--   forBoard own h p             == "for this board if it has type 1, 3 or 5 and its second address equals the device's own"
 --   requested is own crcGood h p == a CRC-good, well-formed packet to the address `own`, of a type that `is` says
 --   asksToConnect, asksToScan own crcGood h p == such a connect request, such a scan request
---   mapIn p, hopIn p          == the map and the hop of a connect request
---   inRangesIn p              == its settings are within the Core's ranges
---   connects own c            == the call hands over such a connect request, which marks n ≥ 1 channels and is within the ranges
---   asksToScanWith n own c    == the call hands over such a scan request, and a transmit buffer of n octets or more
---   SoFar                     == what the list says of the calls so far; atFirst: before any
---   when, firstOf, areaNumber == numbers of refusals: where a condition holds, the first of two, that of an area
---   startNumber, scanDataNumber == the number that refuses a start, and scan data, 0 where none does
---   replySize s               == how many octets the payload of the reply with the scan data s has
---   refusedBy own l c         == the number of the row of the table that refuses a call; 0 where none does
---   thenCall own l c          == what the list says after the call; thenCalls: after calls
---   modeAfter, scanDataAfter  == the mode and the scan data that a list gives at its end
+--   mapIn p, hopIn p             == the map and the hop of a connect request
+--   inRangesIn p                 == its settings are within the Core's ranges
+--   connects own c               == the call hands over such a connect request, which marks n ≥ 1 channels and is within the ranges
+--   asksToScanWith n own c       == the call hands over such a scan request, and a transmit buffer of n octets or more
+--   SoFar                        == what the list says of the calls so far; atFirst: before any
+--   when, firstOf, areaNumber    == numbers of refusals: where a condition holds, the first of two, that of an area
+--   startNumber, scanDataNumber  == the number that refuses a start, and scan data, 0 where none does
+--   replySize s                  == how many octets the payload of the reply with the scan data s has
+--   refusedBy own l c            == the number of the row of the table that refuses a call; 0 where none does
+--   thenCall own l c             == what the list says after the call; thenCalls: after calls
+--   modeAfter, scanDataAfter     == the mode and the scan data that a list gives at its end
 use mathlib.Core.Bool.{Bool, true, false, cond, not, _&&_, _||_}
 use mathlib.Core.List.{List, [], _∷_}
 use Prim.Native.Nat.{ℕ, zero, suc, _+_, _%_}

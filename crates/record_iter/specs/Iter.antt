@@ -1,8 +1,9 @@
 -- The record iterator: a lent slice and a position in it (document 01: "a struct that holds the lent records").
---   positionAfter s at    == the position after the record at `at` of s, or `at` where no record is read
---   front area            == the iterator at the front of an area
---   onward it             == the iterator past the record at its position
---   restPlace s at        == the place of the part of s from position `at` on
+--   after at r         == the position after what was read at `at`, or `at` where it is no record
+--   positionAfter s at == the position after the record at `at` of s, or `at` where no record is read
+--   front area         == the iterator at the front of an area
+--   onward it          == the iterator past the record at its position
+--   restPlace s at     == the place of the part of s from position `at` on
 use Prim.Native.Nat.{ℕ, _+_, min}
 use mathlib.Core.List.{List}
 use lib.ListN.{length}

@@ -1,11 +1,16 @@
 -- Going through the iterator from the front finds exactly the records of the area, in order, as `read_area` counts them.
---   nextOf it, restOf it    == what `next` answers, and the octets that `into_rest` hands out
---   movedBy k it            == the iterator after k moves
---   answerAt rs k           == answer k of going through records that read as rs: a refusal or the end stays
---   Through area n last     == the first n answers are records, and the one after them is `last`
---   GoesThrough area        == the law
---   RestPlaced s at         == the rest lies in the area, and ends where the area ends
---   Rows r                  == document 01's rows `02 01 86` and `01 03`, one after the other
+--   nextOf it, restOf it == what `next` answers, and the octets that `into_rest` hands out
+--   movedBy k it         == the iterator after k moves
+--   answerAt rs k        == answer k of going through records that read as rs: a refusal or the end stays
+--   IsRecord r           == what was read is a record
+--   nextAfter area k     == what `next` answers after k moves from the front
+--   Through area n last  == the first n answers are records, and the one after them is `last`
+--   Stopped area e       == some answers are records, and the one after them is the refusal e
+--   AreaCounted area a   == the answers agree with what `read_area` answers: so many records, or the refusal
+--   GoesThrough area     (Through.goes-through)  the answers are the records of the area, in order and as they are counted
+--   RestPlaced s at      (Through.rest-placed)   the rest lies in the area, and ends where the area ends
+--   twoRows r            == document 01's rows `02 01 86` and `01 03`, one after the other, as an area
+--   Rows r               (Rows.rows)             what the iterator finds there
 use mathlib.Core.Path.{_≡_}
 use mathlib.Core.Bool.{true}
 use Prim.Native.Nat.{ℕ, zero, suc, _+_, _<_}

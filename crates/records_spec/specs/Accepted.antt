@@ -1,13 +1,16 @@
 -- Which areas are accepted, and what refuses the others, in document 01's words: "An area is accepted exactly if records of nonzero length
 -- tile it, Flags length is 2 and list length odd. Otherwise its first bad record decides: zero length 2, too few octets 1, wrong Flags 2,
 -- odd list data 1."
---   Good n body       == a good record: its length octet, and its octets of type and data
---   Tiling s m        == m good records tile s
---   Bad l e           == the record that l begins with is bad, and refused with e
---   FirstBad s e      == good records, and then a bad one, are what s begins with
---   Decided s         == s is accepted exactly if it is tiled, and refused exactly as its first bad record is
---   FrontOf s f       == f tells the good records that s begins with, and the first bad one after them, if there is one
---   Fronted s         == `frontOf` tells so
+--   IsList ty    == the type octet is that of a list of 16-bit UUIDs
+--   Good n body  == a good record: its length octet, and its octets of type and data
+--   AllGood rs   == the octets rs are good records
+--   Tiling s m   == m good records tile s
+--   Bad l e      == the record that l begins with is bad, and refused with e
+--   FirstBad s e == good records, and then a bad one, are what s begins with
+--   Verdict s a  == the answer a of reading s is right: s is tiled, or its first bad record is refused so
+--   Decided s    (Accepted.decided)  s is accepted exactly if it is tiled, and refused exactly as its first bad record is
+--   FrontOf s f  == f tells the good records that s begins with, and the first bad one after them, if there is one
+--   Fronted s    (Fronts.fronted)    `frontOf` tells so
 use mathlib.Core.Path.{_≡_}
 use mathlib.Core.Logic.{_⊎_}
 use mathlib.Core.List.{List, [], _∷_, _++_, flatten}

@@ -1,12 +1,18 @@
 -- What reading a whole area of records finds, and what writing its records again writes (the Core, Vol 3 Part C, 11; document 01, ad_structure.rs).
---   records s             == the octets of each record, the last cut short where s ends within it
---   reads rs at           == what reading each of these records finds, the first at position `at`
---   readArea s            == the number of records, or the refusal of the first bad one
---   AcceptedFrom s at     == from position `at` on, s is an area that is accepted
---   frontOf s             == the good records that s begins with, and where the first bad one stands, with its refusal
---   clean r               == a record's octets, that of Flags without the bits that have no name
---   rewritten s           == these of each record
---   rewrittenTo s out, rewrittenAfter s out   == what writing them to the front of `out` answers, and what `out` then holds
+--   cut s skip              == the octets of each record, `skip` octets of the record before being still to pass
+--   records s               == the octets of each record, the last cut short where s ends within it
+--   reads rs at             == what reading each of these records finds, the first at position `at`
+--   withFirst r a           == what an area is read as whose first record is read as r, and whose rest as a
+--   areaOf answers          == what an area is read as whose records are read as these answers
+--   readArea s              == the number of records, or the refusal of the first bad one
+--   AcceptedFrom s at       == from position `at` on, s is an area that is accepted
+--   frontAt r rest count at == the front by the answer r for the record at `at`, before which `count` good ones stand: the refusal there, or `rest`
+--   frontFrom rs count at   == the front of the records rs, the first at `at`, before which `count` good ones stand
+--   frontOf s               == the good records that s begins with, and where the first bad one stands, with its refusal
+--   clean r                 == a record's octets, that of Flags without the bits that have no name
+--   rewritten s             == these of each record
+--   mayRewrite a s out      == whether the area s, read as a, may be written again to `out`
+--   rewrittenTo s out, rewrittenAfter s out == what writing them to the front of `out` answers, and what `out` then holds
 use mathlib.Core.Path.{_≡_}
 use Prim.Native.Nat.{ℕ, zero, suc, _+_}
 use mathlib.Core.Bool.{cond}

@@ -1,8 +1,14 @@
 -- Worked values, with where each comes from: the codes of Assigned Numbers 2.3 and of rubble's `Flags`; records of every kind, written and read; and rows in
 -- which two reasons to refuse hold at once, on both sides of each limit (document 01, ad_structure.rs and "Refused calls").
---   refusedWith w              == the number that a write is refused with, or 0
---   readKnown s               == the record that s begins with, read on to the kind that its type names
---   Codes, Examples        == the values
+--   refusedWith w                == the number that a write is refused with, or 0
+--   putIn n a s, refusedIn n a s == a record a that is written at the front of n zeros, and what writing it there is refused with
+--   outlined own held            == an outline of `held` octets of its own
+--   readKnownFrom s r            == what was read of s, read on to the kind that its type names
+--   readKnown s                  == the record that s begins with, read on to the kind that its type names
+--   flagsOctets                  == octets of Flags: rubble's constants, those of a start and of a beacon, all bits with a name, and those without
+--   Codes                        (Examples.codes)     the queries of these octets, and the type octets
+--   fifteen, sixteen             == one octet less than a 128-bit UUID, and one
+--   Examples                     (Examples.examples)  the other values
 use mathlib.Core.Path.{_≡_}
 use mathlib.Core.Bool.{true, false}
 use mathlib.Core.List.{List, [], _∷_, _++_, map}

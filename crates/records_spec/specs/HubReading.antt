@@ -1,9 +1,11 @@
--- What the hub's reading of an area finds (document 02, Note 3; the Core, Vol 3 Part C, 11: a zero length ends the records). specs/Padded says it in the Note's words.
---   beforeZero rs       == the records before the first whose length is zero
---   unpadded s          == their octets; a record among them may be bad
---   isZeros l           == no octet of l is another than zero
---   readPadded s        == the number of records and the octets that they took, or the refusal of the first fault
---   areaIn a            == the same without the octets taken
+-- What the hub's reading of an area finds (document 02, Note 3; the Core, Vol 3 Part C, 11: a zero length ends the records). specs/HubReads says it in the
+-- Note's words.
+--   beforeZero rs         == the records before the first whose length is zero
+--   unpadded s            == their octets; a record among them may be bad
+--   isZeros l             == no octet of l is another than zero
+--   endedBy a taken zeros == the answer for records that are read as a and took `taken` octets, where zeros alone follow them, or not
+--   readPadded s          == the number of records and the octets that they took, or the refusal of the first fault
+--   areaIn a              == the same without the octets taken
 use mathlib.Core.Bool.{Bool, true, false, cond, _&&_}
 use mathlib.Core.List.{List, [], _∷_, flatten}
 use Prim.Native.Nat.{ℕ}

@@ -1,12 +1,16 @@
--- The hub's reading in the words of document 02's Note 3: "a second reading, used by the hub, that stops there and reports how many octets the records took. A nonzero octet after that
--- point is 2. Rewriting what it read gives the octets before the padding, save undefined Flags bits. .. the hub's differs from it only in this".
+-- The hub's reading in the words of document 02's Note 3: "a second reading, used by the hub, that stops there and reports how many octets the records took.
+-- A nonzero octet after that point is 2. Rewriting what it read gives the octets before the padding, save undefined Flags bits. .. the hub's differs from it
+-- only in this".
 --   Padding s m taken    == m records that are accepted strictly, in `taken` octets, and then zeros alone, perhaps none, make up s
 --   Fault s e            == the first fault of s: a bad record before the first zero length, or after it an octet that is not zero
+--   PaddedVerdict s a    == the answer a of reading s is right: s is padded so, or this is its first fault
 --   HubReads s           (HubReads.hub-reads)     s is accepted exactly if it is padded so, and refused exactly as its first fault is
 --   ZeroLength s         == a zero length stands in s after records that are accepted strictly, perhaps none: at a record's place
+--   tookAll a size       == an answer of the strict reading as one of the hub's: the records took the whole area
 --   Differs s            (HubReads.differs)       where the two readings differ, and where they do not
 --   WithoutSize          (HubReads.without-size)  an answer without the octets taken
 --   Took s out m taken _ (HubReads.took)          what rewriting the octets taken writes
+--   flags, blanks n      == a record of Flags, which is accepted, and n zeros
 --   PaddedRows           (HubReads.rows)          worked values, on both sides of each limit
 use mathlib.Core.Path.{_≡_}
 use mathlib.Core.List.{List, [], _∷_, _++_, map}

@@ -1,11 +1,13 @@
 -- When writing a record is refused, and in which order, in document 01's words: a name that is not UTF-8 first (3); "list data that is not whole UUIDs (1)
 -- and too little space (1) come before 9". Before all that, 1 where the data do not lie in the lent octets.
---   IsName a              == a is a name, complete or shortened
---   uuidOctets a          == the octets of each UUID of a list; 1 for any other kind
---   dataOctets a          == how many octets of data are written: a record's own and the lent ones
---   Lends a s             == the lent data lie in s; Sound a s: and they are UTF-8 where a is a name, whole UUIDs where it is a list
---   NotWritten a s out at e, Put a s out at   == a refused write, and one that is not
---   Ordered a s out at    == each case, the first first
+--   IsName a           == a is a name, complete or shortened
+--   uuidOctets a       == the octets of each UUID of a list; 1 for any other kind
+--   dataOctets a       == how many octets of data are written: a record's own and the lent ones
+--   Lends a s          == the lent data lie in s
+--   lentOctets a s     == these data
+--   Sound a s          == they lie in s, and are UTF-8 where a is a name, whole UUIDs where it is a list
+--   NotWritten a s out at e, Put a s out at == a refused write, and one that is not
+--   Ordered a s out at (Order.ordered)  each case, the first first
 use mathlib.Core.Path.{_≡_}
 use mathlib.Core.Bool.{true, false}
 use mathlib.Core.List.{List}

@@ -1,8 +1,12 @@
--- What a record is read as, by its octets and wherever it stands, in document 01's words: "Flags (type `01`, undefined bits .. cleared), 16-bit lists (`02` incomplete, `03` complete), otherwise type
--- and data"; "zero length 2, too few octets 1, wrong Flags 2, odd list data 1". And what `read_known` reads type and data on to.
---   Whole s at                  == the record at position `at` of s has a type, and all the octets that its length octet counts
---   ReadAs s at                 == what reading at position `at` of s finds
---   ReadOnAs s ty start len     == what reading on finds of data of type ty that take `len` octets at `start` of s
+-- What a record is read as, by its octets and wherever it stands, in document 01's words: "Flags (type `01`, undefined bits .. cleared), 16-bit lists (`02`
+-- incomplete, `03` complete), otherwise type and data"; "zero length 2, too few octets 1, wrong Flags 2, odd list data 1". And what `read_known` reads type and
+-- data on to.
+--   Whole s at                 == the record at position `at` of s has a type, and all the octets that its length octet counts
+--   ReadAs s at                (ReadAs.read-as)     what reading at position `at` of s finds
+--   OfNoKind ty                == no kind has the type ty
+--   readFurther s ty start len == what `read_known` answers for data of type ty that take `len` octets at `start` of s
+--   ReadLent s ty start len    == what that is, where these octets lie in s
+--   ReadOnAs s ty start len    (ReadAs.read-on-as)  what that is, where they do and where they do not
 use mathlib.Core.Path.{_≡_}
 use mathlib.Core.Bool.{true, false}
 use mathlib.Core.List.{List}

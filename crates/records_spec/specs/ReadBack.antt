@@ -1,8 +1,11 @@
 -- What reading finds of a record that was written at position `at` of out, its lent data lying in s.
---   movedTo start a        == a with its lent data at `start`, and Flags without the bits that have no name
---   AsItself a             == a is of a kind that reading yields: Flags, a list of 16-bit UUIDs, or type and data of a type other than 01, 02 and 03
---   OfKnownType a          == a is of a kind that reading leaves as type and data, and `read_known` reads on to
---   FoundAgain a s out at  == what reading finds
+--   movedTo start a       == a with its lent data at `start`, and Flags without the bits that have no name
+--   AsItself a            == a is of a kind that reading yields: Flags, a list of 16-bit UUIDs, or type and data of a type other than 01, 02 and 03
+--   OfKnownType a         == a is of a kind that reading leaves as type and data, and `read_known` reads on to
+--   leftAs a s start      == the type and data that reading leaves of such a record, its data at `start`
+--   FoundAgain a s out at == what reading finds
+--   WrittenAndReadBack    (ReadBack.written-and-read-back)  it finds this of every record that is written
+--   NotAsItself           (ReadBack.not-as-itself)          type 01 without data is written, and reading it is refused
 use mathlib.Core.Path.{_≡_}
 use mathlib.Core.List.{List, [], _∷_}
 use Prim.Native.Nat.{ℕ, _+_, _<_, _^_}

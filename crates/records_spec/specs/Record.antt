@@ -3,14 +3,23 @@
 --     | length n | type     | data           |
 --     | 1 octet  | 1 octet  | n - 1 octets   |
 --
---   recordOf ty d         == the octets of the record of type ty with data d
---   wholeUuids k d        == d is whole UUIDs of kind k
---   uuidList k c at n     == the list of UUIDs of kind k, complete or not, that takes n octets from position `at` on
---   dataRead ty d at      == data d of type ty, at position `at`, as `read_record` reads them
---   kindRead ty d at      == the same, read to the kind that the type names
---   recordRead r at       == a record's octets r, at position `at`
---   recordAt s at         == the record at position `at` of s
---   knownRead a s         == the record a of s, read on to the kind that its type names
+--   recordOf ty d             == the octets of the record of type ty with data d
+--   flagsRead d               == data d read as Flags
+--   wholeUuids k d            == d is whole UUIDs of kind k
+--   uuidList k c at n         == the list of UUIDs of kind k, complete or not, that takes n octets from position `at` on
+--   uuidsRead k c d at        == data d, at position `at`, read as such a list
+--   localName c at n          == the name, complete or shortened, that takes n octets from position `at` on
+--   nameRead c d at           == data d, at position `at`, read as such a name
+--   pairRead kind d at        == data d, at position `at`, read as a number of two octets, and the rest as data of this kind
+--   pairKind service n at len == service data, or manufacturer specific data, with the number n
+--   dataRead ty d at          == data d of type ty, at position `at`, as `read_record` reads them
+--   kindRead ty d at          == the same, read to the kind that the type names
+--   upTo next p               == what was parsed as what was read: a record that ends at `next`, or the refusal
+--   recordRead r at           == a record's octets r, at position `at`
+--   first s                   == the octets of the record that s begins with, or what there is of them
+--   recordAt s at             == the record at position `at` of s
+--   lentRead ty s start len   == data of type ty that take `len` octets at `start` of s, read to the kind that the type names
+--   knownRead a s             == the record a of s, read on to the kind that its type names
 use Prim.Native.Nat.{ℕ, suc, _+_, _-_, _%_}
 use mathlib.Core.Bool.{Bool, true, false, cond}
 use mathlib.Core.List.{List, [], _∷_}

@@ -1,12 +1,17 @@
 -- What holds of an area and of what rewriting it writes, whatever its octets are; and of a record that is read and written again.
---   Cleans r                  == `clean r` is r but for the octet of Flags, which keeps its bits 0 to 4 alone
---   NamedOnly rs              == no Flags among these records has a bit without a name
---   RoundTrip s               == `rewritten s` is s with `clean` of each record in its place, and reads as s does
---   WrittenAgain s out at     == writing a record of s at position `at`, as it was read there, writes `clean` of its octets
---   ReadOnAndRewritten s      == what `read_known` finds of type and data is written as these were, `clean`
---   Begins s p, FlagsOctet s i   == a record of s begins at position p; octet i of s is the octet of a Flags record; `ReadAt s p`: a record is read there
---   Restores s out            == rewriting the area s to `out` restores its octets, save the bits of Flags that have no name
---   Rewriting s out           == that it does so for an accepted area with room, and what it refuses
+--   Cleans r                            (RoundTrip.cleans)              `clean r` is r but for the octet of Flags, which keeps its bits 0 to 4 alone
+--   NamedOnly rs                        == no Flags among these records has a bit without a name
+--   RoundTrip s                         (RoundTrip.round-trip)          `rewritten s` is s with `clean` of each record in its place, and reads as s does
+--   octetsAt s at                       == the octets of the record at position `at` of s
+--   WrittenAgain s out at a next        == writing a record of s at position `at`, as it was read there, writes `clean` of its octets
+--   ReadAndRewritten                    (RoundTrip.read-and-rewritten)  this holds of every record that is read
+--   ReadOnAgain ty start len s out at b == writing b at position `at` writes the record of type ty with these `len` octets of s, `clean`
+--   ReadOnAndRewritten s                (ReadOn.read-on-and-rewritten)  what `read_known` finds of type and data is written as these were, `clean`
+--   Begins s p, FlagsOctet s i          == a record of s begins at position p; octet i of s is the octet of a Flags record
+--   ReadAt s p                          == a record is read there, up to where the next one begins
+--   Restores s out                      == rewriting the area s to `out` restores its octets, save the bits of Flags that have no name
+--   Unwritten s out e                   == rewriting s to `out` is refused with e, and leaves `out`
+--   Rewriting s out                     (Restored.rewriting)            an accepted area with room is restored so, and what is refused
 use mathlib.Core.Path.{_≡_}
 use mathlib.Core.List.{List, [], _∷_, map, flatten}
 use Prim.Native.Nat.{ℕ, _+_, _%_, _<_, _≤_}

@@ -1,4 +1,11 @@
 -- The type octets of records that are read or written here (Assigned Numbers, 2.3, "Common Data Types").
+--   flagsType                           == Flags
+--   incomplete16Type, complete16Type    == lists of service class UUIDs of 16 bits
+--   incomplete32Type, complete32Type    == such lists of 32 bits
+--   incomplete128Type, complete128Type  == such lists of 128 bits
+--   shortenedNameType, completeNameType == local names
+--   serviceDataType                     == service data with a 16-bit UUID
+--   manufacturerType                    == manufacturer specific data
 use Prim.Native.Nat.{ℕ}
 
 abbrev pub flagsType : ℕ

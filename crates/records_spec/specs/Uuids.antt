@@ -1,7 +1,9 @@
 -- The UUIDs of a list of 16-bit UUIDs, one by one (the Supplement, Part A, 1.1).
---   uuid16At d at       == what stands at position `at` of the data d
---   uuids d             == the UUIDs that d is, as numbers
---   OneByOne d at       == the UUID at position `at` is the first of those from there on, they go on where it ends, and the end is that of d
+--   next16From r  == the UUID that was read, and the position after it, or the refusal
+--   uuid16At d at == what stands at position `at` of the data d
+--   uuids d       == the UUIDs that d is, as numbers
+--   Next d at n   == n is right for position `at` of d: a UUID that those from there on begin with, the end of d, or 1
+--   OneByOne d at (Uuids.one-by-one)  the UUID at position `at` is the first of those from there on, they go on where it ends, and the end is that of d
 use mathlib.Core.Path.{_≡_}
 use Prim.Native.Nat.{ℕ, _+_, _*_, _<_, _≤_}
 use mathlib.Core.Bool.{cond}

@@ -1,9 +1,24 @@
 -- What writing one record answers, and what the octets then hold (type octets: Assigned Numbers, 2.3; refusals and their order: document 01).
---   shapeOf a             == the row of the table of kinds
---   dataOf a s            == the data, whose lent part lies in s
---   IsOutline a o         == the outline o, which the code writes by, holds what that row says
---   spaceFor d out at     == whether a record with data d may be written at position `at` of out
---   mayWrite a s out at   == whether the record a may, whose lent part lies in s
+--   listType k complete                == the type octet of a list of UUIDs of kind k
+--   listCheck k d, nameCheck d, noCheck d == what lent data must be: whole UUIDs of kind k, UTF-8, anything
+--   Shape                              == a row of the table of kinds: the type octet, octets of its own, where the lent part lies, and what that must be
+--   shape type own start len check     == the row of these
+--   shapeOf a                          == the row of the record a
+--   typeOf a, ownOf a, startOf a, lenOf a, checkOf a d == what that row says
+--   Outline                            == what the code writes by: the type octet, a number of its own, where the lent part lies, and what that must be
+--   lentOutline ty start len name unit == the outline of a record that has no octets of its own
+--   ownIn o                            == the octets of its own that an outline writes
+--   lentCheck name unit d              == its check of the lent part d
+--   IsOutline a o                      == the outline o holds what the row of a says
+--   dataOf a s                         == the data, whose lent part lies in s
+--   spaceIn n size at                  == whether a record with n octets of data may be written at position `at` of `size` octets
+--   spaceFor d out at                  == whether a record with data d may be written at position `at` of out
+--   andThen o later                    == the refusal o, or `later` where o is none
+--   mayWrite a s out at                == whether the record a may be written, whose lent part lies in s
+--   checkedTo o xs at, checkedAfter o xs out at == what a write of xs that passed its checks, or did not, answers and leaves
+--   lentTo o d out at, lentAfter o d out at == what writing by the outline o, with the lent part d, answers and leaves
+--   octetsOf a s                       == the octets of the record a, whose lent part lies in s
+--   writtenTo a s out at, writtenAfter a s out at == what writing it answers and leaves
 use mathlib.Core.Path.{_≡_}
 use Prim.Native.Nat.{ℕ, _+_, _%_, _<_}
 use mathlib.Core.Bool.{Bool, cond}

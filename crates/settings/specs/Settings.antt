@@ -1,22 +1,29 @@
 -- The settings of a connection and their ranges (document 02, Note 6; the Core, Vol 6 Part B), as the counts that a connect request has: window fields and
--- interval of 1,250 µs, the latency of events, the timeout of 10 ms.
---   Ranges ..         == the ranges, as facts about hop, marked channels, interval, latency, timeout, window size and window offset
---   inRanges ..       == whether they hold (`Tests`, both ways); between, timesInRange, windowInRange: in part
---   Within s, isWithin s == the ranges hold of settings
---   settingsAs ..     == settings of these values; leastSettings: the least of each range, over all channels
---   settingsIn l      == the settings that a decoded request has, in range or not
---   refusedSettings e == the refusal e
---   judged s          == what settings come to; takenOf l: those of a decoded request
---   aloneOf o         == the same of the 22 octets of LLData
---   numberTaken t     == its number, 0 where the settings were taken
---   settingsAt at s   == the settings by the octets of LLData, which begin at `at`; RangesAt at s: these are within the ranges
---   lldata ..         == LLData of given settings, for worked values; numberWith: what taking them comes to
--- Laws, each with the theorem of proofs/Ranges.antt that proves it:
---   Tests             tests          the test is the ranges
---   InTime            in-time        the ranges as the Core says them, in µs (`Times`)
---   Settles p         settles        what is taken of a connect request's payload, and what is refused (`Taking`)
---   Alone o           alone          the same of the 22 octets alone, and that those before them say nothing
---   Limits            limits         worked values on both sides of each limit
+-- interval of 1,250 µs, the latency of events, the timeout of 10 ms. The theorems are those of proofs/Ranges.antt.
+--   Ranges ..                         == the ranges, as facts about hop, marked channels, interval, latency, timeout, window size and window offset
+--   between low x high                == x is from `low` to `high`
+--   timesInRange .., windowInRange .. == whether the ranges hold of interval, latency and timeout; of window size and window offset
+--   inRanges ..                       == whether they hold of all
+--   Tests                             (Ranges.tests)    the test is the ranges, both ways
+--   Times ..                          == the ranges as the Core says them, in µs
+--   InTime                            (Ranges.in-time)  these are the ranges
+--   Within s                          == the ranges hold of settings; isWithin s: whether they do
+--   settingsAs ..                     == settings of these values
+--   leastSettings                     == the least of each range, over all channels
+--   settingsIn l                      == the settings that a decoded request has, in range or not
+--   refusedSettings e                 == the refusal e, with the least settings
+--   judged s                          == what is answered for settings; takenOf l: for those of a decoded request
+--   aloneOf o                         == the same for the 22 octets of LLData
+--   numberTaken t                     == its number, 0 where the settings were taken
+--   settingsAt at s                   == the settings by the octets of LLData, which begin at `at`
+--   RangesAt at s                     == these are within the ranges
+--   Taking at s t                     == t is what is taken of these, or the refusal
+--   Settles p                         (Ranges.settles)  what is taken of a connect request's payload, and what is refused
+--   Alone o                           (Ranges.alone)    the same of the 22 octets alone, and that those before them say nothing
+--   lldata ..                         == LLData of given settings, for worked values
+--   twoMarked, oneMarked, noneMarked  == maps of two channels, of one, and of none
+--   numberWith ..                     == the number that taking such LLData answers
+--   Limits                            (Ranges.limits)   worked values on both sides of each limit
 use mathlib.Core.Bool.{Bool, true, cond, _&&_}
 use mathlib.Core.List.{List, [], _∷_, _++_, map}
 use mathlib.Core.Path.{_≡_}

@@ -5,10 +5,12 @@
 --     800 to FFFF         | 1110zzzz | 10yyyyyy | 10xxxxxx |
 --     10000 to 10FFFF     | 11110uuu | 10zzzzzz | 10yyyyyy | 10xxxxxx |
 --
---   IsScalar v         == v is a scalar value
---   encoded v          == its octets
---   Encodes vs s       == s is the encodings of the scalar values vs, one after the other
---   Utf8Encodes s      == `isUtf8 s` says that there are such values (`Encoded.utf8-encodes`)
+--   IsScalar v    == v is a scalar value
+--   trailing v    == the octet 10xxxxxx with the lowest six bits of v
+--   encoded v     == the octets of v in UTF-8
+--   AllScalar vs  == each of vs is a scalar value
+--   Encodes vs s  == s is the encodings of the scalar values vs, one after the other
+--   Utf8Encodes s (Encoded.utf8-encodes)  `isUtf8 s` says that there are such values
 use mathlib.Core.Path.{_≡_}
 use mathlib.Core.Logic.{_⊎_}
 use mathlib.Core.Bool.{true, cond}

@@ -1,7 +1,17 @@
 -- Well-formed UTF-8: the table of well-formed byte sequences of the Unicode Standard (Table 3-7).
---   table            == its rows, each with the range of every octet of a sequence
---   isUtf8 s         == s is read, octet by octet, as whole sequences of the table
---   WellFormed s     == s is whole sequences of the table, one after the other; `Utf8Is s`: both are the same
+--   Range, _to_            == a range of octets, and the one from an octet to another
+--   within b r             == the octet b lies in the range r
+--   tail                   == the range 80 to BF
+--   table                  == the rows, each with the range of every octet of a sequence
+--   rowIn rows b           == the ranges that follow in the row that begins with the octet b, if there is one
+--   following rest after   == whether these ranges pass `after`; not where there are none
+--   utf8After s rest       == the octets s finish a sequence of which these ranges are left, and go on with whole sequences
+--   isUtf8 s               == s is read, octet by octet, as whole sequences of the table
+--   Sequence row s         == the octets s lie in the ranges of the row, one by one
+--   WellFormed s           == s is whole sequences of the table, one after the other
+--   Utf8Is s               (WellFormed.utf8-is)  `isUtf8 s` says just this
+--   pending count low high == the ranges of `count` octets, the first of them from `low` to `high`
+--   rowFrom lead           == the ranges that follow a lead octet by what the code answers for it, if it begins a sequence
 use mathlib.Core.Path.{_≡_}
 use Prim.Native.Nat.{ℕ, zero, suc, _<_}
 use mathlib.Core.Bool.{Bool, true, false, cond, _&&_}

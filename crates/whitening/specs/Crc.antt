@@ -6,6 +6,7 @@
 --   crcRegister start octets == the register after octets
 --   crcOf start octets       == the CRC as a number, position 23 its lowest bit
 --   crcOctets start octets   == the three octets that are sent after octets: position 23 first
+--   same xs ys               == the same octets
 --   crcGood start packet     == the last three octets are those that are sent after the others, whatever the header says
 use Prim.Native.Nat.{ℕ, _-_}
 use mathlib.Core.Bool.{Bool, true, false, xor, _&&_}

@@ -1,15 +1,20 @@
--- What holds of whitening and of the CRC: `Holds`, which is proved as Holding.holds, with a field for each law.
---   Polynomials             the two registers' terms, as the Core writes them, and as a number
---   Starts                  where whitening starts: `whitening_iv` of each channel is the register's start
---   Recurs channel          the bits that leave the whitening register, by its polynomial
---   Whitens                 whitening adds the register's bits to the packet's, and twice is not at all
---   Divides start octets    the CRC is what a division by the polynomial leaves
---   Numbers start octets    the CRC as a number and as octets; only the low 24 bits of a start value count
---   Checks start            a packet's own CRC is right, no other is, and of two packets that differ in one bit not both are right
---   Refusing channel packet which calls are refused, in which order, and what they leave
---   Starting channel start  where the CRC starts on each channel
---   Hears channel start     what the flag tells of packets as they are heard on a channel: a packet's own CRC, any other, and one bit
--- Worked values stand in specs/Examples.
+-- What holds of whitening and of the CRC. Worked values stand in specs/Examples.
+--   isIn n exponents        == n is one of the exponents
+--   terms n exponents       == the terms of a polynomial below x^n, by their exponents: positions n - 1 to 0
+--   Polynomials             (Polynomials.polynomials)  the two registers' terms, as the Core writes them, and as a number
+--   Starts                  (Starts.starts)            where whitening starts: `whitening_iv` of each channel is the register's start
+--   sum xs ys               == bits added modulo 2; what is longer is cut
+--   Recurs channel          (Recurring.recurs)         the bits that leave the whitening register, by its polynomial
+--   Whitens                 (Whitens.whitens)          whitening adds the register's bits to the packet's, and twice is not at all
+--   each q ts               == the bits ts where q is true, otherwise zeros
+--   product qs              == the polynomial qs times that of the CRC
+--   Divides start octets    (Dividing.divides)         the CRC is what a division by the polynomial leaves
+--   Numbers start octets    (Numbers.numbers)          the CRC as a number and as octets; only the low 24 bits of a start value count
+--   Checks start            (Errors.checks)            a packet's own CRC is right, no other is, and of two packets that differ in one bit not both are right
+--   Refusing channel packet (Limits.refusing)          which calls are refused, in which order, and what they leave
+--   Starting channel start  (Limits.starting)          where the CRC starts on each channel
+--   Hears channel start     (Heard.hears)              what the flag tells of packets that are heard on a channel: a packet's own CRC, any other, and one bit
+--   Holds                   (Holding.holds)            all of these
 use mathlib.Core.Path.{_≡_}
 use mathlib.Core.Bool.{Bool, true, false, xor, _&&_, _||_}
 use mathlib.Core.List.{List, [], _∷_, _++_, reverse}

@@ -2,11 +2,14 @@
 --
 --   | header 2 | payload 0 .. 37 | CRC 3 |
 --
---   allowed channel n                    == whether there is a channel of this index and a packet of n octets, tested in this order
---   whitenOf, whitenAfter channel packet == what `whiten` answers, and the packet after it
---   startOn channel start                == where the CRC starts on a channel
---   flagOf channel start packet          == the CRC flag of a packet that is still whitened
---   flagNumber answer                    == the number of an answer, 0 where it is no refusal
+--   allowed channel n             == whether there is a channel of this index and a packet of n octets, tested in this order
+--   whitenOf channel packet       == what `whiten` answers
+--   leaves outcome channel packet == the packet whitened, or as it was where that is refused
+--   whitenAfter channel packet    == the packet after `whiten`
+--   startOn channel start         == where the CRC starts on a channel
+--   flagged outcome good          == the CRC flag `good`, or the refusal
+--   flagOf channel start packet   == the CRC flag of a packet that is still whitened
+--   flagNumber answer             == the number of an answer, 0 where it is no refusal
 use Prim.Native.Nat.{ℕ}
 use mathlib.Core.Bool.{Bool, cond}
 use mathlib.Core.List.{List}
