@@ -1,4 +1,4 @@
--- What the words of demand 3 mean, and what calls leave in buffers: `words`, `modes`, `refusing`, `transmits`, `hearing`. Assumes nothing.
+-- What the words of demand 3 mean, and what calls leave in buffers: `words`, `modes`, `refusing`, `transmits`, `hears-packet`. Assumes nothing.
 use mathlib.Core.Bool.{Bool, true, false, cond, _&&_, and-false, false≢true}
 use mathlib.Core.List.{List, [], _∷_, _++_}
 use mathlib.Core.Logic.{_⊎_, inl, inr, ⊎-elim}
@@ -486,9 +486,9 @@ module _ (d : State) (end : Instant) (h : Header) (p : List ℕ) (crcGood : Bool
   unfolding packetOf
   off standing = rw standing
 
-  pub hearing : HearsPacket d end h p crcGood tx
+  pub hears-packet : HearsPacket d end h p crcGood tx
   unfolding addressed
-  hearing =
+  hears-packet =
       record {
         bad = bad;
         other = λ on crc ours is. taken on crc ours AdvDirectInd (typed on ours AdvDirectInd (ap pduType is ∙ codes .code-1));

@@ -12,7 +12,7 @@
 --   Bare own                            (Replies.bare)            a fresh device's reply has no scan data
 --   BadStart d time interval records tx (Words.bad-start)         a start with a bad area
 --   SetsScanData d                      (Replies.sets-scan-data)  which scan data are set, what that changes, and that no other call changes the reply
---   HearsPacket d end h p crcGood tx    (Words.hearing)           what a packet call answers and writes
+--   HearsPacket d end h p crcGood tx    (Words.hears-packet)      what a packet call answers and writes
 use mathlib.Core.Bool.{Bool, true, false}
 use mathlib.Core.List.{List, [], _∷_, _++_, map}
 use mathlib.Core.Logic.{_⊎_}
