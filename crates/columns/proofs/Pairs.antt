@@ -5,6 +5,7 @@ use Prim.Native.Nat.{ℕ, zero, suc, _+_, _/_, _%_, _≤_}
 use native.Mathlib.Omega.{arith}
 use borrow.Author.Tests.{ne-eqb}
 use Rattle.columns.specs.Column.{leadingOctet, leading, column}
+use Rattle.columns.specs.Table.{octetLike}
 
 pub leading-pair : (w n : ℕ) → leading (suc (suc w)) n ≡ leading w (n / 100) ++ leading 2 n
 unfolding leading
@@ -25,9 +26,9 @@ leading-some zero n some = refl
 leading-some (suc w) n some = rw (ne-eqb n 0 some)
 
 -- the last two columns of a number from 100 on are those of another
-pub pair-same : (n : ℕ) → 100 ≤ n → column 2 (100 + n % 100) ≡ column 2 n
+pub pair-same : (n : ℕ) → 100 ≤ n → column 2 (octetLike n) ≡ column 2 n
 unfolding leading column
 pair-same n many =
-    let tens : (100 + n % 100) / 10 % 10 ≡ n / 10 % 10 = omega arith in
-    let ones : (100 + n % 100) % 10 ≡ n % 10 = omega arith in
-    rw (ne-eqb ((100 + n % 100) / 10) 0 (λ e. omega arith), ne-eqb (n / 10) 0 (λ e. omega arith), tens, ones)
+    let tens : octetLike n / 10 % 10 ≡ n / 10 % 10 = omega arith in
+    let ones : octetLike n % 10 ≡ n % 10 = omega arith in
+    rw (ne-eqb (octetLike n / 10) 0 (λ e. omega arith), ne-eqb (n / 10) 0 (λ e. omega arith), tens, ones)
