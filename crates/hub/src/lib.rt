@@ -1,12 +1,12 @@
 // The hub's log: octets in, lines out, whatever pieces the octets come in.
 ghost use mathlib.Core.Path.{_≡_};
-ghost use mathlib.Core.List.{_++_, map, flatten};
+ghost use mathlib.Core.List.{_++_};
 ghost use Prim.Native.Nat.{_+_, _-_, _*_, _≤_};
 ghost use lib.ListN.{length, take, drop};
 ghost use Rattle.octets.specs.Bytes.{written};
 ghost use Rattle.channels.specs.Phy.{indexOf};
 ghost use Rattle.addresses.specs.Address.{kindNumber};
-ghost use Rattle.columns.specs.Column.{leading, column};
+ghost use Rattle.columns.specs.Column.{column};
 ghost use Rattle.columns.specs.Table.{octetColumns};
 ghost use Rattle.beacon.specs.State.{scannerState, scanStep};
 ghost use Rattle.hub_spec.specs.Line.{reportLine, line, reportsIn, lineSize, lastSize, roomFor, SentIn};
@@ -64,92 +64,9 @@ pub enum TakenIn {
     Refused,
 }
 
-// Writes n to the next `width` columns of `out`, from `at` on, and answers where the next column begins.
-fn put_next(n: usize, width: usize, out: &mut [u8], at: usize) -> usize
-    requires { ⌜ at + width ≤ length (now out) ⌝ }
-    ensures { λ r. ⌜ (r ≡ at + width) × (now (out .exit) ≡ written (column width n) (now (out .entry)) at) ⌝ }
-{
-    let end = at + width;
-    columns::put_column(n, &mut out[at..end]);
-    end
-}
-
-fn wide(octet: u8) -> usize
-    ensures { λ r. ⌜ r ≡ octet ⌝ }
-{
-    octet as usize
-}
-
-// Writes an octet to the next `width` columns, at most four: they are copied from the table of all octets.
-fn put_octet(table: &[u8], octet: u8, width: usize, out: &mut [u8], at: usize) -> usize
-    requires { ⌜ (now table ≡ octetColumns) × ((width ≤ 4) × (at + width ≤ length (now out))) ⌝ }
-    ensures { λ r. ⌜ (r ≡ at + width) × (now (out .exit) ≡ written (column width octet) (now (out .entry)) at) ⌝ }
-{
-    let from = 4 * wide(octet) + 4 - width;
-    let mut i = 0;
-    while i < width {
-        out[at + i] = table[from + i];
-        i += 1;
-    }
-    at + width
-}
-
-// Writes each octet to the next four columns.
-fn put_octets(table: &[u8], octets: &[u8], out: &mut [u8], at: usize) -> usize
-    requires { ⌜ (now table ≡ octetColumns) × (at + 4 * length (now octets) ≤ length (now out)) ⌝ }
-    ensures { λ r. ⌜ (r ≡ at + 4 * length (now (octets .entry))) × (now (out .exit) ≡ written (flatten (map (column 4) (now (octets .entry)))) (now (out .entry)) at) ⌝ }
-{
-    let mut i = 0;
-    let mut next = at;
-    while i < octets.len() {
-        next = put_octet(table, octets[i], 4, out, next);
-        i += 1;
-    }
-    next
-}
-
-// An octet whose last two columns are those of n.
-fn last_two(n: usize) -> u8
-    ensures { λ r. ⌜ column 2 r ≡ column 2 n ⌝ }
-{
-    if n < 100 {
-        n as u8
-    } else {
-        (100 + n % 100) as u8
-    }
-}
-
-// Writes n to the next four columns, or spaces if it is 0.
-fn put_four(table: &[u8], n: usize, out: &mut [u8], at: usize) -> usize
-    requires { ⌜ (now table ≡ octetColumns) × (at + 4 ≤ length (now out)) ⌝ }
-    ensures { λ r. ⌜ (r ≡ at + 4) × (now (out .exit) ≡ written (leading 4 n) (now (out .entry)) at) ⌝ }
-{
-    if n == 0 {
-        out[at] = b' ';
-        out[at + 1] = b' ';
-        out[at + 2] = b' ';
-        out[at + 3] = b' ';
-        return at + 4;
-    }
-    if n < 256 {
-        return put_octet(table, n as u8, 4, out, at);
-    }
-    let next = put_octet(table, last_two(n / 100), 2, out, at);
-    put_octet(table, last_two(n), 2, out, next)
-}
-
-// Writes n to the next six columns.
-fn put_number(table: &[u8], n: usize, out: &mut [u8], at: usize) -> usize
-    requires { ⌜ (now table ≡ octetColumns) × (at + 6 ≤ length (now out)) ⌝ }
-    ensures { λ r. ⌜ (r ≡ at + 6) × (now (out .exit) ≡ written (column 6 n) (now (out .entry)) at) ⌝ }
-{
-    let next = put_four(table, n / 100, out, at);
-    put_octet(table, last_two(n), 2, out, next)
-}
-
 // Writes an item's number and the channel that it was heard on to the next nine columns.
 fn put_item(
-    table: &[u8],
+    table: &[u8; 1024],
     number: usize,
     channel: AdvertisingChannel,
     out: &mut [u8],
@@ -158,19 +75,11 @@ fn put_item(
     requires { ⌜ (now table ≡ octetColumns) × (at + 9 ≤ length (now out)) ⌝ }
     ensures { λ r. ⌜ (r ≡ at + 9) × (now (out .exit) ≡ written (column 6 number ++ column 3 (indexOf channel)) (now (out .entry)) at) ⌝ }
 {
-    let next = put_number(table, number, out, at);
-    put_octet(table, channel.channel(), 3, out, next)
-}
-
-// Writes n to the next three columns.
-fn put_count(table: &[u8], n: usize, out: &mut [u8], at: usize) -> usize
-    requires { ⌜ (now table ≡ octetColumns) × (at + 3 ≤ length (now out)) ⌝ }
-    ensures { λ r. ⌜ (r ≡ at + 3) × (now (out .exit) ≡ written (column 3 n) (now (out .entry)) at) ⌝ }
-{
-    if n < 256 {
-        return put_octet(table, n as u8, 3, out, at);
-    }
-    put_next(n, 3, out, at)
+    let next = at + 6;
+    columns::put_number(table, number, &mut out[at..next]);
+    let end = next + 3;
+    columns::put_octet(table, channel.channel(), &mut out[next..end]);
+    end
 }
 
 // The kind of an address as it is printed: 0 public, 1 random.
@@ -182,7 +91,7 @@ fn kind_number(address: DeviceAddress) -> u8
 
 // Writes a report's line, from `at` on. The octets are the sender's, where they stand in its packet.
 fn put_line(
-    table: &[u8],
+    table: &[u8; 1024],
     number: usize,
     channel: AdvertisingChannel,
     sender: DeviceAddress,
@@ -194,16 +103,19 @@ fn put_line(
     requires { ⌜ (now table ≡ octetColumns) × ((now octets ≡ sender .bytes) × ((length (now octets) ≡ 6) × (at + lineSize ≤ length (now out)))) ⌝ }
     ensures { λ _. ⌜ now (out .exit) ≡ written (reportLine number channel sender records) (now (out .entry)) at ⌝ }
 {
-    let mut next = put_item(table, number, channel, out, at);
-    next = put_octet(table, kind_number(sender), 2, out, next);
-    next = put_octets(table, octets, out, next);
-    next = put_count(table, records, out, next);
-    out[next] = b'\n';
+    let kind = put_item(table, number, channel, out, at);
+    let sent = kind + 2;
+    columns::put_octet(table, kind_number(sender), &mut out[kind..sent]);
+    let count = sent + 4 * octets.len();
+    columns::put_octets(table, octets, &mut out[sent..count]);
+    let end = count + 3;
+    columns::put_number(table, records, &mut out[count..end]);
+    out[end] = b'\n';
 }
 
 // Writes the line of what the scanner answered to an item, if it has one, from `at` on, and answers how many reports that is.
 fn log_scanned(
-    table: &[u8],
+    table: &[u8; 1024],
     number: usize,
     scanned: Scanned,
     item: &[u8],
@@ -238,7 +150,7 @@ fn log_scanned(
 
 // Has the scanner hear an item. A tick is no packet.
 fn log_item(
-    table: &[u8],
+    table: &[u8; 1024],
     number: usize,
     scanner: BeaconScanner,
     item: &[u8],
@@ -287,7 +199,7 @@ fn listen(scanner: BeaconScanner, item: &[u8]) -> BeaconScanner
 }
 
 // Logs the whole items at the front of s.
-fn log_items(table: &[u8], hub: Hub, s: &[u8], out: &mut [u8]) -> Logged
+fn log_items(table: &[u8; 1024], hub: Hub, s: &[u8], out: &mut [u8]) -> Logged
     requires { ⌜ (now table ≡ octetColumns) × (RunCounts (hubState hub) × (roomFor (length (now s)) ≤ length (now out))) ⌝ }
     ensures { λ r. ⌜ (loggedStep r ≡ loggedOf (hubState hub) (now (s .entry))) × (now (out .exit) ≡ linesIn (hubState hub) (now (s .entry)) (now (out .entry))) ⌝ }
 {
@@ -370,10 +282,13 @@ fn put_last_line(hub: Hub, kept: usize, out: &mut [u8])
     requires { ⌜ length (now out) ≡ lastSize ⌝ }
     ensures { λ _. ⌜ now (out .exit) ≡ lastLine (hubState hub) kept ⌝ }
 {
-    let mut next = put_next(hub.items, 6, out, 0);
-    next = put_next(hub.reports, 6, out, next);
-    next = put_next(left_over(kept), 2, out, next);
-    out[next] = b'\n';
+    let reports = 6;
+    columns::put_column(hub.items, &mut out[0..reports]);
+    let flag = reports + 6;
+    columns::put_column(hub.reports, &mut out[reports..flag]);
+    let end = flag + 2;
+    columns::put_column(left_over(kept), &mut out[flag..end]);
+    out[end] = b'\n';
 }
 
 // 1 where octets are left over.

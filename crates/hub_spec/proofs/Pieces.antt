@@ -11,6 +11,8 @@ use Rattle.octets.proofs.Laws.{written-keeps, set-written, written-written}
 use Rattle.channels.specs.declared.phy.AdvertisingChannel.{AdvertisingChannel}
 use Rattle.addresses.specs.declared.device_address.DeviceAddress.{DeviceAddress}
 use Rattle.columns.specs.Column.{column}
+use Rattle.columns.specs.Table.{octetColumns, octetFrom, numberFrom, octetsFrom, AllOctets}
+use Rattle.columns.proofs.Printed.{printed}
 use Rattle.columns.proofs.Widths.{column-length}
 use Rattle.hub_spec.specs.Line.{reportLine, lineSize, lastSize}
 use Rattle.hub_spec.specs.Log.{lastLine, Sizes}
@@ -32,13 +34,14 @@ last-length h n = simp (length-append, column-length)
 pub sizes : Sizes
 sizes = record { report = line-length; last = last-length }
 
--- a column is written to a part of `out`
-pub put-column : (out : List ℕ) (at width n : ℕ) {part : List ℕ} → at + width ≤ length out
-    → part ≡ column (length (take (at + width - at) (drop at out))) n → putMid at (at + width - at) out part ≡ written (column width n) out at
-put-column out at width n fits is =
-    let w : length (take (at + width - at) (drop at out)) ≡ width = simp (length-take, length-drop) (omega arith) in
+-- a lent part of `out`, which is all written
+pub put-piece : (out piece : List ℕ) (at width : ℕ) {part : List ℕ} → length piece ≡ width → part ≡ piece → putMid at (at + width - at) out part ≡ written piece out at
+put-piece out piece at width long is =
     let end : at + (at + width - at) ≡ at + width = omega arith in
-    simp (is, w, drop-drop, end, column-length)
+    simp (is, drop-drop, end, long)
+
+lent-length : (out : List ℕ) (at width : ℕ) → at + width ≤ length out → length (take (at + width - at) (drop at out)) ≡ width
+lent-length out at width fits = simp (length-take, length-drop) (omega arith)
 
 -- `out` is `out₀` with `done` written from `at` on, up to `next`
 pub record Wrote (out₀ : List ℕ) (at : ℕ) (done out : List ℕ) (next : ℕ) : Type 0 where
@@ -70,14 +73,29 @@ module _ {out₀ : List ℕ} {at : ℕ} {done out : List ℕ} {next : ℕ} (w : 
   pub then-octet : (x : ℕ) → next < length out₀ → Wrote out₀ at (done ++ (x ∷ [])) (set out next x) (next + 1)
   then-octet x more = then-piece (x ∷ []) {size = 1} refl (refl, set-written x out next (rw as-long more))
 
--- a piece and a column behind it
-pub column-behind : (out : List ℕ) (at : ℕ) (piece whole : List ℕ) {size : ℕ} (width x : ℕ) {out₁ out₂ : List ℕ} {n₁ n₂ : ℕ} → at + (size + width) ≤ length out
-    → length piece ≡ size
-    → (n₁ ≡ at + size) × (out₁ ≡ written piece out at)
-    → (n₂ ≡ n₁ + width) × (out₂ ≡ written (column width x) out₁ n₁)
-    → piece ++ column width x ≡ whole
-    → (n₂ ≡ at + (size + width)) × (out₂ ≡ written whole out at)
-column-behind out at piece whole width x fits long e₁ e₂ is =
-    let w₁ = then-piece (nothing-yet out at) (omega arith) piece long e₁ in
-    let w₂ = then-column w₁ (omega (arith, e₁ .0)) width x e₂ in
-    (omega (arith, e₁ .0, e₂ .0), w₂ .contents ∙ ap (λ (l : List ℕ). written l out at) is)
+  -- as a call writes it to a lent part, by `put_column`
+  pub then-put : (width n : ℕ) {part : List ℕ} → next + width ≤ length out₀ → part ≡ column (length (take (next + width - next) (drop next out))) n
+      → Wrote out₀ at (done ++ column width n) (putMid next (next + width - next) out part) (next + width)
+  then-put width n fits is =
+      let size : length (take (next + width - next) (drop next out)) ≡ width = lent-length out next width (rw as-long fits) in
+      then-column width n (refl, put-piece out (column width n) next width (column-length width n) (is ∙ ap (λ (k : ℕ). column k n) size))
+
+  -- by `put_octet`, `put_number` and `put_octets` from the table
+  module _ {table : List ℕ} (is-table : table ≡ octetColumns) where
+    pub then-copied : (width n : ℕ) {part : List ℕ} → n < 256 → next + width ≤ length out₀ → part ≡ octetFrom table (length (take (next + width - next) (drop next out))) n
+        → Wrote out₀ at (done ++ column width n) (putMid next (next + width - next) out part) (next + width)
+    then-copied width n small fits is =
+        then-put width n fits (is ∙ ap (λ (t : List ℕ). octetFrom t (length (take (next + width - next) (drop next out))) n) is-table ∙ printed .octet (length (take (next + width - next) (drop next out))) n small)
+
+    pub then-number : (width n : ℕ) {part : List ℕ} → next + width ≤ length out₀ → part ≡ numberFrom table (length (take (next + width - next) (drop next out))) n
+        → Wrote out₀ at (done ++ column width n) (putMid next (next + width - next) out part) (next + width)
+    then-number width n fits is =
+        then-put width n fits (is ∙ ap (λ (t : List ℕ). numberFrom t (length (take (next + width - next) (drop next out))) n) is-table ∙ printed .number (length (take (next + width - next) (drop next out))) n)
+
+    pub then-octets : (octets : List ℕ) {part : List ℕ} → AllOctets octets → next + 4 * length octets ≤ length out₀
+        → part ≡ octetsFrom table octets (take (next + 4 * length octets - next) (drop next out))
+        → Wrote out₀ at (done ++ flatten (map (column 4) octets)) (putMid next (next + 4 * length octets - next) out part) (next + 4 * length octets)
+    then-octets octets all fits is =
+        let lent = take (next + 4 * length octets - next) (drop next out) in
+        let size : length lent ≡ 4 * length octets = lent-length out next (4 * length octets) (rw as-long fits) in
+        then-piece (flatten (map (column 4) octets)) (octets-length octets) (refl, put-piece out (flatten (map (column 4) octets)) next (4 * length octets) (octets-length octets) (is ∙ ap (λ (t : List ℕ). octetsFrom t octets lent) is-table ∙ printed .octets octets lent all size))

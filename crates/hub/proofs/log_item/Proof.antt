@@ -50,7 +50,7 @@ no-refusal (a ∷ b ∷ []) e long of is = omega arith
 no-refusal (a ∷ b ∷ d ∷ payload) e long of is = let z : _≡_ {A = ℕ} 0 1 = cc in omega arith
 
 -- what the scanner answers is what the item gives
-answered : (c : tie.After-process-adv-packet) → let a = c .before .before .before .before .before .before .before .before .before .before .before .before .before .args in heardIn (scannerState (a .scanner)) (a .item .now) ≡ scanStep (c .«process-adv-packet» .result)
+answered : (c : tie.After-process-adv-packet) → let a = c .before .before .before .before .before .before .before .before .before .before .before .before .args in heardIn (scannerState (a .scanner)) (a .item .now) ≡ scanStep (c .«process-adv-packet» .result)
 answered c =
     let at-header = c .before .before .before .before .before in
     let at-test = at-header .before .before .before .before in
@@ -58,7 +58,7 @@ answered c =
 
 log-scanned-requires : tie.Need-log-scanned-requires
 log-scanned-requires c κs =
-    let start = c .before .before .before .before .before .before .before .before .before .before .before .before .before .before in
+    let start = c .before .before .before .before .before .before .before .before .before .before .before .before .before in
     let a = start .args in
     let room = line-room (scannerState (a .scanner)) (a .item .now) in
     let same : reportsIn (heardIn (scannerState (a .scanner)) (a .item .now)) ≡ reportsIn (scanStep (c .before .«process-adv-packet» .result)) = ap reportsIn (answered (c .before)) in
@@ -70,17 +70,17 @@ carried number out at {r = r} {out′ = out′} is e = subst (λ (z : Scanned). 
 
 returns-2 : tie.Need-returns-2
 returns-2 c =
-    let a = c .before .before .before .before .before .before .before .before .before .before .before .before .before .before .before .before .before .args in
+    let a = c .before .before .before .before .before .before .before .before .before .before .before .before .before .before .before .before .args in
     carried (a .number) (a .out .now) (a .at) (answered (c .before .before .before .before)) (c .before .before .log-scanned .ensures)
 
 returns-3 : tie.Need-returns-3
-returns-3 c = absurd (no-refusal (c .before .before .before .before .before .before .before .before .args .item .now) _ (c .before .before .before .before .if1 .left) (c .before .before .parse .ensures) (c .enum-told .given .1))
+returns-3 c = absurd (no-refusal (c .before .before .before .before .before .before .before .args .item .now) _ (c .before .before .before .before .if1 .left) (c .before .before .parse .ensures) (c .enum-told .given .1))
 
 pub log-item-spec : {M : Type 1} → statement M
 log-item-spec =
     tie.close
     (tie.spec
-    (λ c. let a = c .before .before .before .before .args in short (a .number) (scannerState (a .scanner)) (a .item .now) (a .out .now) (a .at) (c .if1 .taken))
+    (λ c. let a = c .before .before .before .args in short (a .number) (scannerState (a .scanner)) (a .item .now) (a .out .now) (a .at) (c .if1 .taken))
     (λ c. search needs)
     (λ c. search needs)
     (λ c. search needs)

@@ -126,7 +126,7 @@ loop-holds c =
     record {
       lines = [];
       inside = omega arith;
-      counted = c .before .before .before .before .pre .1 .0;
+      counted = c .before .before .before .pre .1 .0;
       room = omega arith;
       wrote = nothing-yet _ 0;
       all-lines = refl;
@@ -136,19 +136,19 @@ loop-holds c =
 
 -- a round that takes an item
 round : (c : tie.Else1 Inv-loop μ-loop)
-    → c .before .before .before .loop .at + c .before .whole-size .result ≤ length (c .before .before .before .before .before .before .before .before .args .s .now)
+    → c .before .before .before .loop .at + c .before .whole-size .result ≤ length (c .before .before .before .before .before .before .before .args .s .now)
 round c =
     let at-loop = c .before .before .before in
-    fits (at-loop .loop .inv) (at-loop .before .before .before .before .before .pre .1 .1) _ (c .before .whole-size .ensures) (c .before .before .loop-test .taken) (c .if1 .left)
+    fits (at-loop .loop .inv) (at-loop .before .before .before .before .pre .1 .1) _ (c .before .whole-size .ensures) (c .before .before .loop-test .taken) (c .if1 .left)
 
-same : (c : tie.At-loop Inv-loop μ-loop) → length (c .loop .out) ≡ length (c .before .before .before .before .before .args .out .now)
-same c = long-out (c .loop .inv) (c .before .before .before .before .before .pre .1 .1)
+same : (c : tie.At-loop Inv-loop μ-loop) → length (c .loop .out) ≡ length (c .before .before .before .before .args .out .now)
+same c = long-out (c .loop .inv) (c .before .before .before .before .pre .1 .1)
 
 log-item-requires : tie.Need-log-item-requires Inv-loop μ-loop
 log-item-requires c κs =
     let at-test = c .before .before in
     let at-loop = at-test .before .before .before in
-    let start = at-loop .before .before .before .before .before in
+    let start = at-loop .before .before .before .before in
     (start .pre .0, simp (length-take, length-drop, same at-loop) (omega (arith, round at-test, at-loop .loop .inv .room, start .pre .1 .1)))
 
 -- what the item's line adds
@@ -162,7 +162,7 @@ loop-again c =
     let at-test = at-call .before .before .before in
     let at-loop = at-test .before .before .before in
     let e = at-call .log-item .ensures in
-    rw (e .0, c .listen .ensures) (advance (at-loop .loop .inv) (at-loop .before .before .before .before .before .pre .1 .1) _ (at-test .before .whole-size .ensures) (at-test .before .before .loop-test .taken) (at-test .if1 .left) (e .1))
+    rw (e .0, c .listen .ensures) (advance (at-loop .loop .inv) (at-loop .before .before .before .before .pre .1 .1) _ (at-test .before .whole-size .ensures) (at-test .before .before .loop-test .taken) (at-test .if1 .left) (e .1))
 
 returns : tie.Need-returns Inv-loop μ-loop
 returns c = logged (c .before .loop .inv) (none-more _ _ (omega arith))

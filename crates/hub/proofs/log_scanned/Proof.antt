@@ -36,30 +36,30 @@ module _ (number : ℕ) (s : Scanned) (out : List ℕ) (at : ℕ) where
   unheard is = (rw is refl, nothing-yet out at .contents ∙ ap (λ (b : Bool). written (cond b (itsLine number s) []) out at) (sym is))
 
 -- that the item is a report's
-heard : (c : tie.After-enum-told) → isReport (c .before .before .before .before .before .args .scanned .report) ≡ true
+heard : (c : tie.After-enum-told) → isReport (c .before .before .before .before .args .scanned .report) ≡ true
 heard c = ap isReport (c .enum-told .given .1)
 
 put-line-requires : tie.Need-put-line-requires
 put-line-requires c κs =
     let told = c .before .before .before .before in
-    let start = told .before .before .before .before .before in
+    let start = told .before .before .before .before in
     let sent = start .pre .1 .0 in
     (start .pre .0, (sent (heard told) .1, (sent-long (start .args .item .now) (sent (heard told) .0), omega (arith, one (start .args .number) (scanStep (start .args .scanned)) (start .args .out .now) (start .args .at) (told .enum-told .given .1), start .pre .1 .1))))
 
 returns : tie.Need-returns
 returns c =
     let told = c .before .before .before .before .before .before .before in
-    let a = told .before .before .before .before .before .args in
+    let a = told .before .before .before .before .args in
     reported (a .number) (scanStep (a .scanned)) (a .out .now) (a .at) (told .enum-told .given .1) (c .before .before .put-line .ensures)
 
 returns-2 : tie.Need-returns-2
 returns-2 c =
-    let a = c .before .before .before .before .before .args in
+    let a = c .before .before .before .before .args in
     unheard (a .number) (scanStep (a .scanned)) (a .out .now) (a .at) (ap isReport (c .enum-told2 .given .1))
 
 returns-3 : tie.Need-returns-3
 returns-3 c =
-    let a = c .before .before .before .before .before .args in
+    let a = c .before .before .before .before .args in
     unheard (a .number) (scanStep (a .scanned)) (a .out .now) (a .at) (ap isReport (c .enum-told3 .given .1))
 
 pub log-scanned-spec : {M : Type 1} → statement M
@@ -69,7 +69,7 @@ log-scanned-spec =
     (λ c. search needs)
     (λ c. search needs)
     (λ c. search needs)
-    (λ c. let told = c .before .before in omega (arith, told .before .before .before .before .before .pre .1 .0 (heard told) .0))
+    (λ c. let told = c .before .before in omega (arith, told .before .before .before .before .pre .1 .0 (heard told) .0))
     put-line-requires
     (λ c. search needs)
     (λ c. search needs)

@@ -63,7 +63,6 @@ take-block-spec =
     (tie.spec
     (λ c κs. search needs)
     (λ c. search needs)
-    (λ c. search needs)
     (λ c. let start = c .before .before .before .before .before in sym (simp length-take (omega (arith, start .pre .1 .0))))
     (λ c κs. let start = c .before .before .before .before .before .before in (c .before .before .before .octets .ensures, (start .pre .0, simp length-take (omega (arith, start .pre .1)))))
     (λ c. short (c .before .before .before))
