@@ -6,12 +6,17 @@
 --   scannerAfter s item         == the scanner after it
 --   after h item, printed h item            == the hub after an item, and what it prints for it
 --   afterAll h its, printedAll h its        == the same of many items
+--   leftOver n                  == the flag of the last line, where n octets are left over
 --   lastLine h n                == the last line, where n octets are left over
 --   fresh                       == a hub that has heard nothing
 --   logOf s                     == THE LOG of the input s; specs/Reported says what is in it, in the papers' words
 --   itemsFor, linesOf, hubOf, restOf h s    == of octets s that a hub h takes in: the whole items, their lines, the hub after them, what is left over
 --   isStuck n s                 == after n items, no octets that follow s make an item of it
---   blockOf h s                 == what taking in s answers
+--   loggedOf, blockOf h s       == what logging the items of s answers, and what taking in s answers
+--   RunCounts h                 == a run counts so
+--   isReady h filled size space == the test for it, for `filled` octets in a buffer of `size`, and for room in `space` octets
+--   restIn h buf filled, linesIn h s out    == `buf` with what is left over at its front, and `out` with the lines at its front
+--   takenIn, restAfter, linesAfter h buf filled out == what `take_in` answers, and what it leaves in `buf` and `out`
 --   Sizes                       == how long lines are (Pieces.sizes)
 use mathlib.Core.Path.{_≡_}
 use Prim.Native.Nat.{ℕ, _+_, _-_, _≤_}
@@ -19,7 +24,7 @@ use mathlib.Core.Bool.{Bool, true, false, cond, _&&_}
 use mathlib.Core.List.{List, [], _∷_, _++_, flatten}
 use lib.ListN.{length, take, drop}
 use lib.Dec.{leb, ltb, eqb}
-use Rattle.octets.specs.Bytes.{le}
+use Rattle.octets.specs.Bytes.{le, atFront}
 use Rattle.octets.specs.declared.time.Instant.{Instant}
 use Rattle.channels.specs.declared.phy.AdvertisingChannel.{AdvertisingChannel}
 use Rattle.addresses.specs.Header.{headerOf}
@@ -133,10 +138,10 @@ isReady h filled size space = leb (h .items) mostItems && (leb (h .reports) (h .
 
 -- the first `filled` octets of `buf` taken in: what is left over at the front of `buf`, and the lines at the front of `out`
 abbrev pub restIn : Hub → List ℕ → ℕ → List ℕ
-restIn h buf filled = restOf h (take filled buf) ++ drop (length (restOf h (take filled buf))) buf
+restIn h buf filled = atFront (restOf h (take filled buf)) buf
 
 abbrev pub linesIn : Hub → List ℕ → List ℕ → List ℕ
-linesIn h s out = linesOf h s ++ drop (length (linesOf h s)) out
+linesIn h s out = atFront (linesOf h s) out
 
 -- what `take_in` answers, and what the two buffers hold then
 abbrev pub takenIn : Hub → List ℕ → ℕ → List ℕ → TakenIn

@@ -1,5 +1,9 @@
--- The log does not depend on the pieces in which the input is read (`AnyReads`), and a run's blocks are never refused (`BlockTaken`); what the next block of
--- a program comes to (`Next`).
+-- The log does not depend on the pieces in which the input is read, and a run's blocks are never refused.
+--   writtenFor h kept reads     == what the program writes for these reads, where `kept` is left over of the octets before
+--   AnyReads                    (AnyReads.any-reads)    however an input is cut into reads, its log is written
+--   Next h kept t left          == a run's next block t, and what is left over then
+--   Ready h buf filled out      == the hub counts as a run does, and there are so many octets and room for their lines
+--   BlockTaken h s              (AnyReads.block-taken)  a hub that is ready is never refused; and what a block leaves for the next
 use mathlib.Core.Path.{_≡_}
 use mathlib.Core.Bool.{false, cond}
 use mathlib.Core.List.{List, [], _∷_, _++_, flatten}

@@ -8,7 +8,9 @@
 --   wholeSize s         == the same where s has so many octets, else 0
 --   items n s           == the whole items at the front of s, at most n of them
 --   behind its s        == what is left of s behind these items
---   IsItem item         == an item, in the paper's words; `Falls n s` and `Cut n s` say of what `items` finds that it is just that
+--   IsItem item         == an item, in the paper's words; AllItems its: each of these is one
+--   AllWhole its        == each of these is as long as its own octets say
+--   Falls n s, Cut n s  (Falling.falls, Items.cut)  what `items` finds is just that
 use mathlib.Core.Path.{_≡_}
 use mathlib.Core.Logic.{_⊎_}
 use Prim.Native.Nat.{ℕ, zero, suc, _+_, _%_, _<_}
