@@ -2,10 +2,10 @@
 use mathlib.Core.Path.{_≡_, refl, sym, ap, _∙_}
 use Rattle.hub_spec.specs.State as spec
 use Rattle.hub.specs.State.{takenStep, Whole, AsItIs}
-use Rattle.hub.specs.declared.Hub.{Hub}
-use Rattle.hub.specs.declared.TakenIn.{TakenIn}
-use Rattle.hub.specs.declared.TakenIn.the-variants as code
-use Rattle.hub.specs.declared.Block.{Block}
+use Rattle.hub.specs.declared.log.Hub.{Hub}
+use Rattle.hub.specs.declared.log.TakenIn.{TakenIn}
+use Rattle.hub.specs.declared.log.TakenIn.the-variants as code
+use Rattle.hub.specs.declared.log.Block.{Block}
 
 -- what is read as a record, from that record
 abbrev hubOf : spec.Hub → Hub

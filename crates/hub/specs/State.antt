@@ -6,11 +6,11 @@
 use mathlib.Core.Path.{_≡_}
 use Rattle.beacon.specs.State.{scannerState}
 use Rattle.hub_spec.specs.State as spec
-use Rattle.hub.specs.declared.Hub.{Hub}
-use Rattle.hub.specs.declared.Logged.{Logged}
-use Rattle.hub.specs.declared.TakenIn.{TakenIn}
-use Rattle.hub.specs.declared.TakenIn.the-variants as code
-use Rattle.hub.specs.declared.Block.{Block}
+use Rattle.hub.specs.declared.log.Hub.{Hub}
+use Rattle.hub.specs.declared.log.Logged.{Logged}
+use Rattle.hub.specs.declared.log.TakenIn.{TakenIn}
+use Rattle.hub.specs.declared.log.TakenIn.the-variants as code
+use Rattle.hub.specs.declared.log.Block.{Block}
 
 abbrev pub hubState : Hub → spec.Hub
 hubState h = record { items = h .items; reports = h .reports; scanner = scannerState (h .scanner) }

@@ -7,8 +7,8 @@ use lib.ListN.{take, drop, length-take, take-append-drop}
 use lib.Seq.{take-take}
 use borrow.Author.Needs.{needs}
 use Rattle.hub.specs.State.{hubState, blockStep}
-use Rattle.hub.specs.declared.Hub as hub
-use Rattle.hub.specs.declared.Block as code
+use Rattle.hub.specs.declared.log.Hub as hub
+use Rattle.hub.specs.declared.log.Block as code
 use Rattle.hub_spec.proofs.AnyReads.{block-taken}
 use Rattle.hub_spec.specs.Log.{restOf, blockOf, RunCounts}
 use Rattle.hub_spec.specs.Reads.{Next, nothing-read, took}
