@@ -3,10 +3,11 @@ use mathlib.Core.Path.{refl}
 use Rattle.columns.specs.Column.{leading, column, digits, readDecimal}
 use Rattle.columns.specs.Examples.{Examples}
 use Rattle.columns.specs.Row.{rowOf, readColumn, readRow}
+use Rattle.columns.specs.Table.{columnsFrom, octetColumns, octetFrom, octetsFrom}
 use Rattle.columns.specs.Text.{ascii, lines}
 
 pub examples : Examples
-unfolding leading column digits readDecimal rowOf readColumn readRow ascii lines
+unfolding leading column digits readDecimal rowOf readColumn readRow ascii lines columnsFrom octetColumns octetFrom octetsFrom
 examples =
     record {
       characters = refl;
@@ -22,4 +23,5 @@ examples =
       read = refl;
       full = refl;
       lost = refl;
+      octets = refl;
     }

@@ -7,12 +7,6 @@ use borrow.Author.Tests.{ne-eqb}
 use Rattle.columns.specs.Column.{leadingOctet, leading, column}
 use Rattle.columns.specs.Table.{octetLike}
 
-pub leading-pair : (w n : ℕ) → leading (suc (suc w)) n ≡ leading w (n / 100) ++ leading 2 n
-unfolding leading
-leading-pair w n =
-    let left : n / 10 / 10 ≡ n / 100 = omega arith in
-    rw left (append-assoc (leading w (n / 100)) (leadingOctet (n / 10) ∷ []) (leadingOctet n ∷ []))
-
 pub column-pair : (w n : ℕ) → column (suc (suc w)) n ≡ leading w (n / 100) ++ column 2 n
 unfolding leading column
 column-pair w n =

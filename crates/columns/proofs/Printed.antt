@@ -4,16 +4,15 @@ use mathlib.Core.Bool.{Bool, true, false, cond}
 use mathlib.Core.List.{List, [], _∷_, _++_, append-assoc, map, flatten}
 use Prim.Native.Nat.{ℕ, zero, suc, _+_, _-_, _*_, _/_, _%_, _<_, _≤_}
 use native.Mathlib.Omega.{arith}
-use lib.Dec.{ltb, leb}
-use lib.ListN.{length, getD, take, drop, replicate, length-append, length-drop}
-use lib.Seq.{drop-cons, getD-drop, drop-drop}
+use lib.Dec.{ltb}
+use lib.ListN.{length, getD, take, drop, replicate, length-drop}
+use lib.Seq.{drop-cons}
 use borrow.Author.Tests.{lt-ltb, le-ltb, le-leb, ltb-true, ltb-false}
 use Rattle.columns.specs.Column.{leading, column}
-use Rattle.columns.specs.Table.{octetColumns, entryOctet, octetFrom, octetLike, endsAs, numberFrom, octetsFrom, AllOctets, Printed}
+use Rattle.columns.specs.Table.{octetColumns, octetFrom, octetLike, numberFrom, octetsFrom, AllOctets, Printed}
 use Rattle.columns.proofs.Pairs.{leading-some, pair-same, column-pair}
 use Rattle.columns.proofs.Justified.{leading-blank}
 use Rattle.columns.proofs.Table.{copied}
-use Rattle.columns.proofs.Widths.{column-length}
 
 pub octet-length : (t : List ℕ) (w n : ℕ) → length (octetFrom t w n) ≡ w
 unfolding octetFrom

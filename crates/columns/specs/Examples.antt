@@ -3,6 +3,7 @@ use mathlib.Core.Path.{_≡_}
 use mathlib.Core.List.{[], _∷_, map}
 use Rattle.columns.specs.Column.{column, digits}
 use Rattle.columns.specs.Row.{rowOf, readColumn, readRow}
+use Rattle.columns.specs.Table.{octetColumns, octetsFrom}
 use Rattle.columns.specs.Text.{ascii, lines}
 
 pub record Examples : Type 0 where
@@ -22,3 +23,5 @@ pub record Examples : Type 0 where
   -- the largest numbers that two and three columns hold, which stand directly behind each other; and one more, which lose their first digits
   pub full : readRow (2 ∷ 3 ∷ []) (rowOf (2 ∷ 3 ∷ []) (99 ∷ 999 ∷ [])) ≡ 99 ∷ 999 ∷ []
   pub lost : readRow (2 ∷ 3 ∷ []) (rowOf (2 ∷ 3 ∷ []) (100 ∷ 1000 ∷ [])) ≡ 0 ∷ 0 ∷ []
+  -- octets from the table: in all of the room, as far as there are four columns, and with columns left over
+  pub octets : map (λ t. octetsFrom octetColumns (1 ∷ 20 ∷ []) (ascii t)) ("........" ∷ "......." ∷ "...." ∷ "..." ∷ ".........." ∷ []) ≡ map ascii ("   1  20" ∷ "   1..." ∷ "   1" ∷ "..." ∷ "   1  20.." ∷ [])
