@@ -12,7 +12,7 @@ use Rattle.octets.specs.Bytes.{part}
 use Rattle.octets.specs.declared.error.Error.the-variants.{InvalidValue}
 use Rattle.addresses.specs.Address.{kindNumber, kindOf}
 use Rattle.addresses.specs.Filter.{any, entryAt, badKind, entryIs, isList, whitelisted}
-use Rattle.addresses.specs.Laws.{Entry, Listed, Policies}
+use Rattle.addresses.specs.Laws.{ListEntry, Listed, Policies}
 use Rattle.addresses.specs.declared.device_address.DeviceAddress.{DeviceAddress}
 use Rattle.addresses.specs.declared.filter.AddressFilter.{AddressFilter}
 use Rattle.addresses.specs.declared.filter.Matches.the-variants.{Is, Refused}
@@ -68,10 +68,10 @@ kinds-small list zero small = refl
 kinds-small list (suc n) small = rw (kinds-small list n (λ i l. small i (omega arith)), le-ltb 1 (getD list (7 * n) 0) (small n (omega arith)))
 
 -- an address as an entry has it
-abbrev octetsOf : DeviceAddress → List ℕ
-octetsOf a = kindNumber (a .kind) ∷ a .bytes
+abbrev entryOctets : DeviceAddress → List ℕ
+entryOctets a = kindNumber (a .kind) ∷ a .bytes
 
-octets-same : (a b : DeviceAddress) → octetsOf a ≡ octetsOf b → a ≡ b
+octets-same : (a b : DeviceAddress) → entryOctets a ≡ entryOctets b → a ≡ b
 octets-same a b e =
     let first : kindNumber (a .kind) ≡ kindNumber (b .kind) = cc in
     let others : a .bytes ≡ b .bytes = cc in
@@ -79,7 +79,7 @@ octets-same a b e =
     λ i. record { bytes = others i; kind = kinds i }
 
 -- the octets of an entry of a list
-entry-octets : (list : List ℕ) (i : ℕ) → 7 * i + 7 ≤ length list → getD list (7 * i) 0 ≤ 1 → part 7 list (7 * i) ≡ octetsOf (entryAt list i)
+entry-octets : (list : List ℕ) (i : ℕ) → 7 * i + 7 ≤ length list → getD list (7 * i) 0 ≤ 1 → part 7 list (7 * i) ≡ entryOctets (entryAt list i)
 entry-octets list i inside small = rw (front list (7 * i) (omega arith)) (ap (λ (k : ℕ). k ∷ part 6 list (7 * i + 1)) (numbered (getD list (7 * i) 0) small))
   where
     numbered : (k : ℕ) → k ≤ 1 → k ≡ kindNumber (kindOf (eqb k 1))
@@ -109,22 +109,22 @@ listed list a =
         let parts = both-true (eqb (length list % 7) 0) (not (any (badKind list) (length list / 7))) good in
         (eqb-true (length list % 7) 0 (parts .0), λ i h. kind-small list (length list / 7) i (not-true (any (badKind list) (length list / 7)) (parts .1)) h)
 
-    octets-there : isList list ≡ true → (i : ℕ) → i < length list / 7 → part 7 list (7 * i) ≡ octetsOf (entryAt list i)
+    octets-there : isList list ≡ true → (i : ℕ) → i < length list / 7 → part 7 list (7 * i) ≡ entryOctets (entryAt list i)
     octets-there good i h = entry-octets list i (omega arith) (tested good .1 i h)
 
-    entry-of : isList list ≡ true → Passing (entryIs list a) (length list / 7) → Entry list a
+    entry-of : isList list ≡ true → Passing (entryIs list a) (length list / 7) → ListEntry list a
     entry-of good found =
         record {
           place = found .number;
           inside = found .below;
-          is = octets-there good (found .number) (found .below) ∙ ap octetsOf (equality (entryAt list (found .number)) a .sound (found .passes));
+          is = octets-there good (found .number) (found .below) ∙ ap entryOctets (equality (entryAt list (found .number)) a .sound (found .passes));
         }
 
-    nobody : isList list ≡ true → (b : Bool) → any (entryIs list a) (length list / 7) ≡ b → (Entry list a → ⊥) → b ≡ false
+    nobody : isList list ≡ true → (b : Bool) → any (entryIs list a) (length list / 7) ≡ b → (ListEntry list a → ⊥) → b ≡ false
     nobody good true e none = absurd (none (entry-of good (any-passing (entryIs list a) (length list / 7) e)))
     nobody good false e none = refl
 
-    sound : (b : Bool) → isList list ≡ b → cond (isList list) (Is (any (entryIs list a) (length list / 7))) (Refused InvalidValue) ≡ Is true → Entry list a
+    sound : (b : Bool) → isList list ≡ b → cond (isList list) (Is (any (entryIs list a) (length list / 7))) (Refused InvalidValue) ≡ Is true → ListEntry list a
     sound true e is =
         let answer = rw e at is in
         entry-of e (any-passing (entryIs list a) (length list / 7) (cc))

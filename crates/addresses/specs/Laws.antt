@@ -1,6 +1,6 @@
 -- The laws of addresses, filters and headers, each with the theorem of proofs/ that proves it. Worked values stand in specs/Examples.
 --   Equality a b                    (Addresses.equality)  the test of two addresses
---   Entry list a                    == an entry of the list that is the address a
+--   ListEntry list a                == an entry of the list that is the address a
 --   Listed list a                   (Entries.listed)      a whitelist, and no filter
 --   Policies scan connect list a    (Entries.policies)    which filter each request is held to
 --   boxes h                         == the boxes of the figure of a header, in order
@@ -36,7 +36,7 @@ pub record Equality (a b : DeviceAddress) : Type 0 where
   pub complete : a ≡ b → sameAddress a b ≡ true
 
 -- an entry of a list that is the address a: its octets are the kind, then the address
-pub record Entry (list : List ℕ) (a : DeviceAddress) : Type 0 where
+pub record ListEntry (list : List ℕ) (a : DeviceAddress) : Type 0 where
   pub place : ℕ
   pub inside : place < length list / 7
   pub is : part 7 list (7 * place) ≡ kindNumber (a .kind) ∷ a .bytes
@@ -47,9 +47,9 @@ pub record Listed (list : List ℕ) (a : DeviceAddress) : Type 0 where
   pub tested : isList list ≡ true → (length list % 7 ≡ 0) × ((i : ℕ) → i < length list / 7 → getD list (7 * i) 0 ≤ 1)
   pub whole : length list % 7 ≡ 0 → ((i : ℕ) → i < length list / 7 → getD list (7 * i) 0 ≤ 1) → isList list ≡ true
   pub refused : isList list ≡ false → matchesOf Whitelist list a ≡ Refused InvalidValue
-  pub sound : matchesOf Whitelist list a ≡ Is true → Entry list a
-  pub complete : isList list ≡ true → Entry list a → matchesOf Whitelist list a ≡ Is true
-  pub other : isList list ≡ true → (Entry list a → ⊥) → matchesOf Whitelist list a ≡ Is false
+  pub sound : matchesOf Whitelist list a ≡ Is true → ListEntry list a
+  pub complete : isList list ≡ true → ListEntry list a → matchesOf Whitelist list a ≡ Is true
+  pub other : isList list ≡ true → (ListEntry list a → ⊥) → matchesOf Whitelist list a ≡ Is false
   pub empty : matchesOf Whitelist [] a ≡ Is false
   -- "accept all", and whatever list is lent is not looked at
   pub all : matchesOf AllowAll list a ≡ Is true

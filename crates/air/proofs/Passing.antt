@@ -30,14 +30,14 @@ use Rattle.beacon_spec.specs.State.{Beacon, Made}
 use Rattle.whitening.proofs.Errors.{crcOctets-length}
 use Rattle.whitening.proofs.Heard.{hears}
 use Rattle.whitening.proofs.Whitens.{whitens}
-use Rattle.whitening.specs.Bits.{bits, number, heard, octetsOf, added}
+use Rattle.whitening.specs.Bits.{bits, number, bitsOf, octetsInBits, added}
 use Rattle.whitening.specs.Crc.{crcAfter, crcOctets}
 use Rattle.whitening.specs.Packet.{startOn, flagOf}
 use Rattle.whitening.specs.Whitening.{leaving, whitening, plus, whitened}
-use Rattle.air.specs.Laws.{sentOn, headerIn, payloadIn, Passes, onAir, clear, Beacons, Air, Examples}
+use Rattle.air.specs.Laws.{packetOn, headerOnAir, payloadIn, Passes, onAir, clear, Beacons, Air, Examples}
 
 -- the two octets of a header are read back
-header-back : (h : Header) (rest : List ℕ) → h .0 < 2 ^ 16 → headerIn (headerOctets h ++ rest) ≡ h
+header-back : (h : Header) (rest : List ℕ) → h .0 < 2 ^ 16 → headerOnAir (headerOctets h ++ rest) ≡ h
 header-back h rest small =
     let e : h .0 % 256 + 256 * (h .0 / 256 % 256 + 256 * 0) ≡ h .0 = omega arith in
     ap headerOf e
@@ -55,11 +55,11 @@ passes channel start h p there small fits =
     let three : length last ≡ 3 = crcOctets-length (startOn channel start) octets in
     let n : length octets ≡ 2 + length p = simp length-append (omega arith) in
     let all : length (octets ++ last) ≡ 5 + length p = simp length-append (omega arith) in
-    let back : whitened channel (sentOn channel start octets) ≡ octets ++ last = whitens .twice channel (octets ++ last) (omega arith) in
+    let back : whitened channel (packetOn channel start octets) ≡ octets ++ last = whitens .twice channel (octets ++ last) (omega arith) in
     record {
       size = whitens .as-long channel (octets ++ last) (omega arith) ∙ all;
       good = hears channel start .own octets there (omega arith) (omega arith);
-      header = ap headerIn (back ∙ append-assoc (headerOctets h) p last) ∙ header-back h (p ++ last) small;
+      header = ap headerOnAir (back ∙ append-assoc (headerOctets h) p last) ∙ header-back h (p ++ last) small;
       payload = ap payloadIn back ∙ payload-back h p last three;
     }
 
@@ -84,10 +84,10 @@ beacons a s n channel start six good fits there =
     let sixteen : h .0 ≡ 2 + 64 * kindNumber (a .kind) + 256 * (6 + (0 + length s)) = ap (λ (x : Beacon). x .pdu .header .0) (sym is) ∙ header-is a s n six good fits in
     let small : h .0 < 2 ^ 16 = omega (arith, kind-small (a .kind)) in
     let through = passes channel start h p there small (omega (arith, b .size)) in
-    let header : headerIn (clear a s channel start) ≡ h = ap (λ (x : Beacon). headerIn (whitened channel (sentOn channel start (asSent (x .pdu))))) is ∙ through .header in
-    let payload : payloadIn (clear a s channel start) ≡ p = ap (λ (x : Beacon). payloadIn (whitened channel (sentOn channel start (asSent (x .pdu))))) is ∙ through .payload in
+    let header : headerOnAir (clear a s channel start) ≡ h = ap (λ (x : Beacon). headerOnAir (whitened channel (packetOn channel start (asSent (x .pdu))))) is ∙ through .header in
+    let payload : payloadIn (clear a s channel start) ≡ p = ap (λ (x : Beacon). payloadIn (whitened channel (packetOn channel start (asSent (x .pdu))))) is ∙ through .payload in
     record {
-      good = ap (λ (x : Beacon). flagOf channel start (sentOn channel start (asSent (x .pdu)))) is ∙ through .good;
+      good = ap (λ (x : Beacon). flagOf channel start (packetOn channel start (asSent (x .pdu)))) is ∙ through .good;
       place = b .place;
       decoded = ap₂ decodeOf header payload ∙ b .decoded;
       number-of-records = b .number-of-records;
@@ -100,5 +100,5 @@ pub air : Air
 air = record { passes = passes; beacons = beacons }
 
 pub examples : Examples
-unfolding bits number heard octetsOf added crcAfter crcOctets leaving whitening plus whitened xor bufOf withRecords afterReading readArea areaOf reads withFirst cut first recordRead dataRead flagsRead upTo named clean rewritten flatten
+unfolding bits number bitsOf octetsInBits added crcAfter crcOctets leaving whitening plus whitened xor bufOf withRecords afterReading readArea areaOf reads withFirst cut first recordRead dataRead flagsRead upTo named clean rewritten flatten
 examples = record { row = λ start. refl }

@@ -1,6 +1,6 @@
 -- A packet on the air: what is built is sent with its CRC and whitened, and heard.
---   sentOn channel start octets       == octets with their CRC after them, whitened: what goes on the air
---   headerIn packet, payloadIn packet == a packet's header and its payload, the CRC left out
+--   packetOn channel start octets     == octets with their CRC after them, whitened: what goes on the air
+--   headerOnAir packet, payloadIn packet == a packet's header and its payload, the CRC left out
 --   Passes channel start h p          == a header and payload pass through the air unchanged, and the flag is good
 --   onAir a s channel start           == the beacon of an address and records as it goes on the air
 --   clear a s channel start           == that beacon as it is heard, its whitening taken off
@@ -33,25 +33,25 @@ use Rattle.whitening.specs.Packet.{startOn, flagOf}
 use Rattle.whitening.specs.Whitening.{whitened}
 use Rattle.whitening.specs.declared.packet.Flag.the-variants as flag
 
-abbrev pub sentOn : ℕ → ℕ → List ℕ → List ℕ
-sentOn channel start octets = whitened channel (octets ++ crcOctets (startOn channel start) octets)
+abbrev pub packetOn : ℕ → ℕ → List ℕ → List ℕ
+packetOn channel start octets = whitened channel (octets ++ crcOctets (startOn channel start) octets)
 
-abbrev pub headerIn : List ℕ → Header
-headerIn packet = headerOf (le (take 2 packet))
+abbrev pub headerOnAir : List ℕ → Header
+headerOnAir packet = headerOf (le (take 2 packet))
 
 abbrev pub payloadIn : List ℕ → List ℕ
 payloadIn packet = take (length packet - 5) (drop 2 packet)
 
 -- A header and a payload sent on a channel and heard there.
 pub record Passes (channel start : ℕ) (h : Header) (p : List ℕ) : Type 0 where
-  pub size : length (sentOn channel start (headerOctets h ++ p)) ≡ 5 + length p
-  pub good : flagOf channel start (sentOn channel start (headerOctets h ++ p)) ≡ flag.Is true
-  pub header : headerIn (whitened channel (sentOn channel start (headerOctets h ++ p))) ≡ h
-  pub payload : payloadIn (whitened channel (sentOn channel start (headerOctets h ++ p))) ≡ p
+  pub size : length (packetOn channel start (headerOctets h ++ p)) ≡ 5 + length p
+  pub good : flagOf channel start (packetOn channel start (headerOctets h ++ p)) ≡ flag.Is true
+  pub header : headerOnAir (whitened channel (packetOn channel start (headerOctets h ++ p))) ≡ h
+  pub payload : payloadIn (whitened channel (packetOn channel start (headerOctets h ++ p))) ≡ p
 
 -- the beacon of an address and records on the air, and as it is heard, its whitening taken off
 abbrev pub onAir : DeviceAddress → List ℕ → ℕ → ℕ → List ℕ
-onAir a s channel start = sentOn channel start (asSent (beaconOf a s .beacon .pdu))
+onAir a s channel start = packetOn channel start (asSent (beaconOf a s .beacon .pdu))
 
 abbrev pub clear : DeviceAddress → List ℕ → ℕ → ℕ → List ℕ
 clear a s channel start = whitened channel (onAir a s channel start)
@@ -61,13 +61,13 @@ clear a s channel start = whitened channel (onAir a s channel start)
 pub record Beacons (a : DeviceAddress) (s : List ℕ) (n channel start : ℕ) : Type 0 where
   pub good : flagOf channel start (onAir a s channel start) ≡ flag.Is true
   pub place : AdvData
-  pub decoded : decodeOf (headerIn (clear a s channel start)) (payloadIn (clear a s channel start))
+  pub decoded : decodeOf (headerOnAir (clear a s channel start)) (payloadIn (clear a s channel start))
       ≡ decodedAs outcome.Accepted AdvNonconnInd a noAddress place noRequest
   pub number-of-records : place .count ≡ n
   -- the records are those given, with undefined Flags bits cleared
   pub records : dataIn place (payloadIn (clear a s channel start)) ≡ rewritten s
   pub reported : (scanner : BeaconScanner) (list : List ℕ) → Lets (scanner .filter .scan) list a
-      → scanned scanner (headerIn (clear a s channel start)) (payloadIn (clear a s channel start)) true list
+      → scanned scanner (headerOnAir (clear a s channel start)) (payloadIn (clear a s channel start)) true list
       ≡ record { report = report.Beacon; sender = a; «adv_data» = place; taken = length s; channel = scanner .channel }
 
 pub record Air : Type 0 where

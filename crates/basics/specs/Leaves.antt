@@ -1,5 +1,5 @@
 -- Channels, maps and hops as numbers.
---   after times               == the advertising channel after up to 3 cycles from the first
+--   channelAfter times        == the advertising channel after up to 3 cycles from the first
 --   advertisingChannel, dataChannel   == what there is to say of a channel
 --   usedGot, foundGot, hopGot == the answers of a map
 use mathlib.Core.Bool.{cond}
@@ -18,8 +18,8 @@ use Rattle.answers.specs.Got.{found, refusedAs}
 use Rattle.answers.specs.declared.got.Got.{Got}
 use Rattle.basics.specs.declared.leaves.Channel.{Channel}
 
-abbrev pub after : ℕ → AdvertisingChannel
-after times =
+abbrev pub channelAfter : ℕ → AdvertisingChannel
+channelAfter times =
     cond (eqb times 0) firstChannel
     (cond (eqb times 1) (cycled firstChannel)
     (cond (eqb times 2) (cycled (cycled firstChannel))

@@ -6,7 +6,7 @@ ghost use Rattle.octets.specs.Uuid.{fullUuid};
 ghost use Rattle.channels.specs.Hop.{hopped};
 ghost use Rattle.channels.specs.Map.{fromRaw, allChannels, isUsed, byIndex};
 ghost use Rattle.channels.specs.Phy.{newChannel};
-ghost use Rattle.basics.specs.Leaves.{advertisingChannel, after, dataChannel, foundGot, usedGot, hopGot};
+ghost use Rattle.basics.specs.Leaves.{advertisingChannel, channelAfter, dataChannel, foundGot, usedGot, hopGot};
 use answers::got::Got;
 use answers::got::flag;
 use answers::got::found;
@@ -88,7 +88,7 @@ pub extern "C" fn board_since(time: u32, earlier: u32) -> u32
 // The advertising channel after up to 3 cycles from the first.
 #[no_mangle]
 pub extern "C" fn board_advertising_channel(times: u8) -> Channel
-    ensures { λ r. ⌜ r ≡ advertisingChannel (after times) ⌝ }
+    ensures { λ r. ⌜ r ≡ advertisingChannel (channelAfter times) ⌝ }
 {
     let channel = cycled(times);
     Channel {
@@ -101,7 +101,7 @@ pub extern "C" fn board_advertising_channel(times: u8) -> Channel
 }
 
 fn cycled(times: u8) -> AdvertisingChannel
-    ensures { λ r. ⌜ r ≡ after times ⌝ }
+    ensures { λ r. ⌜ r ≡ channelAfter times ⌝ }
 {
     let first = AdvertisingChannel::first();
     match times {

@@ -36,7 +36,7 @@ use Rattle.octets.specs.declared.error.Outcome.the-variants as outcome
 use Rattle.advertising.specs.declared.pdu.Padded.{Padded}
 use Rattle.advertising.specs.declared.pdu.Pdu.{Pdu}
 use Rattle.beacon_spec.specs.Laws as laws
-use Rattle.beacon_spec.specs.Laws.{Lets, Checks, Reports, Located, BadList, Unfiltered}
+use Rattle.beacon_spec.specs.Laws.{Lets, ScannerChecks, Reports, Located, BadList, Unfiltered}
 use Rattle.beacon_spec.specs.Scanner.{openScanner, isListFor, isPass, passes, isType2, isBeaconPacket, reportOf, unreported, unfiltered, scanned, reportNumber}
 use Rattle.beacon_spec.specs.State.{BeaconScanner, Scanned}
 use Rattle.beacon_spec.specs.declared.beacon.Report.the-variants as report
@@ -141,7 +141,7 @@ module _ (s : BeaconScanner) (h : Header) (p : List ℕ) (crcOk : Bool) (list : 
   reported true false e = let z : _≡_ {A = ℕ} 0 1 = cc in absurd (omega arith)
   reported false t e = let z : _≡_ {A = ℕ} 0 1 = cc in absurd (omega arith)
 
-  checks : checked ≡ true → Checks f h p crcOk list
+  checks : checked ≡ true → ScannerChecks f h p crcOk list
   checks e =
       let filter = both-true (isBeaconPacket h p crcOk) (passes f list (heardOf h p .pdu .sender)) e in
       let crc = both-true crcOk (isType2 h && isAccepted (heardOf h p .outcome)) (filter .0) in
@@ -153,16 +153,16 @@ module _ (s : BeaconScanner) (h : Header) (p : List ℕ) (crcOk : Bool) (list : 
         filter = lets f list (heardOf h p .pdu .sender) (filter .1);
       }
 
-  passed : Checks f h p crcOk list → checked ≡ true
+  passed : ScannerChecks f h p crcOk list → checked ≡ true
   passed c = rw (c .crc, eq-eqb (bits 0 4 h) 2 (c .type-2), c .decoding) (lets-passes (c .filter))
 
-  sound : scanned s h p crcOk list .report ≡ report.Beacon → Checks f h p crcOk list
+  sound : scanned s h p crcOk list .report ≡ report.Beacon → ScannerChecks f h p crcOk list
   sound e = checks (reported (isListFor f list) checked (ap (λ (x : Scanned). x .report) (sym by-cases) ∙ e))
 
-  pub complete : Checks f h p crcOk list → scanned s h p crcOk list ≡ reportOf (s .channel) (paddedOf h p)
+  pub complete : ScannerChecks f h p crcOk list → scanned s h p crcOk list ≡ reportOf (s .channel) (paddedOf h p)
   complete c = by-cases ∙ rw (lets-list (c .filter), passed c)
 
-  unchecked : (t : Bool) → checked ≡ t → (Checks f h p crcOk list → ⊥) → t ≡ false
+  unchecked : (t : Bool) → checked ≡ t → (ScannerChecks f h p crcOk list → ⊥) → t ≡ false
   unchecked true e fails = absurd (fails (checks e))
   unchecked false e fails = refl
 

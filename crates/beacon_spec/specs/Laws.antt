@@ -1,6 +1,6 @@
 -- The laws of beacons and their scanner, each with the theorem of proofs/ that proves it.
 --   Lets f list a                        == the filter f lets the address a pass: it accepts all, or some entry of its list is equal
---   Checks f h p crcOk list              == a packet passes document 01's checks: CRC, type 2, decoding, filter
+--   ScannerChecks f h p crcOk list       == a packet passes document 01's checks: CRC, type 2, decoding, filter
 --   Reports s h p crcOk list             (Reports.reports)          which packets are reported, and what of them
 --   Located s h p crcOk list             (Reports.located)          where a reported beacon's records lie
 --   BadList s h p crcOk list             (Reports.bad-list)         which filter lists are refused
@@ -39,7 +39,7 @@ use Rattle.records_spec.specs.declared.area.PaddedArea.the-variants as padded
 use Rattle.addresses.specs.Address.{kindOf, isRandom, addressOf}
 use Rattle.addresses.specs.Filter.{isList}
 use Rattle.addresses.specs.Header.{headerOf, bits, txAdd, lengthOf}
-use Rattle.addresses.specs.Laws.{Entry}
+use Rattle.addresses.specs.Laws.{ListEntry}
 use Rattle.addresses.specs.declared.device_address.AddressKind.the-variants.{Random}
 use Rattle.addresses.specs.declared.device_address.DeviceAddress.{DeviceAddress}
 use Rattle.addresses.specs.declared.filter.AddressFilter.{AddressFilter}
@@ -61,10 +61,10 @@ use Rattle.beacon_spec.specs.declared.beacon.Report.the-variants as repo
 -- A filter lets an address pass: it accepts all, or some entry of its list is equal.
 pub data Lets : AddressFilter → List ℕ → DeviceAddress → Type 0 where
   all : {list : List ℕ} {a : DeviceAddress} → Lets AllowAll list a
-  listed : {list : List ℕ} {a : DeviceAddress} → isList list ≡ true → Entry list a → Lets Whitelist list a
+  listed : {list : List ℕ} {a : DeviceAddress} → isList list ≡ true → ListEntry list a → Lets Whitelist list a
 
 -- Document 01's checks of the scanner: CRC, type 2, decoding, filter. Decoding is the hub's: zeros may follow the records (document 02, Note 3).
-pub record Checks (f : AddressFilter) (h : Header) (p : List ℕ) (crcOk : Bool) (list : List ℕ) : Type 0 where
+pub record ScannerChecks (f : AddressFilter) (h : Header) (p : List ℕ) (crcOk : Bool) (list : List ℕ) : Type 0 where
   pub crc : crcOk ≡ true
   pub type-2 : bits 0 4 h ≡ 2
   pub decoding : heardOf h p .outcome ≡ outcome.Accepted
@@ -72,11 +72,11 @@ pub record Checks (f : AddressFilter) (h : Header) (p : List ℕ) (crcOk : Bool)
 
 -- All passing, the sender and record area are reported; else nothing is. A filter list comes first.
 pub record Reports (s : BeaconScanner) (h : Header) (p : List ℕ) (crcOk : Bool) (list : List ℕ) : Type 0 where
-  pub sound : scanned s h p crcOk list .report ≡ report.Beacon → Checks (s .filter .scan) h p crcOk list
-  pub complete : Checks (s .filter .scan) h p crcOk list
+  pub sound : scanned s h p crcOk list .report ≡ report.Beacon → ScannerChecks (s .filter .scan) h p crcOk list
+  pub complete : ScannerChecks (s .filter .scan) h p crcOk list
       → scanned s h p crcOk list
       ≡ record { report = report.Beacon; sender = heardOf h p .pdu .sender; «adv_data» = heardOf h p .pdu .«adv_data»; taken = paddedOf h p .taken; channel = s .channel }
-  pub nothing : isListFor (s .filter .scan) list ≡ true → (Checks (s .filter .scan) h p crcOk list → ⊥)
+  pub nothing : isListFor (s .filter .scan) list ≡ true → (ScannerChecks (s .filter .scan) h p crcOk list → ⊥)
       → scanned s h p crcOk list ≡ record { report = report.Nothing; sender = noAddress; «adv_data» = noData; taken = 0; channel = s .channel }
   pub refused : isListFor (s .filter .scan) list ≡ false
       → scanned s h p crcOk list ≡ record { report = report.Refused InvalidValue; sender = noAddress; «adv_data» = noData; taken = 0; channel = s .channel }

@@ -11,7 +11,7 @@ use Rattle.addresses.specs.declared.header.Header.{Header}
 use Rattle.beacon_spec.specs.Scanner.{configured, timerUpdated, scanned}
 use Rattle.beacon_spec.specs.State.{BeaconScanner, Updated}
 use Rattle.exports.specs.Air.{at}
-use Rattle.exports.specs.Lists.{timeIn, intervalIn, headerIn, octetsIn}
+use Rattle.exports.specs.Lists.{timeIn, intervalIn, callHeader, octetsIn}
 use Rattle.exports.specs.Scans.{listenSaid, hearSaid, entryAfter, entriesUpTo, entrySaid}
 
 module _ (c : List ℕ) (s : BeaconScanner) where
@@ -35,7 +35,7 @@ module _ (c : List ℕ) (s : BeaconScanner) where
   unfolding entrySaid
   said-update list k t u = ap listenSaid (u ∙ (λ j. timerUpdated s (at (t j)))) ∙ rw k
 
-  pub said-packet : (list : List ℕ) {h : Header} {p : List ℕ} {b : Bool} → eqb (getD c 0 0) 0 ≡ false → eqb (getD c 0 0) 1 ≡ false → h ≡ headerIn c → p ≡ octetsIn c → b ≡ eqb (getD c 1 0) 1
+  pub said-packet : (list : List ℕ) {h : Header} {p : List ℕ} {b : Bool} → eqb (getD c 0 0) 0 ≡ false → eqb (getD c 0 0) 1 ≡ false → h ≡ callHeader c → p ≡ octetsIn c → b ≡ eqb (getD c 1 0) 1
       → hearSaid (scanned s h p b list) ≡ entrySaid c list s
   unfolding entrySaid
   said-packet list x y h p b = (λ j. hearSaid (scanned s (h j) (p j) (b j) list)) ∙ rw (x, y)

@@ -1,6 +1,6 @@
 -- Lists of calls given as octets, 272 for each call (drawn in src/lists.rt), on a fresh device with two transmit buffers.
 --   headerOr made                       == the header that was made, or one of zeros
---   timeIn c, intervalIn c, headerIn c, octetsIn c == what the octets c of a call have: its time, interval and header, and its records or payload
+--   timeIn c, intervalIn c, callHeader c, octetsIn c == what the octets c of a call have: its time, interval and header, and its records or payload
 --   callIn c tx                         == the call of 272 octets, lent a transmit buffer
 --   bufferAfter d c tx                  == the transmit buffer after a call
 --   Board, board d a b                  == the state of a device and its two transmit buffers
@@ -40,8 +40,8 @@ timeIn c = le (getD c 4 0 ∷ getD c 5 0 ∷ getD c 6 0 ∷ getD c 7 0 ∷ [])
 abbrev pub intervalIn : List ℕ → ℕ
 intervalIn c = le (getD c 8 0 ∷ getD c 9 0 ∷ getD c 10 0 ∷ getD c 11 0 ∷ [])
 
-abbrev pub headerIn : List ℕ → Header
-headerIn c = headerOr (parsed (partOr 2 c 12))
+abbrev pub callHeader : List ℕ → Header
+callHeader c = headerOr (parsed (partOr 2 c 12))
 
 abbrev pub octetsIn : List ℕ → List ℕ
 octetsIn c = partOr (getD c 3 0) c 14
@@ -50,7 +50,7 @@ unfoldable pub callIn : List ℕ → List ℕ → Call
 callIn c tx =
     cond (eqb (getD c 0 0) 0) (start (instant (timeIn c)) (intervalIn c) (octetsIn c) tx)
     (cond (eqb (getD c 0 0) 1) (tick tx)
-    (cond (eqb (getD c 0 0) 2) (packet (instant (timeIn c)) (headerIn c) (octetsIn c) (eqb (getD c 1 0) 1) tx)
+    (cond (eqb (getD c 0 0) 2) (packet (instant (timeIn c)) (callHeader c) (octetsIn c) (eqb (getD c 1 0) 1) tx)
     (cond (eqb (getD c 0 0) 3) event
     (cond (eqb (getD c 0 0) 5) (setScanData (octetsIn c)) stop))))
 

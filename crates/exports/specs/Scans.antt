@@ -15,7 +15,7 @@ use Rattle.addresses.specs.Address.{isRandom}
 use Rattle.beacon_spec.specs.Scanner.{configured, timerUpdated, scanned, reportNumber, isReport}
 use Rattle.beacon_spec.specs.State.{BeaconScanner, Scanned, Updated}
 use Rattle.exports.specs.Air.{at}
-use Rattle.exports.specs.Lists.{timeIn, intervalIn, headerIn, octetsIn}
+use Rattle.exports.specs.Lists.{timeIn, intervalIn, callHeader, octetsIn}
 use Rattle.exports.specs.declared.scans.Listened.{Listened}
 
 abbrev pub listenSaid : Updated → Listened
@@ -64,4 +64,4 @@ unfoldable pub entrySaid : List ℕ → List ℕ → BeaconScanner → Listened
 entrySaid c list s =
     cond (eqb (getD c 0 0) 0) (listenSaid (configured s (at (timeIn c)) (intervalIn c)))
     (cond (eqb (getD c 0 0) 1) (listenSaid (timerUpdated s (at (timeIn c))))
-    (hearSaid (scanned s (headerIn c) (octetsIn c) (eqb (getD c 1 0) 1) list)))
+    (hearSaid (scanned s (callHeader c) (octetsIn c) (eqb (getD c 1 0) 1) list)))

@@ -7,7 +7,7 @@ ghost use Rattle.octets.specs.Bytes.{written};
 ghost use Rattle.columns.specs.Table.{octetColumns};
 ghost use Rattle.beacon.specs.State.{scannerState};
 ghost use Rattle.hub_spec.specs.Line.{line, reportsIn, lastSize, roomFor};
-ghost use Rattle.hub_spec.specs.Log.{start, heardIn, scannerAfter, leftOver, lastLine, fresh, isStuck, loggedOf, blockOf, RunCounts, isReady, takenIn, restIn, linesIn, restAfter, linesAfter};
+ghost use Rattle.hub_spec.specs.Log.{start, heardIn, scannerAfter, leftOver, lastLine, freshHub, isStuck, loggedOf, blockOf, RunCounts, isReady, takenIn, restIn, linesIn, restAfter, linesAfter};
 ghost use Rattle.hub.specs.State.{hubState, loggedStep, blockStep, takenStep};
 use crate::line::log_scanned;
 use addresses::header::Header;
@@ -211,7 +211,7 @@ fn left_over(kept: usize) -> usize
 impl Hub {
     // A hub that has heard nothing, and listens on the first channel for every sender.
     pub fn new() -> Hub
-        ensures { λ r. ⌜ hubState r ≡ fresh ⌝ }
+        ensures { λ r. ⌜ hubState r ≡ freshHub ⌝ }
     {
         let configured = BeaconScanner::new().configure(start(), 0);
         let scanner = configured.scanner;

@@ -12,8 +12,8 @@ use borrow.Author.Tests.{le-leb, leb-true, leb-false, ltb-true, ltb-false}
 use Rattle.hub_spec.specs.State.{Hub}
 use Rattle.hub_spec.specs.Line.{lineSize, reportsIn, roomFor}
 use Rattle.octets.proofs.Places.{both-true}
-use Rattle.items.specs.Item.{sizeOf, wholeSize, items, behind}
-use Rattle.hub_spec.specs.Log.{mostItems, heardIn, after, afterAll, printed, printedAll, itemsFor, linesOf, hubOf, restOf, isStuck, fresh, lastLine, logOf, isReady}
+use Rattle.items.specs.Item.{sizeOf, wholeSize, items, afterItems}
+use Rattle.hub_spec.specs.Log.{mostItems, heardIn, afterItem, afterAll, printed, printedAll, itemsFor, linesOf, hubOf, octetsLeft, isStuck, freshHub, lastLine, logOf, isReady}
 use Rattle.hub_spec.specs.Reads.{writtenFor, AnyReads, Ready, BlockTaken}
 use Rattle.items.proofs.Items.{none-whole, one-whole, none-left, none-more, no-size, begun, at-front, items-fit, items-more, behind-more}
 use Rattle.hub_spec.proofs.Reports.{line-size, line-room, one-report}
@@ -22,50 +22,50 @@ use Rattle.hub_spec.proofs.Reports.{line-size, line-room, one-report}
 afterAll-append : (h : Hub) (a b : List (List ℕ)) → afterAll h (a ++ b) ≡ afterAll (afterAll h a) b
 unfolding afterAll
 afterAll-append h [] b = refl
-afterAll-append h (item ∷ a) b = afterAll-append (after h item) a b
+afterAll-append h (item ∷ a) b = afterAll-append (afterItem h item) a b
 
 printedAll-append : (h : Hub) (a b : List (List ℕ)) → printedAll h (a ++ b) ≡ printedAll h a ++ printedAll (afterAll h a) b
 unfolding afterAll printedAll
 printedAll-append h [] b = refl
-printedAll-append h (item ∷ a) b = simp (printedAll-append (after h item) a b, append-assoc)
+printedAll-append h (item ∷ a) b = simp (printedAll-append (afterItem h item) a b, append-assoc)
 
 pub counted : (h : Hub) (its : List (List ℕ)) → afterAll h its .items ≡ h .items + length its
-unfolding afterAll after
+unfolding afterAll afterItem
 counted h [] = omega arith
-counted h (item ∷ its) = counted (after h item) its ∙ omega arith
+counted h (item ∷ its) = counted (afterItem h item) its ∙ omega arith
 
 -- the log of octets that a hub hears
 logFrom : Hub → List ℕ → List ℕ
-logFrom h s = linesOf h s ++ lastLine (hubOf h s) (length (restOf h s))
+logFrom h s = linesOf h s ++ lastLine (hubOf h s) (length (octetsLeft h s))
 
 module _ (h : Hub) (s : List ℕ) where
   left : mostItems - h .items - length (itemsFor h s) ≡ mostItems - hubOf h s .items
   left = omega (arith, counted h (itemsFor h s))
 
   -- the items of more octets are those of the first part, and those of what it leaves over with the others
-  itemsFor-more : (more : List ℕ) → itemsFor h (s ++ more) ≡ itemsFor h s ++ itemsFor (hubOf h s) (restOf h s ++ more)
-  itemsFor-more more = items-more (mostItems - h .items) s more ∙ ap (λ (n : ℕ). itemsFor h s ++ items n (restOf h s ++ more)) left
+  itemsFor-more : (more : List ℕ) → itemsFor h (s ++ more) ≡ itemsFor h s ++ itemsFor (hubOf h s) (octetsLeft h s ++ more)
+  itemsFor-more more = items-more (mostItems - h .items) s more ∙ ap (λ (n : ℕ). itemsFor h s ++ items n (octetsLeft h s ++ more)) left
 
   -- so nothing that is left over is a whole item
-  nothing-more : itemsFor (hubOf h s) (restOf h s) ≡ []
+  nothing-more : itemsFor (hubOf h s) (octetsLeft h s) ≡ []
   nothing-more =
-      append-cancel-left (itemsFor h s) (itemsFor (hubOf h s) (restOf h s)) []
-      (ap (λ (l : List ℕ). itemsFor h s ++ itemsFor (hubOf h s) l) (sym (append-nil (restOf h s))) ∙ sym (itemsFor-more []) ∙ ap (itemsFor h) (append-nil s) ∙ sym (append-nil (itemsFor h s)))
+      append-cancel-left (itemsFor h s) (itemsFor (hubOf h s) (octetsLeft h s)) []
+      (ap (λ (l : List ℕ). itemsFor h s ++ itemsFor (hubOf h s) l) (sym (append-nil (octetsLeft h s))) ∙ sym (itemsFor-more []) ∙ ap (itemsFor h) (append-nil s) ∙ sym (append-nil (itemsFor h s)))
 
-  log-more : (more : List ℕ) → logFrom h (s ++ more) ≡ linesOf h s ++ logFrom (hubOf h s) (restOf h s ++ more)
+  log-more : (more : List ℕ) → logFrom h (s ++ more) ≡ linesOf h s ++ logFrom (hubOf h s) (octetsLeft h s ++ more)
   unfolding logFrom
   log-more more =
-      let lines : linesOf h (s ++ more) ≡ linesOf h s ++ linesOf (hubOf h s) (restOf h s ++ more) =
-      ap (printedAll h) (itemsFor-more more) ∙ printedAll-append h (itemsFor h s) (itemsFor (hubOf h s) (restOf h s ++ more)) in
-      let hubs : hubOf h (s ++ more) ≡ hubOf (hubOf h s) (restOf h s ++ more) =
-      ap (afterAll h) (itemsFor-more more) ∙ afterAll-append h (itemsFor h s) (itemsFor (hubOf h s) (restOf h s ++ more)) in
-      let rests : restOf h (s ++ more) ≡ restOf (hubOf h s) (restOf h s ++ more) =
-      behind-more (mostItems - h .items) s more ∙ ap (λ (n : ℕ). behind (items n (restOf h s ++ more)) (restOf h s ++ more)) left in
+      let lines : linesOf h (s ++ more) ≡ linesOf h s ++ linesOf (hubOf h s) (octetsLeft h s ++ more) =
+      ap (printedAll h) (itemsFor-more more) ∙ printedAll-append h (itemsFor h s) (itemsFor (hubOf h s) (octetsLeft h s ++ more)) in
+      let hubs : hubOf h (s ++ more) ≡ hubOf (hubOf h s) (octetsLeft h s ++ more) =
+      ap (afterAll h) (itemsFor-more more) ∙ afterAll-append h (itemsFor h s) (itemsFor (hubOf h s) (octetsLeft h s ++ more)) in
+      let rests : octetsLeft h (s ++ more) ≡ octetsLeft (hubOf h s) (octetsLeft h s ++ more) =
+      behind-more (mostItems - h .items) s more ∙ ap (λ (n : ℕ). afterItems (items n (octetsLeft h s ++ more)) (octetsLeft h s ++ more)) left in
       simp (lines, hubs, rests, append-assoc)
 
 -- where nothing is a whole item, only the last line is left
 log-none : (h : Hub) (s : List ℕ) → itemsFor h s ≡ [] → logFrom h s ≡ lastLine h (length s)
-unfolding logFrom printedAll afterAll behind flatten
+unfolding logFrom printedAll afterAll afterItems flatten
 log-none h s no-items = simp no-items
 
 -- where the hub is stuck, nothing is a whole item, whatever follows
@@ -95,7 +95,7 @@ reads-log (read ∷ reads) h kept none-yet =
     heard = hubOf h (kept ++ read)
 
     rest : List ℕ
-    rest = restOf h (kept ++ read)
+    rest = octetsLeft h (kept ++ read)
 
     go : (stop : Bool) → isStuck (heard .items) rest ≡ stop → writtenFor heard rest reads ≡ logFrom heard (rest ++ flatten reads)
         → cond stop (lastLine heard (length rest)) (writtenFor heard rest reads) ≡ logFrom heard (rest ++ flatten reads)
@@ -105,7 +105,7 @@ reads-log (read ∷ reads) h kept none-yet =
 
 pub any-reads : AnyReads
 unfolding logFrom logOf wholeSize sizeOf
-any-reads reads = reads-log reads fresh [] (none-whole mostItems [] refl)
+any-reads reads = reads-log reads freshHub [] (none-whole mostItems [] refl)
 
 -- octets of which an item may still come, and none has
 short : (count first : ℕ) (rest : List ℕ) → isStuck count (first ∷ rest) ≡ false → items (mostItems - count) (first ∷ rest) ≡ [] → length (first ∷ rest) < 66
@@ -120,8 +120,8 @@ short count first rest = go (leb mostItems count) (ltb 2 first) refl refl
         let left : mostItems - count ≡ suc (mostItems - count - 1) = omega (arith, leb-false mostItems count m) in
         begun first rest (ltb-false 2 first e) (none-left (mostItems - count - 1) (first ∷ rest) (rw left at no-items))
 
-kept-short : (h : Hub) (s : List ℕ) → isStuck (hubOf h s .items) (restOf h s) ≡ false → length (restOf h s) < 66
-kept-short h s = go (restOf h s) (nothing-more h s)
+kept-short : (h : Hub) (s : List ℕ) → isStuck (hubOf h s .items) (octetsLeft h s) ≡ false → length (octetsLeft h s) < 66
+kept-short h s = go (octetsLeft h s) (nothing-more h s)
   where
     go : (rest : List ℕ) → itemsFor (hubOf h s) rest ≡ [] → isStuck (hubOf h s .items) rest ≡ false → length rest < 66
     go [] no-items e = omega arith
@@ -138,9 +138,9 @@ items-most (suc n) s =
     (at-front s)
 
 fewer-reports : (h : Hub) (its : List (List ℕ)) → h .reports ≤ h .items → afterAll h its .reports ≤ afterAll h its .items
-unfolding afterAll after
+unfolding afterAll afterItem
 fewer-reports h [] fewer = fewer
-fewer-reports h (item ∷ its) fewer = fewer-reports (after h item) its (omega (arith, one-report (heardIn (h .scanner) item)))
+fewer-reports h (item ∷ its) fewer = fewer-reports (afterItem h item) its (omega (arith, one-report (heardIn (h .scanner) item)))
 
 printed-size : (h : Hub) (item : List ℕ) → length (printed h item) ≡ lineSize * reportsIn (heardIn (h .scanner) item)
 unfolding printed
@@ -149,10 +149,10 @@ printed-size h item = line-size _ (h .scanner) item
 lines-room : (h : Hub) (its : List (List ℕ)) → length (printedAll h its) ≤ roomFor (length (flatten its))
 unfolding printedAll flatten
 lines-room h [] = omega arith
-lines-room h (item ∷ its) = simp length-append (omega (arith, printed-size h item, line-room (h .scanner) item, lines-room (after h item) its))
+lines-room h (item ∷ its) = simp length-append (omega (arith, printed-size h item, line-room (h .scanner) item, lines-room (afterItem h item) its))
 
-rest-fits : (h : Hub) (s : List ℕ) → length (restOf h s) ≤ length s
-unfolding behind
+rest-fits : (h : Hub) (s : List ℕ) → length (octetsLeft h s) ≤ length s
+unfolding afterItems
 rest-fits h s = rw length-drop (omega arith)
 
 module _ (h : Hub) (buf : List ℕ) (filled : ℕ) (out : List ℕ) where
@@ -174,8 +174,8 @@ module _ (h : Hub) (buf : List ℕ) (filled : ℕ) (out : List ℕ) where
       go true e = absurd (not-all (all-ready e))
       go false e = refl
 
-rest-all : (h : Hub) (s : List ℕ) → length (flatten (itemsFor h s)) + length (restOf h s) ≡ length s
-unfolding behind
+rest-all : (h : Hub) (s : List ℕ) → length (flatten (itemsFor h s)) + length (octetsLeft h s) ≡ length s
+unfolding afterItems
 rest-all h s = rw length-drop (omega (arith, items-fit (mostItems - h .items) s))
 
 pub block-taken : (h : Hub) (s : List ℕ) → BlockTaken h s
@@ -184,7 +184,7 @@ block-taken h s =
       accepted = λ buf filled out all. simp (ready h buf filled out all);
       refused = λ buf filled out not-all. let is = unready h buf filled out not-all in (simp is, (simp is, simp is));
       left = λ buf filled out all.
-          let rest : List ℕ = restOf h (take filled buf) in
+          let rest : List ℕ = octetsLeft h (take filled buf) in
           rw (ready h buf filled out all) (take-append-seam rest (drop (length rest) buf), drop-at rest (drop (length rest) buf) (length rest) refl);
       lines = λ buf filled out all.
           let these : List ℕ = linesOf h (take filled buf) in

@@ -17,7 +17,7 @@ use Rattle.records_spec.specs.declared.area.PaddedArea.the-variants as padded
 use Rattle.columns.proofs.Rows.{row}
 use Rattle.columns.specs.Row.{rowOf, readRow, AllFit}
 use Rattle.items.proofs.Items.{cut}
-use Rattle.items.specs.Item.{items, behind, IsItem, tick, packet, AllItems}
+use Rattle.items.specs.Item.{items, afterItems, IsItem, tick, packet, AllItems}
 use Rattle.hub_spec.specs.Line.{lineSize}
 use Rattle.hub_spec.specs.Log.{mostItems}
 use Rattle.hub_spec.specs.Reported as spec
@@ -30,7 +30,7 @@ octets-parts (x ∷ a) b all = let parts = octets-parts a b (all .1) in ((all .0
 
 -- the items of octets are octets
 pub octets-in : (n : ℕ) (s : List ℕ) → Octets s → Octets (flatten (items n s))
-octets-in n s octets = octets-parts (flatten (items n s)) (behind (items n s) s) (rw (cut n s .tiles) octets) .0
+octets-in n s octets = octets-parts (flatten (items n s)) (afterItems (items n s) s) (rw (cut n s .tiles) octets) .0
 
 -- an item has at most 66 octets
 item-size : (item : List ℕ) → IsItem item → length item ≤ 66

@@ -32,9 +32,9 @@ use Rattle.columns.specs.Column.{column}
 use Rattle.columns.specs.Row.{rowOf, Fits, AllFit}
 use Rattle.items.proofs.Falling.{falls}
 use Rattle.items.proofs.Items.{cut}
-use Rattle.items.specs.Item.{items, behind, IsItem, tick, packet, AllItems}
+use Rattle.items.specs.Item.{items, afterItems, IsItem, tick, packet, AllItems}
 use Rattle.hub_spec.specs.Line.{sentColumns, reportLine, line, reportsIn, lineSize}
-use Rattle.hub_spec.specs.Log.{mostItems, start, isCrcGood, heardIn, scannerAfter, after, printed, afterAll, printedAll, leftOver, lastLine, fresh, itemsFor, logOf, isStuck}
+use Rattle.hub_spec.specs.Log.{mostItems, start, isCrcGood, heardIn, scannerAfter, afterItem, printed, afterAll, printedAll, leftOver, lastLine, freshHub, itemsFor, logOf, isStuck}
 use Rattle.hub_spec.specs.Reported as spec
 use Rattle.hub_spec.specs.Reported.{reportWidths, lastWidths, lineEach, IsReported, Prints, TickCount, Rows, Reported, Continued, Rowed, Added, Stopping}
 use Rattle.hub_spec.specs.State.{Hub}
@@ -69,8 +69,8 @@ added k c sender n =
 -- a header's bit 6 as the kind of an address
 line-is : (k : ℕ) (on : AdvertisingChannel) (bit a b c d e f n : ℕ) → bit < 2
     → reportLine k on (addressOf (a ∷ b ∷ c ∷ d ∷ e ∷ f ∷ []) (kindOf (eqb bit 1))) n ≡ rowOf reportWidths (k ∷ indexOf on ∷ bit ∷ a ∷ b ∷ c ∷ d ∷ e ∷ f ∷ n ∷ [])
-line-is k on zero a b c d e f n low = rowed fresh n .public k on a b c d e f
-line-is k on (suc zero) a b c d e f n low = rowed fresh n .random k on a b c d e f
+line-is k on zero a b c d e f n low = rowed freshHub n .public k on a b c d e f
+line-is k on (suc zero) a b c d e f n low = rowed freshHub n .random k on a b c d e f
 line-is k on (suc (suc bit)) a b c d e f n low = absurd (omega arith)
 
 -- an item prints a line for each of its rows
@@ -224,7 +224,7 @@ each-line (row ∷ a) b = rw (each-line a b) (sym (append-assoc (rowOf reportWid
 
 told : (k : ℕ) (from : AdvertisingChannel) (before : List (List ℕ)) (h : Hub) (its : List (List ℕ)) → h .items ≡ k + length before → Heard from before (h .scanner)
     → h .scanner .filter .scan ≡ AllowAll → AllItems its → Told k from before h its
-unfolding afterAll printedAll after printed flatten
+unfolding afterAll printedAll afterItem printed flatten
 told k from before h [] number heard all-pass all =
     record {
       rows = [];
@@ -236,8 +236,8 @@ told k from before h [] number heard all-pass all =
     }
 told k from before h (item ∷ its) number heard all-pass all =
     let one = item-prints (h .scanner) all-pass (h .items + 1) item in
-    let next : after h item .items ≡ k + length (before ++ (item ∷ [])) = rw length-append (omega (arith, number)) in
-    let later = told k from (before ++ (item ∷ [])) (after h item) its next (heard-more from before (h .scanner) item (all .0) heard) (still-all (h .scanner) item all-pass) (all .1) in
+    let next : afterItem h item .items ≡ k + length (before ++ (item ∷ [])) = rw length-append (omega (arith, number)) in
+    let later = told k from (before ++ (item ∷ [])) (afterItem h item) its next (heard-more from before (h .scanner) item (all .0) heard) (still-all (h .scanner) item all-pass) (all .1) in
     let prints-it : Prints (k + length before + 1) (indexOf (cycles (heard .ticks) from)) item (one .rows) =
     rw (← number, ← heard .channel) (one .prints) in
     record {
@@ -246,7 +246,7 @@ told k from before h (item ∷ its) number heard all-pass all =
       lines = rw (one .lines, later .lines) (sym (each-line (one .rows) (later .rows)));
       sum = rw length-append (omega (arith, later .sum, one .number));
       all-pass = later .all-pass;
-      heard-all = subst (λ (l : List (List ℕ)). Heard from l (afterAll (after h item) its .scanner)) (append-assoc before (item ∷ []) its) (later .heard-all);
+      heard-all = subst (λ (l : List (List ℕ)). Heard from l (afterAll (afterItem h item) its .scanner)) (append-assoc before (item ∷ []) its) (later .heard-all);
     }
 
 nothing-heard : (s : BeaconScanner) → Heard (s .channel) [] s
@@ -294,12 +294,12 @@ stopping count first rest =
     either false = refl
 
 -- no octets are left over where the items are all of them, and else some are
-none-over : (its : List (List ℕ)) (s : List ℕ) → flatten its ≡ s → leftOver (length (behind its s)) ≡ 0
-unfolding behind
+none-over : (its : List (List ℕ)) (s : List ℕ) → flatten its ≡ s → leftOver (length (afterItems its s)) ≡ 0
+unfolding afterItems
 none-over its s all = rw (all, drop-length s)
 
-some-over : (its : List (List ℕ)) (s : List ℕ) → flatten its ++ behind its s ≡ s → (flatten its ≡ s → ⊥) → leftOver (length (behind its s)) ≡ 1
-some-over its s tiles some = go (behind its s) tiles
+some-over : (its : List (List ℕ)) (s : List ℕ) → flatten its ++ afterItems its s ≡ s → (flatten its ≡ s → ⊥) → leftOver (length (afterItems its s)) ≡ 1
+some-over its s tiles some = go (afterItems its s) tiles
   where
     go : (rest : List ℕ) → flatten its ++ rest ≡ s → leftOver (length rest) ≡ 1
     go [] e = absurd (some (sym (append-nil (flatten its)) ∙ e))
@@ -317,16 +317,16 @@ pub reported : (s : List ℕ) → Reported s
 unfolding logOf
 reported s =
     let its : List (List ℕ) = items mostItems s in
-    let all = continued fresh s refl in
-    let flag : ℕ = leftOver (length (behind its s)) in
-    let end : Hub = afterAll fresh its in
+    let all = continued freshHub s refl in
+    let flag : ℕ = leftOver (length (afterItems its s)) in
+    let end : Hub = afterAll freshHub its in
     let size : end .items ≡ length its = all .item-count ∙ omega arith in
     let sum : end .reports ≡ length (all .rows) = all .report-count ∙ omega arith in
     let last : List ℕ = rowOf lastWidths (length its ∷ length (all .rows) ∷ flag ∷ []) in
-    let log : logOf s ≡ lineEach (all .rows) ++ last = rw (all .lines, last-is end (length (behind its s)), size, sum) refl in
+    let log : logOf s ≡ lineEach (all .rows) ++ last = rw (all .lines, last-is end (length (afterItems its s)), size, sum) refl in
     let fit : Octets s → AllFit reportWidths (all .rows) = all .fit (omega arith, omega arith) in
     let last-fits : Fits lastWidths (length its ∷ length (all .rows) ∷ flag ∷ []) =
-    rw (size, sum) at (rowed end 0 .last-fits (block-taken fresh s .counted (omega arith, omega arith)) flag (over-one (length (behind its s)))) in
+    rw (size, sum) at (rowed end 0 .last-fits (block-taken freshHub s .counted (omega arith, omega arith)) flag (over-one (length (afterItems its s)))) in
     record {
       rows = all .rows;
       flag = flag;

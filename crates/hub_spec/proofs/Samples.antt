@@ -13,13 +13,13 @@ use Rattle.columns.specs.Column.{leading, column}
 use Rattle.columns.specs.Text.{ascii, lines}
 use Rattle.items.proofs.Falling.{falls}
 use Rattle.items.proofs.Items.{one-whole, none-whole}
-use Rattle.items.specs.Item.{sizeOf, wholeSize, items, behind, tick, packet, AllItems}
+use Rattle.items.specs.Item.{sizeOf, wholeSize, items, afterItems, tick, packet, AllItems}
 use Rattle.records_spec.specs.Area.{cut, reads, withFirst, areaOf, readArea}
 use Rattle.records_spec.specs.HubReading.{beforeZero, unpadded, isZeros, endedBy, readPadded, areaIn}
 use Rattle.records_spec.specs.Record.{first, flagsRead, dataRead, upTo, recordRead}
 use Rattle.flags.specs.Flags.{named}
 use Rattle.hub_spec.specs.Line.{lineSize, reportLine, line, reportsIn}
-use Rattle.hub_spec.specs.Log.{mostItems, heardIn, scannerAfter, after, printed, afterAll, printedAll, lastLine, fresh, logOf}
+use Rattle.hub_spec.specs.Log.{mostItems, heardIn, scannerAfter, afterItem, printed, afterAll, printedAll, lastLine, freshHub, logOf}
 use Rattle.hub_spec.specs.Sample.{beacon, badBeacon, paddedBeacon, unendedBeacon, longPacket, shortBeacon, sixItems, tickItems, Sample, JustRoom}
 
 -- step by step: computing `items` would unfold it 999,999 times
@@ -91,7 +91,7 @@ six =
     ∙ ap (λ (l : List (List ℕ)). sixItems ++ l) (none-whole (mostItems - 6) (0x03 ∷ []) refl)
 
 pub sample : Sample
-unfolding leading column ascii lines behind flatten scanned heardIn scannerAfter reportLine line reportsIn after printed afterAll printedAll lastLine logOf decodeBy byType undirected withArea pduType readPadded endedBy isZeros unpadded beforeZero areaIn readArea areaOf reads withFirst cut first recordRead dataRead flagsRead upTo named
+unfolding leading column ascii lines afterItems flatten scanned heardIn scannerAfter reportLine line reportsIn afterItem printed afterAll printedAll lastLine logOf decodeBy byType undirected withArea pduType readPadded endedBy isZeros unpadded beforeZero areaIn readArea areaOf reads withFirst cut first recordRead dataRead flagsRead upTo named
 sample =
     record {
       sample = rw both;
@@ -124,8 +124,8 @@ short-found k few =
     ∙ append-nil all
 
 -- each prints a line
-short-lines : (k count reports : ℕ) → length (printedAll (record { items = count; reports = reports; scanner = fresh .scanner }) (replicate k shortBeacon)) ≡ lineSize * k
-unfolding leading column flatten scanned heardIn scannerAfter reportLine line reportsIn after printed printedAll decodeBy byType undirected withArea pduType readPadded endedBy isZeros unpadded beforeZero areaIn readArea areaOf reads cut
+short-lines : (k count reports : ℕ) → length (printedAll (record { items = count; reports = reports; scanner = freshHub .scanner }) (replicate k shortBeacon)) ≡ lineSize * k
+unfolding leading column flatten scanned heardIn scannerAfter reportLine line reportsIn afterItem printed printedAll decodeBy byType undirected withArea pduType readPadded endedBy isZeros unpadded beforeZero areaIn readArea areaOf reads cut
 short-lines zero count reports = refl
 short-lines (suc k) count reports = simp (length-append, column-length) (omega (arith, short-lines k (count + 1) (reports + 1)))
 
@@ -135,4 +135,4 @@ short-octets zero = refl
 short-octets (suc k) = omega (arith, short-octets k)
 
 pub just-room : (k : ℕ) → JustRoom k
-just-room k few more under-9 = rw (short-octets k) (ap (λ (its : List (List ℕ)). length (printedAll fresh its)) (short-found k few) ∙ short-lines k 0 0 ∙ omega arith)
+just-room k few more under-9 = rw (short-octets k) (ap (λ (its : List (List ℕ)). length (printedAll freshHub its)) (short-found k few) ∙ short-lines k 0 0 ∙ omega arith)

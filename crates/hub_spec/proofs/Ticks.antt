@@ -6,10 +6,10 @@ use native.Mathlib.Omega.{arith}
 use lib.ListN.{length, replicate, length-replicate, length-drop}
 use Rattle.columns.specs.Column.{leading, column}
 use Rattle.columns.specs.Text.{ascii, lines}
-use Rattle.items.specs.Item.{items, behind, tick}
+use Rattle.items.specs.Item.{items, afterItems, tick}
 use Rattle.items.proofs.Falling.{falls}
 use Rattle.hub_spec.specs.Line.{line, reportsIn}
-use Rattle.hub_spec.specs.Log.{mostItems, heardIn, after, printed, afterAll, printedAll, leftOver, lastLine, fresh, logOf}
+use Rattle.hub_spec.specs.Log.{mostItems, heardIn, afterItem, printed, afterAll, printedAll, leftOver, lastLine, freshHub, logOf}
 use Rattle.hub_spec.specs.Sample.{Limit}
 use Rattle.hub_spec.specs.State.{Hub}
 
@@ -21,12 +21,12 @@ record Ticked (n m : ℕ) (h : Hub) : Type 0 where
   octets : length (flatten (items n (replicate m 0))) ≡ n
 
 ticked : (n m : ℕ) → n ≤ m → (h : Hub) → Ticked n m h
-unfolding items printedAll afterAll flatten printed line reportsIn heardIn after
+unfolding items printedAll afterAll flatten printed line reportsIn heardIn afterItem
 ticked zero m few h = record { none-printed = refl; count = omega arith; reports = refl; octets = refl }
 ticked (suc n) zero few h = absurd (omega arith)
 ticked (suc n) (suc m) few h =
     let first : items (suc n) (replicate (suc m) 0) ≡ (0 ∷ []) ∷ items n (replicate m 0) = falls n [] .found (0 ∷ []) (replicate m 0) tick in
-    let later = ticked n m (omega arith) (after h (0 ∷ [])) in
+    let later = ticked n m (omega arith) (afterItem h (0 ∷ [])) in
     record {
       none-printed = rw first (later .none-printed);
       count = rw first (later .count ∙ omega arith);
@@ -35,15 +35,15 @@ ticked (suc n) (suc m) few h =
     }
 
 -- what is left over of m
-left : (n m : ℕ) → n ≤ m → length (behind (items n (replicate m 0)) (replicate m 0)) ≡ m - n
-unfolding behind
-left n m few = rw (length-drop, ticked n m few fresh .octets, length-replicate)
+left : (n m : ℕ) → n ≤ m → length (afterItems (items n (replicate m 0)) (replicate m 0)) ≡ m - n
+unfolding afterItems
+left n m few = rw (length-drop, ticked n m few freshHub .octets, length-replicate)
 
 ticks-log : (ticks over : ℕ) → ticks ≡ mostItems + over → logOf (replicate ticks 0) ≡ column 6 mostItems ++ (column 6 0 ++ (column 2 (leftOver over) ++ (10 ∷ [])))
 unfolding logOf lastLine
 ticks-log ticks over is =
-    let all = ticked mostItems ticks (omega arith) fresh in
-    let rest : length (behind (items mostItems (replicate ticks 0)) (replicate ticks 0)) ≡ over = left mostItems ticks (omega arith) ∙ omega arith in
+    let all = ticked mostItems ticks (omega arith) freshHub in
+    let rest : length (afterItems (items mostItems (replicate ticks 0)) (replicate ticks 0)) ≡ over = left mostItems ticks (omega arith) ∙ omega arith in
     rw (all .none-printed, all .count, all .reports, rest)
 
 pub limit : (ticks : ℕ) → Limit ticks

@@ -8,12 +8,12 @@ use Rattle.addresses.specs.declared.device_address.AddressKind.the-variants.{Pu
 use Rattle.beacon_spec.specs.State.{BeaconScanner}
 use Rattle.columns.specs.Text.{lines}
 use Rattle.hub_spec.specs.Line.{reportLine, roomFor}
-use Rattle.hub_spec.specs.Log.{isCrcGood, scannerAfter, leftOver, lastLine, fresh, isStuck, isReady}
+use Rattle.hub_spec.specs.Log.{isCrcGood, scannerAfter, leftOver, lastLine, freshHub, isStuck, isReady}
 use Rattle.hub_spec.specs.State.{Hub}
 
 -- a hub that has counted so many items and reports
 abbrev hubWith : ℕ → ℕ → Hub
-hubWith items reports = record { items = items; reports = reports; scanner = fresh .scanner }
+hubWith items reports = record { items = items; reports = reports; scanner = freshHub .scanner }
 
 -- the scanner after a tick
 abbrev ticked : BeaconScanner → BeaconScanner
@@ -38,12 +38,12 @@ pub record Examples : Type 0 where
   -- ready: counted items, reports among them, octets in the buffer and room for lines, each up to its limit and past it
   pub ready-items : map (λ (items : ℕ). isReady (hubWith items 0) 0 0 0) (0 ∷ 999999 ∷ 1000000 ∷ []) ≡ true ∷ true ∷ false ∷ []
   pub ready-reports : map (λ (reports : ℕ). isReady (hubWith 7 reports) 0 0 0) (0 ∷ 7 ∷ 8 ∷ []) ≡ true ∷ true ∷ false ∷ []
-  pub ready-octets : map (λ (filled : ℕ). isReady fresh filled 12 1000) (0 ∷ 12 ∷ 13 ∷ []) ≡ true ∷ true ∷ false ∷ []
-  pub ready-room : map (λ (space : ℕ). isReady fresh 26 26 space) (0 ∷ 77 ∷ 78 ∷ 79 ∷ []) ≡ false ∷ false ∷ true ∷ true ∷ []
+  pub ready-octets : map (λ (filled : ℕ). isReady freshHub filled 12 1000) (0 ∷ 12 ∷ 13 ∷ []) ≡ true ∷ true ∷ false ∷ []
+  pub ready-room : map (λ (space : ℕ). isReady freshHub 26 26 space) (0 ∷ 77 ∷ 78 ∷ 79 ∷ []) ≡ false ∷ false ∷ true ∷ true ∷ []
   -- "Scanning starts on 37", and a tick moves it on: 37, 38, 39, 37; a packet does not
-  pub first-channel : fresh .scanner .channel ≡ Channel37
-  pub one-tick : ticked (fresh .scanner) .channel ≡ Channel38
-  pub two-ticks : ticked (ticked (fresh .scanner)) .channel ≡ Channel39
-  pub three-ticks : ticked (ticked (ticked (fresh .scanner))) .channel ≡ Channel37
-  pub packets : map (λ (first : ℕ). scannerAfter (fresh .scanner) (first ∷ 0x42 ∷ 0x00 ∷ []) .channel) (0x01 ∷ 0x02 ∷ []) ≡ Channel37 ∷ Channel37 ∷ []
-  pub no-item : scannerAfter (fresh .scanner) [] .channel ≡ Channel37
+  pub first-channel : freshHub .scanner .channel ≡ Channel37
+  pub one-tick : ticked (freshHub .scanner) .channel ≡ Channel38
+  pub two-ticks : ticked (ticked (freshHub .scanner)) .channel ≡ Channel39
+  pub three-ticks : ticked (ticked (ticked (freshHub .scanner))) .channel ≡ Channel37
+  pub packets : map (λ (first : ℕ). scannerAfter (freshHub .scanner) (first ∷ 0x42 ∷ 0x00 ∷ []) .channel) (0x01 ∷ 0x02 ∷ []) ≡ Channel37 ∷ Channel37 ∷ []
+  pub no-item : scannerAfter (freshHub .scanner) [] .channel ≡ Channel37

@@ -4,13 +4,13 @@
 --   isCrcGood first             == a packet that begins so is CRC-good
 --   heardIn s item              == what the scanner s answers to an item
 --   scannerAfter s item         == the scanner after it
---   after h item, printed h item            == the hub after an item, and what it prints for it
+--   afterItem h item, printed h item        == the hub after an item, and what it prints for it
 --   afterAll h its, printedAll h its        == the same of many items
 --   leftOver n                  == the flag of the last line, where n octets are left over
 --   lastLine h n                == the last line, where n octets are left over
---   fresh                       == a hub that has heard nothing
+--   freshHub                    == a hub that has heard nothing
 --   logOf s                     == THE LOG of the input s; specs/Reported says what is in it, in the papers' words
---   itemsFor, linesOf, hubOf, restOf h s    == of octets s that a hub h takes in: the whole items, their lines, the hub after them, what is left over
+--   itemsFor, linesOf, hubOf, octetsLeft h s == of octets s that a hub h takes in: the whole items, their lines, the hub after them, what is left over
 --   isStuck n s                 == after n items, no octets that follow s make an item of it
 --   loggedOf, blockOf h s       == what logging the items of s answers, and what taking in s answers
 --   RunCounts h                 == a run counts so
@@ -34,7 +34,7 @@ use Rattle.beacon_spec.specs.Scanner.{scannerOf, configured, timerUpdated, unre
 use Rattle.beacon_spec.specs.State.{BeaconScanner, Scanned}
 use Rattle.beacon_spec.specs.declared.beacon.Report.the-variants as report
 use Rattle.columns.specs.Column.{column}
-use Rattle.items.specs.Item.{items, behind}
+use Rattle.items.specs.Item.{items, afterItems}
 use Rattle.hub_spec.specs.Line.{reportLine, line, reportsIn, lineSize, lastSize, roomFor}
 use Rattle.hub_spec.specs.State.{Hub, Logged, TakenIn, Block}
 use Rattle.hub_spec.specs.State as taken
@@ -62,8 +62,8 @@ unfoldable pub scannerAfter : BeaconScanner → List ℕ → BeaconScanner
 scannerAfter s [] = s
 scannerAfter s (first ∷ rest) = cond (eqb first 0) (timerUpdated s start .scanner) s
 
-unfoldable pub after : Hub → List ℕ → Hub
-after h item =
+unfoldable pub afterItem : Hub → List ℕ → Hub
+afterItem h item =
     record {
       items = h .items + 1;
       reports = h .reports + reportsIn (heardIn (h .scanner) item);
@@ -76,11 +76,11 @@ printed h item = line (h .items + 1) (heardIn (h .scanner) item)
 
 unfoldable pub afterAll : Hub → List (List ℕ) → Hub
 afterAll h [] = h
-afterAll h (item ∷ its) = afterAll (after h item) its
+afterAll h (item ∷ its) = afterAll (afterItem h item) its
 
 unfoldable pub printedAll : Hub → List (List ℕ) → List ℕ
 printedAll h [] = []
-printedAll h (item ∷ its) = printed h item ++ printedAll (after h item) its
+printedAll h (item ∷ its) = printed h item ++ printedAll (afterItem h item) its
 
 -- 1 where octets are left over
 abbrev pub leftOver : ℕ → ℕ
@@ -90,14 +90,14 @@ unfoldable pub lastLine : Hub → ℕ → List ℕ
 lastLine h n = column 6 (h .items) ++ (column 6 (h .reports) ++ (column 2 (leftOver n) ++ (10 ∷ [])))
 
 -- "All senders pass."
-abbrev pub fresh : Hub
-fresh = record { items = 0; reports = 0; scanner = configured (scannerOf AllowAll) start 0 .scanner }
+abbrev pub freshHub : Hub
+freshHub = record { items = 0; reports = 0; scanner = configured (scannerOf AllowAll) start 0 .scanner }
 
 -- a line for each report among the whole items, of which 999,999 count, and the last line, whose flag says whether octets are left over behind
 -- these items: a broken item, or any octet behind the last that counts
 unfoldable pub logOf : List ℕ → List ℕ
 logOf s =
-    printedAll fresh (items mostItems s) ++ lastLine (afterAll fresh (items mostItems s)) (length (behind (items mostItems s) s))
+    printedAll freshHub (items mostItems s) ++ lastLine (afterAll freshHub (items mostItems s)) (length (afterItems (items mostItems s) s))
 
 -- A part of the input
 abbrev pub itemsFor : Hub → List ℕ → List (List ℕ)
@@ -109,8 +109,8 @@ linesOf h s = printedAll h (itemsFor h s)
 abbrev pub hubOf : Hub → List ℕ → Hub
 hubOf h s = afterAll h (itemsFor h s)
 
-abbrev pub restOf : Hub → List ℕ → List ℕ
-restOf h s = behind (itemsFor h s) s
+abbrev pub octetsLeft : Hub → List ℕ → List ℕ
+octetsLeft h s = afterItems (itemsFor h s) s
 
 unfoldable pub isStuck : ℕ → List ℕ → Bool
 isStuck count [] = false
@@ -124,8 +124,8 @@ blockOf h s =
     record {
       hub = hubOf h s;
       written = length (linesOf h s);
-      kept = length (restOf h s);
-      «is_stopped» = isStuck (hubOf h s .items) (restOf h s);
+      kept = length (octetsLeft h s);
+      «is_stopped» = isStuck (hubOf h s .items) (octetsLeft h s);
     }
 
 -- what a hub counts: at most 999,999 items, and no more reports than items
@@ -138,7 +138,7 @@ isReady h filled size space = leb (h .items) mostItems && (leb (h .reports) (h .
 
 -- the first `filled` octets of `buf` taken in: what is left over at the front of `buf`, and the lines at the front of `out`
 abbrev pub restIn : Hub → List ℕ → ℕ → List ℕ
-restIn h buf filled = atFront (restOf h (take filled buf)) buf
+restIn h buf filled = atFront (octetsLeft h (take filled buf)) buf
 
 abbrev pub linesIn : Hub → List ℕ → List ℕ → List ℕ
 linesIn h s out = atFront (linesOf h s) out

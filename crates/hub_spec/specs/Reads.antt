@@ -10,7 +10,7 @@ use mathlib.Core.List.{List, [], _∷_, _++_, flatten}
 use Prim.Native.Nat.{ℕ, _+_, _<_, _≤_}
 use lib.ListN.{length, take, drop}
 use Rattle.hub_spec.specs.Line.{roomFor}
-use Rattle.hub_spec.specs.Log.{fresh, linesOf, restOf, loggedOf, blockOf, lastLine, logOf, isStuck, RunCounts, takenIn, restAfter, linesAfter}
+use Rattle.hub_spec.specs.Log.{freshHub, linesOf, octetsLeft, loggedOf, blockOf, lastLine, logOf, isStuck, RunCounts, takenIn, restAfter, linesAfter}
 use Rattle.hub_spec.specs.State.{Hub, Block}
 use Rattle.hub_spec.specs.State as taken
 
@@ -22,16 +22,16 @@ writtenFor h kept (read ∷ reads) =
     linesOf h (kept ++ read)
     ++ cond (blockOf h (kept ++ read) .«is_stopped»)
     (lastLine (blockOf h (kept ++ read) .hub) (blockOf h (kept ++ read) .kept))
-    (writtenFor (blockOf h (kept ++ read) .hub) (restOf h (kept ++ read)) reads)
+    (writtenFor (blockOf h (kept ++ read) .hub) (octetsLeft h (kept ++ read)) reads)
 
 -- however an input is cut into reads, the log of the input is written
 abbrev pub AnyReads : Type 0
-AnyReads = (reads : List (List ℕ)) → writtenFor fresh [] reads ≡ logOf (flatten reads)
+AnyReads = (reads : List (List ℕ)) → writtenFor freshHub [] reads ≡ logOf (flatten reads)
 
 -- A run's next block, where `kept` was left over of the octets before and `left` is of all: nothing was read, or `kept` is taken in with what was read.
 pub data Next (h : Hub) (kept : List ℕ) (t : Block) (left : List ℕ) : Type 0 where
   nothing-read : t .hub ≡ h → left ≡ kept → Next h kept t left
-  took : (read : List ℕ) → t ≡ blockOf h (kept ++ read) → left ≡ restOf h (kept ++ read) → Next h kept t left
+  took : (read : List ℕ) → t ≡ blockOf h (kept ++ read) → left ≡ octetsLeft h (kept ++ read) → Next h kept t left
 
 -- the hub counts as a run does, and there are so many octets and room for their lines
 abbrev pub Ready : Hub → List ℕ → ℕ → List ℕ → Type 0
@@ -45,7 +45,7 @@ pub record BlockTaken (h : Hub) (s : List ℕ) : Type 0 where
       → (takenIn h buf filled out ≡ taken.refused) × ((restAfter h buf filled out ≡ buf) × (linesAfter h buf filled out ≡ out))
   -- what is left over stands at the front of the one buffer then, the lines at the front of the other, and the octets behind are kept
   pub left : (buf : List ℕ) (filled : ℕ) (out : List ℕ) → Ready h buf filled out
-      → (take (blockOf h (take filled buf) .kept) (restAfter h buf filled out) ≡ restOf h (take filled buf))
+      → (take (blockOf h (take filled buf) .kept) (restAfter h buf filled out) ≡ octetsLeft h (take filled buf))
       × (drop (blockOf h (take filled buf) .kept) (restAfter h buf filled out) ≡ drop (blockOf h (take filled buf) .kept) buf)
   pub lines : (buf : List ℕ) (filled : ℕ) (out : List ℕ) → Ready h buf filled out
       → (take (blockOf h (take filled buf) .written) (linesAfter h buf filled out) ≡ linesOf h (take filled buf))
@@ -56,6 +56,6 @@ pub record BlockTaken (h : Hub) (s : List ℕ) : Type 0 where
   pub room : blockOf h s .written ≤ roomFor (length s)
   pub kept : blockOf h s .kept ≤ length s
   -- reading stops as soon as nothing that may follow makes an item of what is left over: `Stopping` (specs/Reported) says when that is
-  pub stops : blockOf h s .«is_stopped» ≡ isStuck (blockOf h s .hub .items) (restOf h s)
+  pub stops : blockOf h s .«is_stopped» ≡ isStuck (blockOf h s .hub .items) (octetsLeft h s)
   -- fewer octets than the longest item has, so that a longer buffer always has room for a read
   pub short : blockOf h s .«is_stopped» ≡ false → blockOf h s .kept < 66

@@ -14,7 +14,7 @@ use lib.ListN.{length, replicate}
 use Rattle.advertising.specs.Laws.{nine}
 use Rattle.columns.specs.Text.{lines}
 use Rattle.hub_spec.specs.Line.{roomFor}
-use Rattle.hub_spec.specs.Log.{mostItems, fresh, linesOf, logOf}
+use Rattle.hub_spec.specs.Log.{mostItems, freshHub, linesOf, logOf}
 
 -- 42 09 and its nine octets, CRC-good
 abbrev pub beacon : List ℕ
@@ -123,7 +123,7 @@ pub record Sample : Type 0 where
 
 -- There is just room: the lines of k items of the shortest kind fill it, and up to eight octets more ask for none.
 abbrev pub JustRoom : ℕ → Type 0
-JustRoom k = k ≤ mostItems → (more : ℕ) → more < 9 → length (linesOf fresh (flatten (replicate k shortBeacon))) ≡ roomFor (length (flatten (replicate k shortBeacon)) + more)
+JustRoom k = k ≤ mostItems → (more : ℕ) → more < 9 → length (linesOf freshHub (flatten (replicate k shortBeacon))) ≡ roomFor (length (flatten (replicate k shortBeacon)) + more)
 
 -- "beyond 999,999": so many ticks are all counted; of one more, the last is left over
 pub record Limit (ticks : ℕ) : Type 0 where

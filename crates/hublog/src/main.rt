@@ -14,7 +14,7 @@ ghost use Prim.Native.Nat.{_≤_};
 ghost use lib.ListN.{length, take};
 ghost use Rattle.hub.specs.State.{hubState, blockStep};
 ghost use Rattle.hub_spec.specs.Line.{roomFor};
-ghost use Rattle.hub_spec.specs.Log.{restOf, blockOf, RunCounts};
+ghost use Rattle.hub_spec.specs.Log.{octetsLeft, blockOf, RunCounts};
 ghost use Rattle.hub_spec.specs.Reads.{Next};
 
 // How many octets a buffer holds after a read, or how many of its octets are written after a write.
@@ -111,7 +111,7 @@ fn write_out(s: &[u8]) -> Moved
 // Takes in the first `filled` octets, and writes their lines. What is left over of them stands at the front of `buf` then.
 fn log_read(hub: Hub, buf: &mut [u8], filled: usize, out: &mut [u8]) -> Step
     requires { ⌜ RunCounts (hubState hub) × ((filled ≤ length (now buf)) × (roomFor filled ≤ length (now out))) ⌝ }
-    ensures { λ r. ⌜ (blockStep (r .block) ≡ blockOf (hubState hub) (take filled (now (buf .entry)))) × (take (r .block .kept) (now (buf .exit)) ≡ restOf (hubState hub) (take filled (now (buf .entry)))) ⌝ }
+    ensures { λ r. ⌜ (blockStep (r .block) ≡ blockOf (hubState hub) (take filled (now (buf .entry)))) × (take (r .block .kept) (now (buf .exit)) ≡ octetsLeft (hubState hub) (take filled (now (buf .entry)))) ⌝ }
 {
     match hub.take_in(buf, filled, out) {
         TakenIn::Block(block) => {

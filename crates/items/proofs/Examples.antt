@@ -1,11 +1,11 @@
 -- The worked values, by computation. Assumes nothing.
 use mathlib.Core.Path.{refl}
 use mathlib.Core.List.{flatten}
-use Rattle.items.specs.Item.{sizeOf, wholeSize, items, behind}
+use Rattle.items.specs.Item.{sizeOf, wholeSize, items, afterItems}
 use Rattle.items.specs.Examples.{Examples}
 
 pub examples : Examples
-unfolding sizeOf wholeSize items behind flatten
+unfolding sizeOf wholeSize items afterItems flatten
 examples =
     record {
       first-octet = refl;

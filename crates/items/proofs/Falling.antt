@@ -10,7 +10,7 @@ use lib.ListN.{length, take, drop, length-append, take-append-drop}
 use lib.Seq.{take-append-seam, drop-at, length-take-le}
 use lib.Dec.{ltb, eqb}
 use borrow.Author.Tests.{ne-eqb, le-ltb, eqb-true, eqb-false, ltb-false}
-use Rattle.items.specs.Item.{payloadSize, sizeOf, wholeSize, items, behind, IsItem, tick, packet, AllItems, Falls}
+use Rattle.items.specs.Item.{payloadSize, sizeOf, wholeSize, items, afterItems, IsItem, tick, packet, AllItems, Falls}
 use Rattle.items.proofs.Items.{whole-is, whole-fits, none-whole, one-whole, at-front, item-whole, ends}
 
 -- an item at the front is whole, and as long as it is
@@ -68,7 +68,7 @@ each (suc n) s =
     (λ item. rw (one-whole n s item) (is-item (take (wholeSize s) s) (item-whole s item) (λ e. item (sym (length-take-le (wholeSize s) s (whole-fits s)) ∙ e)), each n (drop (wholeSize s) s)))
     (at-front s)
 
-stops : (n : ℕ) (s : List ℕ) → (length (items n s) ≡ n) ⊎ ((item more : List ℕ) → IsItem item → behind (items n s) s ≡ item ++ more → ⊥)
+stops : (n : ℕ) (s : List ℕ) → (length (items n s) ≡ n) ⊎ ((item more : List ℕ) → IsItem item → afterItems (items n s) s ≡ item ++ more → ⊥)
 stops n s =
     ⊎-elim
     (λ all. inl all)

@@ -10,7 +10,7 @@ use lib.Seq.{getD-drop, getD-take, length-take-le, take-append-le, drop-append-l
 use lib.Dec.{leb, ltb, eqb}
 use borrow.Author.Tests.{le-leb, lt-leb, eq-eqb, ne-eqb, leb-true, leb-false, lt-ltb, le-ltb}
 use Rattle.octets.proofs.Places.{front}
-use Rattle.items.specs.Item.{payloadSize, sizeOf, wholeSize, items, behind, AllWhole, Cut}
+use Rattle.items.specs.Item.{payloadSize, sizeOf, wholeSize, items, afterItems, AllWhole, Cut}
 
 pub whole-is : (s : List ℕ) {n : ℕ} → sizeOf s ≡ n → n ≤ length s → wholeSize s ≡ n
 unfolding wholeSize
@@ -129,8 +129,8 @@ flatten-append [] b = refl
 flatten-append (l ∷ a) b = simp (flatten-append a b, append-assoc)
 
 -- what lies behind the first item and some others
-behind-cons : (s : List ℕ) (size : ℕ) (its : List (List ℕ)) → size ≤ length s → behind (take size s ∷ its) s ≡ behind its (drop size s)
-unfolding behind flatten
+behind-cons : (s : List ℕ) (size : ℕ) (its : List (List ℕ)) → size ≤ length s → afterItems (take size s ∷ its) s ≡ afterItems its (drop size s)
+unfolding afterItems flatten
 behind-cons s size its inside =
     let long : length (take size s ++ flatten its) ≡ size + length (flatten its) = simp (length-append, length-take) (omega arith) in
     rw long (sym (drop-drop (length (flatten its)) size s))
@@ -149,7 +149,7 @@ items-fit (suc n) s =
 
 -- the items of more octets: those at the front, and those of what is behind them with what follows
 abbrev More : ℕ → List ℕ → List ℕ → Type 0
-More n s more = items n (s ++ more) ≡ items n s ++ items (n - length (items n s)) (behind (items n s) s ++ more)
+More n s more = items n (s ++ more) ≡ items n s ++ items (n - length (items n s)) (afterItems (items n s) s ++ more)
 
 more-than-one : (n : ℕ) (s more : List ℕ) → (wholeSize s ≡ 0 → ⊥) → More n (drop (wholeSize s) s) more → More (suc n) s more
 more-than-one n s more item later =
@@ -162,7 +162,7 @@ more-than-one n s more item later =
     front ∙ ap (λ (its : List (List ℕ)). take size s ∷ its) later ∙ sym (rw (one-whole n s item, left, behind-cons s size (items n (drop size s)) inside))
 
 pub items-more : (n : ℕ) (s more : List ℕ) → More n s more
-unfolding items behind flatten
+unfolding items afterItems flatten
 items-more zero s more = refl
 items-more (suc n) s more =
     ⊎-elim
@@ -171,9 +171,9 @@ items-more (suc n) s more =
     (at-front s)
 
 -- what is behind the items of more octets
-pub behind-more : (n : ℕ) (s more : List ℕ) → let rest = behind (items n s) s ++ more in
-    behind (items n (s ++ more)) (s ++ more) ≡ behind (items (n - length (items n s)) rest) rest
-unfolding behind
+pub behind-more : (n : ℕ) (s more : List ℕ) → let rest = afterItems (items n s) s ++ more in
+    afterItems (items n (s ++ more)) (s ++ more) ≡ afterItems (items (n - length (items n s)) rest) rest
+unfolding afterItems
 behind-more n s more =
     let its : List (List ℕ) = items n s in
     let rest : List ℕ = drop (length (flatten its)) s ++ more in
@@ -198,8 +198,8 @@ item-whole s item = go s (wholeSize s) item (sym (whole-inv s item .0)) (whole-f
     go [] (suc n) some is fits = absurd (omega arith)
     go (first ∷ rest) (suc n) some is fits = size-alone first rest is ∙ sym (length-take-le (suc n) (first ∷ rest) fits)
 
-tiles : (n : ℕ) (s : List ℕ) → flatten (items n s) ++ behind (items n s) s ≡ s
-unfolding items behind flatten
+tiles : (n : ℕ) (s : List ℕ) → flatten (items n s) ++ afterItems (items n s) s ≡ s
+unfolding items afterItems flatten
 tiles zero s = refl
 tiles (suc n) s =
     ⊎-elim
@@ -207,11 +207,11 @@ tiles (suc n) s =
     (λ item. one item (tiles n (drop (wholeSize s) s)))
     (at-front s)
   where
-    one : (wholeSize s ≡ 0 → ⊥) → flatten (items n (drop (wholeSize s) s)) ++ behind (items n (drop (wholeSize s) s)) (drop (wholeSize s) s) ≡ drop (wholeSize s) s
-        → flatten (items (suc n) s) ++ behind (items (suc n) s) s ≡ s
+    one : (wholeSize s ≡ 0 → ⊥) → flatten (items n (drop (wholeSize s) s)) ++ afterItems (items n (drop (wholeSize s) s)) (drop (wholeSize s) s) ≡ drop (wholeSize s) s
+        → flatten (items (suc n) s) ++ afterItems (items (suc n) s) s ≡ s
     one item later =
         rw (one-whole n s item, behind-cons s (wholeSize s) (items n (drop (wholeSize s) s)) (whole-fits s))
-        (append-assoc (take (wholeSize s) s) (flatten (items n (drop (wholeSize s) s))) (behind (items n (drop (wholeSize s) s)) (drop (wholeSize s) s))
+        (append-assoc (take (wholeSize s) s) (flatten (items n (drop (wholeSize s) s))) (afterItems (items n (drop (wholeSize s) s)) (drop (wholeSize s) s))
         ∙ ap (λ (l : List ℕ). take (wholeSize s) s ++ l) later
         ∙ take-append-drop (wholeSize s) s)
 
@@ -225,8 +225,8 @@ all-whole (suc n) s =
     (at-front s)
 
 -- no whole item stands behind the items, unless there are n
-pub ends : (n : ℕ) (s : List ℕ) → (length (items n s) ≡ n) ⊎ (wholeSize (behind (items n s) s) ≡ 0)
-unfolding items behind flatten
+pub ends : (n : ℕ) (s : List ℕ) → (length (items n s) ≡ n) ⊎ (wholeSize (afterItems (items n s) s) ≡ 0)
+unfolding items afterItems flatten
 ends zero s = inl refl
 ends (suc n) s =
     ⊎-elim
@@ -245,7 +245,7 @@ not-whole s = go (leb (sizeOf s) (length s)) refl
     go false e is = inr (leb-false (sizeOf s) (length s) e)
 
 pub cut : (n : ℕ) (s : List ℕ) → Cut n s
-cut n s = record { tiles = tiles n s; whole = all-whole n s; ends = go (behind (items n s) s) (ends n s) }
+cut n s = record { tiles = tiles n s; whole = all-whole n s; ends = go (afterItems (items n s) s) (ends n s) }
   where
     go : (rest : List ℕ) → (length (items n s) ≡ n) ⊎ (wholeSize rest ≡ 0)
         → (rest ≡ []) ⊎ ((length (items n s) ≡ n) ⊎ ((sizeOf rest ≡ 0) ⊎ (length rest < sizeOf rest)))

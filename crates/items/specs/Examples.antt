@@ -2,7 +2,7 @@
 use mathlib.Core.Path.{_≡_}
 use mathlib.Core.List.{[], _∷_, map}
 use lib.ListN.{replicate}
-use Rattle.items.specs.Item.{sizeOf, wholeSize, items, behind}
+use Rattle.items.specs.Item.{sizeOf, wholeSize, items, afterItems}
 
 pub record Examples : Type 0 where
   -- a tick, a CRC-good and a CRC-bad packet, and other first octets
@@ -16,5 +16,5 @@ pub record Examples : Type 0 where
   pub whole : map wholeSize ((0x00 ∷ []) ∷ (0x01 ∷ 0x42 ∷ 0x00 ∷ []) ∷ (0x01 ∷ 0x42 ∷ 0x09 ∷ replicate 9 0) ∷ (0x01 ∷ 0x42 ∷ 0x09 ∷ replicate 10 0) ∷ []) ≡ 1 ∷ 3 ∷ 12 ∷ 12 ∷ []
   -- a tick, a packet of no octets, and what is left over: another first octet, or what is beyond n items
   pub until-broken : items 9 (0x00 ∷ 0x02 ∷ 0x00 ∷ 0x00 ∷ 0x03 ∷ 0x00 ∷ []) ≡ (0x00 ∷ []) ∷ (0x02 ∷ 0x00 ∷ 0x00 ∷ []) ∷ []
-  pub left-over : behind ((0x00 ∷ []) ∷ (0x02 ∷ 0x00 ∷ 0x00 ∷ []) ∷ []) (0x00 ∷ 0x02 ∷ 0x00 ∷ 0x00 ∷ 0x03 ∷ 0x00 ∷ []) ≡ 0x03 ∷ 0x00 ∷ []
+  pub left-over : afterItems ((0x00 ∷ []) ∷ (0x02 ∷ 0x00 ∷ 0x00 ∷ []) ∷ []) (0x00 ∷ 0x02 ∷ 0x00 ∷ 0x00 ∷ 0x03 ∷ 0x00 ∷ []) ≡ 0x03 ∷ 0x00 ∷ []
   pub at-most : map (λ n. items n (0x00 ∷ 0x00 ∷ [])) (0 ∷ 1 ∷ 2 ∷ 3 ∷ []) ≡ [] ∷ ((0x00 ∷ []) ∷ []) ∷ ((0x00 ∷ []) ∷ (0x00 ∷ []) ∷ []) ∷ ((0x00 ∷ []) ∷ (0x00 ∷ []) ∷ []) ∷ []

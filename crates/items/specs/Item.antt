@@ -7,7 +7,7 @@
 --   sizeOf s            == how many octets the item has that begins so, 0 where none does
 --   wholeSize s         == the same where s has so many octets, else 0
 --   items n s           == the whole items at the front of s, at most n of them
---   behind its s        == what is left of s behind these items
+--   afterItems its s    == what is left of s behind these items
 --   IsItem item         == an item, in the paper's words; AllItems its: each of these is one
 --   AllWhole its        == each of these is as long as its own octets say
 --   Falls n s, Cut n s  (Falling.falls, Items.cut)  what `items` finds is just that
@@ -34,8 +34,8 @@ unfoldable pub items : ℕ → List ℕ → List (List ℕ)
 items zero s = []
 items (suc n) s = cond (eqb (wholeSize s) 0) [] (take (wholeSize s) s ∷ items n (drop (wholeSize s) s))
 
-unfoldable pub behind : List (List ℕ) → List ℕ → List ℕ
-behind its s = drop (length (flatten its)) s
+unfoldable pub afterItems : List (List ℕ) → List ℕ → List ℕ
+afterItems its s = drop (length (flatten its)) s
 
 -- What that means, in the paper's words. "00 is a tick; 01 (CRC good) or 02 (bad) is followed by header and as many octets as it counts"
 pub data IsItem : List ℕ → Type 0 where
@@ -54,7 +54,7 @@ pub record Falls (n : ℕ) (s : List ℕ) : Type 0 where
   pub size : (item rest : List ℕ) → IsItem item → wholeSize (item ++ rest) ≡ length item
   pub no-size : ((item rest : List ℕ) → IsItem item → s ≡ item ++ rest → ⊥) → wholeSize s ≡ 0
   -- reading ends after n items, or where no item stands
-  pub stops : (length (items n s) ≡ n) ⊎ ((item more : List ℕ) → IsItem item → behind (items n s) s ≡ item ++ more → ⊥)
+  pub stops : (length (items n s) ≡ n) ⊎ ((item more : List ℕ) → IsItem item → afterItems (items n s) s ≡ item ++ more → ⊥)
 
 abbrev pub AllWhole : List (List ℕ) → Type 0
 AllWhole [] = Unit {0}
@@ -62,9 +62,9 @@ AllWhole (item ∷ its) = (sizeOf item ≡ length item) × AllWhole its
 
 pub record Cut (n : ℕ) (s : List ℕ) : Type 0 where
   -- the items and the octets behind them are the input, and each item is whole
-  pub tiles : flatten (items n s) ++ behind (items n s) s ≡ s
+  pub tiles : flatten (items n s) ++ afterItems (items n s) s ≡ s
   pub whole : AllWhole (items n s)
   -- reading ends at the end, at the item behind n, at another first octet, or at an item that is cut short
   pub ends :
-      (behind (items n s) s ≡ [])
-      ⊎ ((length (items n s) ≡ n) ⊎ ((sizeOf (behind (items n s) s) ≡ 0) ⊎ (length (behind (items n s) s) < sizeOf (behind (items n s) s))))
+      (afterItems (items n s) s ≡ [])
+      ⊎ ((length (items n s) ≡ n) ⊎ ((sizeOf (afterItems (items n s) s) ≡ 0) ⊎ (length (afterItems (items n s) s) < sizeOf (afterItems (items n s) s))))

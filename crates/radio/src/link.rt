@@ -3,7 +3,7 @@ ghost use mathlib.Core.Path.{_≡_};
 ghost use Rattle.advertising.specs.PduBuf.{payloadTo, payloadAfter};
 ghost use Rattle.settings.specs.Settings.{Within};
 ghost use mathlib.Core.Bool.{_&&_};
-ghost use Rattle.radio_spec.specs.Calls.{fresh, isAdvertising, isConnected, isScanRequest, refusal, listens, responds, repliesWith, repliedIf, connectsTo, addressed, advertised, sent, isFor, heard, hops, startOf, startAfter, tickOf, tickAfter, packetOf, packetAfter, scanDataOf, eventOf, stopOf, begun};
+ghost use Rattle.radio_spec.specs.Calls.{fresh, isAdvertising, isConnected, isScanRequest, refusal, listens, responds, repliesWith, repliedIf, connectsTo, addressed, advertised, sent, isFor, pduHeard, hops, startOf, startAfter, tickOf, tickAfter, packetOf, packetAfter, scanDataOf, eventOf, stopOf, begun};
 ghost use Rattle.radio.specs.State.{advertisement, state, step};
 use addresses::device_address::DeviceAddress;
 use addresses::header::Header;
@@ -292,7 +292,7 @@ impl Device {
 
     // A CRC-good packet.
     fn hear(self, rx_end: Instant, pdu: Pdu, tx: &mut [u8]) -> Called
-        ensures { λ r. ⌜ (step r ≡ heard (state self) «rx_end» pdu (now (tx .entry))) × (now (tx .exit) ≡ repliedIf (isFor (self .«dev_addr») pdu && isScanRequest (pdu .ty)) (state self) (now (tx .entry))) ⌝ }
+        ensures { λ r. ⌜ (step r ≡ pduHeard (state self) «rx_end» pdu (now (tx .entry))) × (now (tx .exit) ≡ repliedIf (isFor (self .«dev_addr») pdu && isScanRequest (pdu .ty)) (state self) (now (tx .entry))) ⌝ }
     {
         let own = self.dev_addr;
         if is_for(own, pdu) {

@@ -32,7 +32,7 @@ use Rattle.radio_spec.specs.Calls.{instant, isAdvertising, advanced, adv
 use Rattle.radio_spec.specs.Demand.{numberIn, isFirstEvent, isReply, Each, Tick, Ticks, ListeningFrom, RepliesAt, Events}
 use Rattle.radio_spec.specs.Call.{Call, start, tick, packet, event, stop, setScanData, callOf, octetsOf}
 use Rattle.radio_spec.specs.SoFar.{mapIn, hopIn, connects, asksToScanWith, replySize, refusedBy}
-use Rattle.radio_spec.specs.Trace.{Entry, sentOn, eventOn, channelsBy, InRun, ends, inside, outside, gathered, gather, tickRun, eventRun, hearRun, ListensOn, keeps, replies, times}
+use Rattle.radio_spec.specs.Trace.{Entry, tickOn, eventOn, channelsBy, InRun, ends, inside, outside, gathered, gather, tickRun, eventRun, hearRun, ListensOn, keeps, replies, times}
 use Rattle.radio_spec.specs.State.{Advertisement, Connection, State, Step}
 use Rattle.radio_spec.specs.declared.link.Answer.{Answer}
 use Rattle.radio_spec.specs.declared.link.Answer.the-variants.{Sent, Respond, Stopped, ScanDataSet}
@@ -148,8 +148,8 @@ module _ (own : DeviceAddress) (time : Instant) (interval : ℕ) (records : List
       record {
         each = each;
         each-once = λ k fits c.
-            follows-times sentOn (λ k. indexOf (cycles (suc k) firstChannel)) es
-            (each-map (Tick own time interval records) (λ k e. sentOn (e .result .answer) ≡ indexOf (cycles (suc k) firstChannel)) (λ k e t. ap sentOn (t .answer)) 0 es each)
+            follows-times tickOn (λ k. indexOf (cycles (suc k) firstChannel)) es
+            (each-map (Tick own time interval records) (λ k e. tickOn (e .result .answer) ≡ indexOf (cycles (suc k) firstChannel)) (λ k e t. ap tickOn (t .answer)) 0 es each)
             (indexOf c) k 3 fits
             ∙ (count-ext _ _ 3 (λ j below.
             let same : suc k + j ≡ suc (k + j) = omega arith in

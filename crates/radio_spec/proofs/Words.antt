@@ -49,9 +49,9 @@ use Rattle.advertising.specs.declared.pdu_buf.Built.{Built}
 use Rattle.advertising.specs.declared.pdu_buf.PduBuf.{PduBuf}
 use Rattle.settings.specs.declared.ConnectionSettings.{ConnectionSettings}
 use Rattle.settings.specs.declared.Taken.{Taken}
-use Rattle.radio_spec.specs.Calls.{instant, firstEventAt, isAdvertising, isConnected, isScanRequest, refusal, sent, beginning, discoverable, started, startedAfter, isFor, listens, responds, repliedIf, heard, begun, settled, connectsTo, addressed, setTo, hoppedTo, hops, startOf, startAfter, tickOf, tickAfter, packetOf, packetAfter, eventOf, stopOf}
+use Rattle.radio_spec.specs.Calls.{instant, firstEventAt, isAdvertising, isConnected, isScanRequest, refusal, sent, beginning, discoverable, started, startedAfter, isFor, listens, responds, repliedIf, pduHeard, begun, settled, connectsTo, addressed, setTo, hoppedTo, hops, startOf, startAfter, tickOf, tickAfter, packetOf, packetAfter, eventOf, stopOf}
 use Rattle.radio_spec.specs.Demand.{numberIn, replyHeader, replyOctets, ReplyOf}
-use Rattle.radio_spec.specs.Laws.{ForBoard, Scans, Requests, Words, Modes, Refusing, Transmits, BadStart, HearsPacket}
+use Rattle.radio_spec.specs.Laws.{ForBoard, Scans, Requests, Words, Modes, CallRefused, Transmits, BadStart, HearsPacket}
 use Rattle.radio_spec.specs.Call.{Call, start, tick, packet, event, stop, setScanData, callOf}
 use Rattle.radio_spec.specs.SoFar.{isConnectRequest, forBoard, requested, asksToScan, mapIn, hopIn, connects, replySize}
 use Rattle.radio_spec.specs.Trace.{Strikable}
@@ -275,7 +275,7 @@ module _ (d : State) where
   event-refused true (hop.Refused x) is = refl
   event-refused true (hop.To u c) is = no-refusal (hoppedTo d (hop.To u c) .answer) refl is
 
-pub refusing : (d : State) (c : Call) (e : Error) → Refusing d c e
+pub refusing : (d : State) (c : Call) (e : Error) → CallRefused d c e
 unfolding startOf startAfter tickOf tickAfter packetOf packetAfter eventOf hops
 refusing d (start time interval records tx) e =
     let b : Built = discoverable d records in
@@ -402,8 +402,8 @@ module _ (d : State) (end : Instant) (h : Header) (p : List ℕ) (crcGood : Bool
         → packetOf d end h p crcGood tx ≡ addressed d end (decodeOf h p .pdu .lldata) tx ty
     unfolding packetOf
     taken crc ours ty is =
-        ap (λ (m : Mode). cond (isAdvertising m) (cond crcGood (heard d end (decodeOf h p .pdu) tx) (listens d)) (refusal d WrongMode)) on
-        ∙ (ap (λ (b : Bool). cond b (heard d end (decodeOf h p .pdu) tx) (listens d)) crc
+        ap (λ (m : Mode). cond (isAdvertising m) (cond crcGood (pduHeard d end (decodeOf h p .pdu) tx) (listens d)) (refusal d WrongMode)) on
+        ∙ (ap (λ (b : Bool). cond b (pduHeard d end (decodeOf h p .pdu) tx) (listens d)) crc
         ∙ (ap (λ (b : Bool). cond b (addressed d end (decodeOf h p .pdu .lldata) tx (decodeOf h p .pdu .ty)) (listens d)) (for-board-if own h p ours)
         ∙ ap (addressed d end (decodeOf h p .pdu .lldata) tx) is))
 

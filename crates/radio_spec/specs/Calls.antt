@@ -23,7 +23,7 @@
 --   connectsTo d end l             == that of the settings which the request has
 --   isScanRequest ty               == the type is that of a scan request
 --   addressed d end l tx ty        == a packet of type ty that is for this device
---   heard d end pdu tx             == a CRC-good packet
+--   pduHeard d end pdu tx          == a CRC-good packet
 --   packetOf d end h p crc tx      == what a packet answers; packetAfter d h p crc tx: the transmit buffer after it
 --   repliesWith d pdu              == the device with another reply; setTo d pdu o: where the builder took the data
 --   scanDataOf d records           == what setting scan data answers
@@ -195,12 +195,12 @@ addressed d end l tx ScanRsp = listens d
 addressed d end l tx (Unknown n) = listens d
 
 -- "bad, malformed or foreign packets .. keep listening": a malformed one has no second address
-abbrev pub heard : State → Instant → Pdu → List ℕ → Step
-heard d end pdu tx = cond (isFor (d .«dev_addr») pdu) (addressed d end (pdu .lldata) tx (pdu .ty)) (listens d)
+abbrev pub pduHeard : State → Instant → Pdu → List ℕ → Step
+pduHeard d end pdu tx = cond (isFor (d .«dev_addr») pdu) (addressed d end (pdu .lldata) tx (pdu .ty)) (listens d)
 
 unfoldable pub packetOf : State → Instant → Header → List ℕ → Bool → List ℕ → Step
 packetOf d end header payload crcGood tx =
-    cond (isAdvertising (d .mode)) (cond crcGood (heard d end (decodeOf header payload .pdu) tx) (listens d)) (refusal d WrongMode)
+    cond (isAdvertising (d .mode)) (cond crcGood (pduHeard d end (decodeOf header payload .pdu) tx) (listens d)) (refusal d WrongMode)
 
 -- only a good scan request to an advertising device writes
 unfoldable pub packetAfter : State → Header → List ℕ → Bool → List ℕ → List ℕ

@@ -49,7 +49,7 @@ use Rattle.advertising.specs.declared.pdu_buf.PduBuf.{PduBuf}
 use Rattle.radio_spec.specs.Calls.{instant, isAdvertising}
 use Rattle.radio_spec.specs.Call.{Call, start, tick, packet, event, stop, setScanData}
 use Rattle.radio_spec.specs.SoFar.{mapIn, hopIn, connects, asksToScanWith, replySize, modeAfter, scanDataAfter}
-use Rattle.radio_spec.specs.Trace.{Entry, accepted, trace, stateAfter, AtEach, sentOn, eventOn, channelsBy, gather, tickRun, eventRun, hearRun, ListensOn, times, Choice, remaining}
+use Rattle.radio_spec.specs.Trace.{Entry, accepted, trace, stateAfter, AtEach, tickOn, eventOn, channelsBy, gather, tickRun, eventRun, hearRun, ListensOn, times, Choice, remaining}
 use Rattle.radio_spec.specs.declared.link.Answer.{Answer}
 use Rattle.radio_spec.specs.declared.link.Answer.the-variants.{Refused, Sent, Listen, Respond, FirstEvent, NextEvent, Stopped, ScanDataSet}
 
@@ -108,7 +108,7 @@ pub record Tick (own : DeviceAddress) (time : Instant) (interval : ℕ) (records
 -- the accepted ticks of a start: any three successive ones use each channel once
 pub record Ticks (own : DeviceAddress) (time : Instant) (interval : ℕ) (records : List ℕ) (entries : List Entry) : Type 0 where
   pub each : Each (Tick own time interval records) 0 entries
-  pub each-once : (k : ℕ) → k + 3 ≤ length entries → (c : AdvertisingChannel) → times (indexOf c) k 3 (channelsBy sentOn entries) ≡ 1
+  pub each-once : (k : ℕ) → k + 3 ≤ length entries → (c : AdvertisingChannel) → times (indexOf c) k 3 (channelsBy tickOn entries) ≡ 1
 
 -- the events of a connection, for the payload p of its request
 pub record Events (p : List ℕ) (entries : List Entry) : Type 0 where

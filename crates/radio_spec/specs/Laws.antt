@@ -6,7 +6,7 @@
 --   Words own h p                       (Words.words)             what the words of demand 3 mean
 --   Modes m                             (Words.modes)             which mode advertises, and which is connected
 --   lentBy c                            == the octets of a call's lent buffers, as they were lent
---   Refusing d c e                      (Words.refusing)          a refused call changes nothing
+--   CallRefused d c e                   (Words.refusing)          a refused call changes nothing
 --   Transmits d tx                      (Words.transmits)         what an accepted start and tick write
 --   ReplyDecodes own s n                (Replies.reply-decodes)   a reply by the Core: its header by numbers, and what it is read as
 --   Bare own                            (Replies.bare)            a fresh device's reply has no scan data
@@ -104,7 +104,7 @@ lentBy stop = []
 lentBy (setScanData records) = records ∷ []
 
 -- A refused call, of any device, leaves the device and every buffer as they were.
-pub record Refusing (d : State) (c : Call) (e : Error) : Type 0 where
+pub record CallRefused (d : State) (c : Call) (e : Error) : Type 0 where
   pub state : callOf d c .answer ≡ Refused e → callOf d c .state ≡ d
   pub buffers : callOf d c .answer ≡ Refused e → octetsOf d c ≡ lentBy c
 

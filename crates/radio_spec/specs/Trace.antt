@@ -5,7 +5,7 @@
 --   trace own calls           == the calls from a fresh device; traceFrom: from a state
 --   stateAfter own calls      == the state at the end; stateFrom: from a state
 --   AtEach P entries          == P holds at each entry, with the entries that follow it
---   sentOn a, eventOn a       == the channel of a tick's answer, and of an event's; channelsBy: those of entries
+--   tickOn a, eventOn a       == the channel of a tick's answer, and of an event's; channelsBy: those of entries
 --   InRun                     == what an entry is to a run: its end, inside it, or outside
 --   gather run entries        == the entries of a run of ticks, of events or of packets (tickRun, eventRun, hearRun); gathered: one more entry
 --   ListensOn c a             == the answer a keeps listening on channel c, or replies there
@@ -74,15 +74,15 @@ pub data AtEach (P : Entry → List Entry → Type 0) : List Entry → Type 0 wh
 -- Channels used
 
 -- the channel of a tick's answer, and that of an event's; 40, which is no channel, for any other answer
-abbrev pub sentOn : Answer → ℕ
-sentOn (Sent header channel next) = indexOf channel
-sentOn (Refused e) = 40
-sentOn (Listen channel) = 40
-sentOn (Respond header channel) = 40
-sentOn (FirstEvent channel at access crc) = 40
-sentOn (NextEvent channel) = 40
-sentOn Stopped = 40
-sentOn ScanDataSet = 40
+abbrev pub tickOn : Answer → ℕ
+tickOn (Sent header channel next) = indexOf channel
+tickOn (Refused e) = 40
+tickOn (Listen channel) = 40
+tickOn (Respond header channel) = 40
+tickOn (FirstEvent channel at access crc) = 40
+tickOn (NextEvent channel) = 40
+tickOn Stopped = 40
+tickOn ScanDataSet = 40
 
 abbrev pub eventOn : Answer → ℕ
 eventOn (FirstEvent channel at access crc) = channel .index

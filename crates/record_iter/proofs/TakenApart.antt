@@ -97,8 +97,8 @@ module _ {M : Type 1} (𝓤 : URA M) (H : Heap 𝓤) (A : Atoms 𝓤) (W : Given
   Own = B (κ, tt) .own d (mach ∷ [])
 
   -- what f has at entry, and what g asks
-  abbrev pub Entry : SProp 𝓤
-  Entry = ⋆ 𝓤 H A (Token ∷ ‵ (owns (B (κ, tt) ∷ []) (d, tt) (mach ∷ [], tt)) ∷ [])
+  abbrev pub AtEntry : SProp 𝓤
+  AtEntry = ⋆ 𝓤 H A (Token ∷ ‵ (owns (B (κ, tt) ∷ []) (d, tt) (mach ∷ [], tt)) ∷ [])
 
   abbrev pub Asked : SProp 𝓤
   Asked = ⋆ 𝓤 H A (Token ∷ ‵ (owns (ShrSlice (named 0) κ u8 ∷ usize ∷ []) (d .records, (d .at, tt)) passed) ∷ [])
@@ -113,7 +113,7 @@ module _ {M : Type 1} (𝓤 : URA M) (H : Heap 𝓤) (A : Atoms 𝓤) (W : Given
   abbrev vd : Values (D .parts)
   vd = (d .records, (d .at, tt))
 
-  pub apart : d .at < 2 ^ 64 → ent 𝓤 Entry (sep 𝓤 Asked (sem 𝓤 H A Own))
+  pub apart : d .at < 2 ^ 64 → ent 𝓤 AtEntry (sep 𝓤 Asked (sem 𝓤 H A Own))
   apart fits =
       qed W (Token ∷ ‵ (owns (B (κ, tt) ∷ []) (d, tt) (mach ∷ [], tt)) ∷ []) ∵
       move ! (1 ∷ []) $ fsplit ! $ move ! (1 ∷ []) $ drop ! $ use1 W (‵ Own ⊛ ‵ Own) (LL.copy D (T′.the-copy (namedLft 1 0 tt (κ, tt))) 𝓤 H A W .twice d (mach ∷ [])) $ split ! $
@@ -159,9 +159,9 @@ module _ (result : Slot 1) (τ : Ty) (Says : (κs : Lfts 1) → RefT (List ℕ) 
       asked = qed W (Token 𝓤 H A W κ q d ∷ ‵ (owns (ShrSlice (named 0) κ u8 ∷ usize ∷ []) (d .records, (d .at, tt)) (passed 𝓤 H A W κ q d)) ∷ []) ∵ join ! $ frame ! $ done !
 
       module _ (C : Calls 𝓤 H) (Λ : Loops 𝓤 H) (fm : FmC 𝓤 H (W .laws) C) (k : Name) (known : Triple 𝓤 (C k) Callee) where
-        walk : Holds (hasTy (T′.mir (named 0)) (T′.lowered d)) × WT (T′.lowered d) → ent 𝓤 (Entry 𝓤 H A W κ q d) (WpFn 𝓤 H C Λ (taken-apart k τ) (T′.lowered d ∷ []) Post)
+        walk : Holds (hasTy (T′.mir (named 0)) (T′.lowered d)) × WT (T′.lowered d) → ent 𝓤 (AtEntry 𝓤 H A W κ q d) (WpFn 𝓤 H C Λ (taken-apart k τ) (T′.lowered d ∷ []) Post)
         walk wt =
-            qed W (raw (Entry 𝓤 H A W κ q d) ∷ []) ∵ enter ! C Λ (taken-apart k τ) (T′.lowered d ∷ []) _ $
+            qed W (raw (AtEntry 𝓤 H A W κ q d) ∷ []) ∵ enter ! C Λ (taken-apart k τ) (T′.lowered d ∷ []) _ $
             alloc1 ! (λ l₀. alloc1 ! (λ l₁. alloc1 ! (λ l₂. alloc1 ! (λ l₃. alloc0 ! $ params1 ! $ pass1 ! (init ! 4 refl wt) $ pass0 ! $
             assigns ! (of-opd ! (load ! (from ! (fld ! refl (stop !))) (look-in ! 4 (sub ! 0 refl (whole !))))) (from ! (stop !)) (init ! 2 refl (tt, wt .1 .0)) $
             assigns ! (of-opd ! (load ! (from ! (fld ! refl (stop !))) (look-in ! 4 (sub ! 1 refl (whole !))))) (from ! (stop !)) (init ! 0 refl (tt, wt .1 .1 .0)) $

@@ -16,8 +16,8 @@ use Rattle.records_spec.specs.declared.area.Area.the-variants.{Accepted}
 use Rattle.records_spec.specs.Record.{recordRead, first, recordAt}
 use Rattle.records_spec.specs.Area.{cut, records, reads, withFirst, areaOf, readArea}
 use Rattle.records_spec.proofs.Cuts.{Sized, sized, here, at-here, Step, stepped, ended}
-use Rattle.record_iter.specs.Iter.{after}
-use Rattle.record_iter.specs.Laws.{nextOf, restOf, movedBy, answerAt, IsRecord, nextAfter, Through, AreaCounted, GoesThrough, RestPlaced}
+use Rattle.record_iter.specs.Iter.{atNext}
+use Rattle.record_iter.specs.Laws.{nextOf, recordsLeft, movedBy, answerAt, IsRecord, nextAfter, Through, AreaCounted, GoesThrough, RestPlaced}
 use Rattle.record_iter.specs.declared.Records.{Records}
 
 -- ---- the answers of a list of records that read so, and what the area is
@@ -94,9 +94,9 @@ module _ (area : RefT (List ℕ)) where
       go (x ∷ rest) e (suc j) = rw e refl
 
   -- the iterator moved on from a position, by the answer there
-  onward-at : (k at : ℕ) {r : Read} → recordAt s at ≡ r → movedBy (suc k) (iter at) ≡ movedBy k (iter (after at r))
+  onward-at : (k at : ℕ) {r : Read} → recordAt s at ≡ r → movedBy (suc k) (iter at) ≡ movedBy k (iter (atNext at r))
   unfolding movedBy
-  onward-at k at e = ap (λ (x : Read). movedBy k (iter (after at x))) e
+  onward-at k at e = ap (λ (x : Read). movedBy k (iter (atNext at x))) e
 
   in-order : (k at : ℕ) → at ≤ length s → nextOf (movedBy k (iter at)) ≡ answerAt (from at) k
   unfolding movedBy answerAt
@@ -113,16 +113,16 @@ module _ (area : RefT (List ℕ)) where
       go End e w ih = ap nextOf (onward-at k at e) ∙ ih at inside ∙ ap (λ (rs : List Read). answerAt rs k) w ∙ sym (ap (λ (rs : List Read). answerAt rs (suc k)) w)
       go (Read.Refused x) e w ih = ap nextOf (onward-at k at e) ∙ ih at inside ∙ w k ∙ sym (w (suc k))
 
-  left : (k at : ℕ) → at ≤ length s → ((j : ℕ) → j < k → IsRecord (nextOf (movedBy j (iter at)))) → records (restOf (movedBy k (iter at))) ≡ drop k (records (drop at s))
+  left : (k at : ℕ) → at ≤ length s → ((j : ℕ) → j < k → IsRecord (nextOf (movedBy j (iter at)))) → records (recordsLeft (movedBy k (iter at))) ≡ drop k (records (drop at s))
   unfolding movedBy
   left zero at inside found = refl
   left (suc k) at inside found = go (here s at) (at-here s at inside) (answers at (here s at) refl) (left k)
     where
       go : (r : Read) → recordAt s at ≡ r → Answers at r
-          → ((i : ℕ) → i ≤ length s → ((j : ℕ) → j < k → IsRecord (nextOf (movedBy j (iter i)))) → records (restOf (movedBy k (iter i))) ≡ drop k (records (drop i s)))
-          → records (restOf (movedBy (suc k) (iter at))) ≡ drop (suc k) (records (drop at s))
+          → ((i : ℕ) → i ≤ length s → ((j : ℕ) → j < k → IsRecord (nextOf (movedBy j (iter i)))) → records (recordsLeft (movedBy k (iter i))) ≡ drop k (records (drop i s)))
+          → records (recordsLeft (movedBy (suc k) (iter at))) ≡ drop (suc k) (records (drop at s))
       go (Record a next) e w ih =
-          ap (λ (it : Records). records (restOf it)) (onward-at k at e)
+          ap (λ (it : Records). records (recordsLeft it)) (onward-at k at e)
           ∙ ih next (w .1 .inside) (λ j h. subst IsRecord (ap nextOf (onward-at j at e)) (found (suc j) (omega arith)))
           ∙ sym (ap (drop (suc k)) (w .1 .cuts))
       go End e w ih = absurd (subst IsRecord e (found 0 (omega arith)))

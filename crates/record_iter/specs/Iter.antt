@@ -1,5 +1,5 @@
 -- The record iterator: a lent slice and a position in it (document 01: "a struct that holds the lent records").
---   after at r         == the position after what was read at `at`, or `at` where it is no record
+--   atNext at r        == the position after what was read at `at`, or `at` where it is no record
 --   positionAfter s at == the position after the record at `at` of s, or `at` where no record is read
 --   front area         == the iterator at the front of an area
 --   onward it          == the iterator past the record at its position
@@ -14,13 +14,13 @@ use Rattle.records_spec.specs.Record.{recordAt}
 use Rattle.record_iter.specs.declared.Records.{Records}
 
 -- by what was read at `at`
-abbrev pub after : ℕ → Read → ℕ
-after at (Record a next) = next
-after at End = at
-after at (Read.Refused e) = at
+abbrev pub atNext : ℕ → Read → ℕ
+atNext at (Record a next) = next
+atNext at End = at
+atNext at (Read.Refused e) = at
 
 abbrev pub positionAfter : List ℕ → ℕ → ℕ
-positionAfter s at = after at (recordAt s at)
+positionAfter s at = atNext at (recordAt s at)
 
 abbrev pub front : RefT (List ℕ) → Records
 front area = record { records = area; at = 0 }

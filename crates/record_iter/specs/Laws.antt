@@ -1,5 +1,5 @@
 -- Going through the iterator from the front finds exactly the records of the area, in order, as `read_area` counts them.
---   nextOf it, restOf it == what `next` answers, and the octets that `into_rest` hands out
+--   nextOf it, recordsLeft it == what `next` answers, and the octets that `into_rest` hands out
 --   movedBy k it         == the iterator after k moves
 --   answerAt rs k        == answer k of going through records that read as rs: a refusal or the end stays
 --   IsRecord r           == what was read is a record
@@ -31,8 +31,8 @@ use Rattle.record_iter.specs.declared.Records.{Records}
 abbrev pub nextOf : Records → Read
 nextOf it = recordAt (now (it .records)) (it .at)
 
-abbrev pub restOf : Records → List ℕ
-restOf it = drop (it .at) (now (it .records))
+abbrev pub recordsLeft : Records → List ℕ
+recordsLeft it = drop (it .at) (now (it .records))
 
 unfoldable pub movedBy : ℕ → Records → Records
 movedBy zero it = it
@@ -72,7 +72,7 @@ pub record GoesThrough (area : RefT (List ℕ)) : Type 0 where
   pub in-order : (k : ℕ) → nextAfter area k ≡ answerAt (reads (records (now area)) 0) k
   pub counted : AreaCounted area (readArea (now area))
   -- what is left after k records is the records from k on
-  pub left : (k : ℕ) → ((j : ℕ) → j < k → IsRecord (nextAfter area j)) → records (restOf (movedBy k (front area))) ≡ drop k (records (now area))
+  pub left : (k : ℕ) → ((j : ℕ) → j < k → IsRecord (nextAfter area j)) → records (recordsLeft (movedBy k (front area))) ≡ drop k (records (now area))
 
 -- so it is the very part of the area, and no equal octets elsewhere
 pub record RestPlaced (s : RefT (List ℕ)) (at : ℕ) : Type 0 where
@@ -85,7 +85,7 @@ twoRows r = record { ptr = r .ptr; name = r .name; now = 0x02 ∷ 0x01 ∷ 0x86 
 
 pub record Rows (r : RefT (List ℕ)) : Type 0 where
   pub flags : nextAfter (twoRows r) 0 ≡ Record (Flags (record { bits = 0x06 })) 3
-  pub left : restOf (movedBy 1 (front (twoRows r))) ≡ 0x01 ∷ 0x03 ∷ []
+  pub left : recordsLeft (movedBy 1 (front (twoRows r))) ≡ 0x01 ∷ 0x03 ∷ []
   pub list : nextAfter (twoRows r) 1 ≡ Record (ServiceUuids16 true 5 0) 5
   pub end : nextAfter (twoRows r) 2 ≡ End
   pub stays : nextAfter (twoRows r) 3 ≡ End

@@ -23,7 +23,7 @@ use Rattle.records_spec.specs.declared.ad_structure.Read.the-variants.{R
 use Rattle.octets.specs.declared.error.Outcome.the-variants as outcome
 use Rattle.records_spec.specs.Record.{recordOf, flagsRead, wholeUuids, uuidList, uuidsRead, dataRead, upTo, recordRead, first}
 use Rattle.flags.specs.Flags.{named}
-use Rattle.records_spec.specs.Write.{listType, typeOf, startOf, lenOf, checkOf, dataOf, mayWrite, octetsOf}
+use Rattle.records_spec.specs.Write.{listType, recordType, recordStart, recordLen, recordCheck, dataOf, mayWrite, recordOctets}
 use Rattle.records_spec.specs.Area.{clean}
 use Rattle.records_spec.proofs.Lists.{take-length-take}
 use Rattle.records_spec.proofs.Cuts.{here, Step, stepped}
@@ -53,9 +53,9 @@ clean-data-length ty d = go (eqb ty 1)
 
 -- what a structure says that was read from data d of type ty, which lie at `start` of s
 pub record Means (s : List ℕ) (ty : ℕ) (d : List ℕ) (start : ℕ) (a : AdStructure) : Type 0 where
-  pub type : typeOf a ≡ ty
-  pub inside : startOf a + lenOf a ≤ length s
-  pub fine : checkOf a (part (lenOf a) s (startOf a)) ≡ outcome.Accepted
+  pub type : recordType a ≡ ty
+  pub inside : recordStart a + recordLen a ≤ length s
+  pub fine : recordCheck a (part (recordLen a) s (recordStart a)) ≡ outcome.Accepted
   pub octets : dataOf a s ≡ cleanData ty d
 
 abbrev pub Meant : List ℕ → ℕ → List ℕ → ℕ → Parsed → Type 0
@@ -145,10 +145,10 @@ head-tail (x ∷ l) some = refl
 -- so it may be written again where there is space, and its octets are the same
 pub record Again (s out : List ℕ) (at : ℕ) (a : AdStructure) : Type 0 where
   pub may : mayWrite a s out at ≡ outcome.Accepted
-  pub octets : octetsOf a s ≡ clean (first (drop at s))
+  pub octets : recordOctets a s ≡ clean (first (drop at s))
 
 pub written-again : (s out : List ℕ) (at : ℕ) {a : AdStructure} {next : ℕ} → here s at ≡ Record a next → getD s at 0 < 256 → next ≤ length out → Again s out at a
-unfolding here first octetsOf mayWrite recordOf
+unfolding here first recordOctets mayWrite recordOf
 written-again s out at {a} {next} e octet h =
     let step : Step s at next = stepped s at e in
     let inside : at < length s = omega (arith, step .later, step .inside) in
@@ -161,6 +161,6 @@ written-again s out at {a} {next} e octet h =
     let size : suc (length (dataOf a s)) ≡ n = rw (means .octets, clean-data-length (getD body 0 0) (drop 1 body), length-drop) (omega (arith, m .0, m .1)) in
     let ends : at + suc (length body) ≡ next = rw octets-at at (step .ends) in
     record {
-      may = simp (enough (lenOf a) s (startOf a) (means .inside), means .fine, enough (length (dataOf a s) + 2) out at (omega arith), le-ltb 255 (length (dataOf a s) + 1) (omega arith));
+      may = simp (enough (recordLen a) s (recordStart a) (means .inside), means .fine, enough (length (dataOf a s) + 2) out at (omega arith), le-ltb 255 (length (dataOf a s) + 1) (omega arith));
       octets = rw (octets-at, size, means .type, means .octets, ← clean-data) (ap (λ (l : List ℕ). clean (n ∷ l)) (sym (head-tail body (omega (arith, m .0, m .1)))));
     }

@@ -6,7 +6,7 @@ use Rattle.utf8.specs.Utf8.{rowIn, utf8After}
 use Rattle.records_spec.specs.Record.{recordOf, flagsRead, uuidsRead, nameRead, pairRead, dataRead, kindRead, upTo, recordRead, first, recordAt, lentRead, knownRead}
 use Rattle.flags.specs.Flags.{named}
 use Rattle.records_spec.specs.Uuids.{uuid16At}
-use Rattle.records_spec.specs.Write.{dataOf, mayWrite, octetsOf, writtenTo, writtenAfter}
+use Rattle.records_spec.specs.Write.{dataOf, mayWrite, recordOctets, writtenTo, writtenAfter}
 use Rattle.records_spec.specs.Area.{cut, reads, withFirst, areaOf, readArea, clean, rewritten, mayRewrite, rewrittenTo, rewrittenAfter}
 use Rattle.records_spec.specs.Examples.{Codes, Examples}
 
@@ -26,7 +26,7 @@ codes =
     }
 
 pub examples : Examples
-unfolding rowIn utf8After recordOf named flagsRead uuidsRead nameRead pairRead dataRead kindRead upTo recordRead first recordAt lentRead knownRead uuid16At dataOf mayWrite octetsOf writtenTo writtenAfter cut reads withFirst areaOf readArea clean rewritten mayRewrite rewrittenTo rewrittenAfter flatten
+unfolding rowIn utf8After recordOf named flagsRead uuidsRead nameRead pairRead dataRead kindRead upTo recordRead first recordAt lentRead knownRead uuid16At dataOf mayWrite recordOctets writtenTo writtenAfter cut reads withFirst areaOf readArea clean rewritten mayRewrite rewrittenTo rewrittenAfter flatten
 examples =
     record {
       flags = refl;

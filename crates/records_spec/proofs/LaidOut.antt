@@ -11,12 +11,12 @@ use Rattle.octets.proofs.Laws.{parts, written-keeps}
 use Rattle.records_spec.specs.declared.ad_structure.AdStructure.{AdStructure}
 use Rattle.records_spec.specs.Record.{recordOf}
 use Rattle.flags.specs.Flags.{named}
-use Rattle.records_spec.specs.Write.{startOf, lenOf, dataOf, octetsOf}
+use Rattle.records_spec.specs.Write.{recordStart, recordLen, dataOf, recordOctets}
 use Rattle.records_spec.specs.Layout.{incomplete16, complete16, incomplete32, complete32, incomplete128, complete128, shortenedName, completeName, serviceData, companyData, Layout, flags, list, name, number, other, LaidOut}
 use Rattle.records_spec.specs.Order.{dataOctets, Lends}
 
 -- where the lent octets lie, how many octets the data are, and what they are
-pub lies : {a : AdStructure} {ty start len : ℕ} {own : List ℕ} → Layout a ty own start len → (startOf a ≡ start) × (lenOf a ≡ len)
+pub lies : {a : AdStructure} {ty start len : ℕ} {own : List ℕ} → Layout a ty own start len → (recordStart a ≡ start) × (recordLen a ≡ len)
 lies flags = (refl, refl)
 lies (list incomplete16) = (refl, refl)
 lies (list complete16) = (refl, refl)
@@ -44,8 +44,8 @@ counts (number serviceData) = omega arith
 counts (number companyData) = omega arith
 counts other = omega arith
 
-octets-are : {a : AdStructure} {ty start len : ℕ} {own : List ℕ} (s : List ℕ) → Layout a ty own start len → octetsOf a s ≡ suc (length (own ++ part len s start)) ∷ ty ∷ (own ++ part len s start)
-unfolding octetsOf recordOf dataOf named
+octets-are : {a : AdStructure} {ty start len : ℕ} {own : List ℕ} (s : List ℕ) → Layout a ty own start len → recordOctets a s ≡ suc (length (own ++ part len s start)) ∷ ty ∷ (own ++ part len s start)
+unfolding recordOctets recordOf dataOf named
 octets-are s flags = refl
 octets-are s (list incomplete16) = refl
 octets-are s (list complete16) = refl
@@ -82,6 +82,6 @@ laid-out ty own start len s out at inside room =
 
 -- so stands a record that was written
 pub standing : {a : AdStructure} {ty start len : ℕ} {own : List ℕ} (s out : List ℕ) (at : ℕ) → Layout a ty own start len → Lends a s → at + 2 + dataOctets a ≤ length out
-    → LaidOut ty own start len s at (written (octetsOf a s) out at)
+    → LaidOut ty own start len s at (written (recordOctets a s) out at)
 standing {a} {ty} {start} {len} {own} s out at laid lends room =
     rw (octets-are s laid) (laid-out ty own start len s out at (rw (← lies laid .0, ← lies laid .1) lends) (omega (arith, counts laid)))

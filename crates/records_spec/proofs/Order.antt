@@ -19,12 +19,12 @@ use Rattle.records_spec.specs.declared.ad_structure.AdStructure.the-vari
 use Rattle.octets.specs.declared.error.Outcome.{Outcome}
 use Rattle.octets.specs.declared.error.Outcome.the-variants as outcome
 use Rattle.records_spec.specs.Record.{recordOf}
-use Rattle.records_spec.specs.Write.{startOf, lenOf, checkOf, dataOf, mayWrite, octetsOf, writtenTo, writtenAfter}
+use Rattle.records_spec.specs.Write.{recordStart, recordLen, recordCheck, dataOf, mayWrite, recordOctets, writtenTo, writtenAfter}
 use Rattle.records_spec.specs.Order.{IsName, uuidOctets, dataOctets, Lends, lentOctets, Sound, NotWritten, Put, Ordered}
 use Rattle.records_spec.proofs.LaidOut.{lies, standing}
 
 -- the check of each kind
-fine : (a : AdStructure) (s : List ℕ) → Sound a s → checkOf a (lentOctets a s) ≡ outcome.Accepted
+fine : (a : AdStructure) (s : List ℕ) → Sound a s → recordCheck a (lentOctets a s) ≡ outcome.Accepted
 fine (ad.Flags f) s ok = refl
 fine (ad.ServiceUuids16 complete start len) s ok = rw (parts s .as-long len start (ok .lends), ok .list)
 fine (ad.ServiceUuids32 complete start len) s ok = rw (parts s .as-long len start (ok .lends), ok .list)
@@ -35,7 +35,7 @@ fine (ad.ShortenedLocalName start len) s ok = rw (ok .name tt)
 fine (ad.ManufacturerSpecificData company start len) s ok = refl
 fine (ad.Unknown ty start len) s ok = refl
 
-name-refused : (a : AdStructure) (s : List ℕ) → IsName a → isUtf8 (lentOctets a s) ≡ false → checkOf a (lentOctets a s) ≡ outcome.Refused InvalidValue
+name-refused : (a : AdStructure) (s : List ℕ) → IsName a → isUtf8 (lentOctets a s) ≡ false → recordCheck a (lentOctets a s) ≡ outcome.Refused InvalidValue
 name-refused (ad.Flags f) s is bad = absurd is
 name-refused (ad.ServiceUuids16 complete start len) s is bad = absurd is
 name-refused (ad.ServiceUuids32 complete start len) s is bad = absurd is
@@ -46,7 +46,7 @@ name-refused (ad.ShortenedLocalName start len) s is bad = rw bad
 name-refused (ad.ManufacturerSpecificData company start len) s is bad = absurd is
 name-refused (ad.Unknown ty start len) s is bad = absurd is
 
-list-refused : (a : AdStructure) (s : List ℕ) → Lends a s → (lenOf a % uuidOctets a ≡ 0 → ⊥) → checkOf a (lentOctets a s) ≡ outcome.Refused Eof
+list-refused : (a : AdStructure) (s : List ℕ) → Lends a s → (recordLen a % uuidOctets a ≡ 0 → ⊥) → recordCheck a (lentOctets a s) ≡ outcome.Refused Eof
 list-refused (ad.Flags f) s lends odd = absurd (odd refl)
 list-refused (ad.ServiceUuids16 complete start len) s lends odd = rw (parts s .as-long len start lends, ne-eqb (len % 2) 0 odd)
 list-refused (ad.ServiceUuids32 complete start len) s lends odd = rw (parts s .as-long len start lends, ne-eqb (len % 4) 0 odd)
@@ -87,24 +87,24 @@ module _ (a : AdStructure) (s out : List ℕ) (at : ℕ) where
 
     few : length out < at + 2 + dataOctets a → mayWrite a s out at ≡ outcome.Refused Eof
     unfolding mayWrite
-    few h = rw (enough (lenOf a) s (startOf a) (ok .lends), fine a s ok, lt-leb (at + (length (dataOf a s) + 2)) (length out) (omega (arith, long)))
+    few h = rw (enough (recordLen a) s (recordStart a) (ok .lends), fine a s ok, lt-leb (at + (length (dataOf a s) + 2)) (length out) (omega (arith, long)))
 
     over : at + 2 + dataOctets a ≤ length out → 255 < 1 + dataOctets a → mayWrite a s out at ≡ outcome.Refused RecordLength
     unfolding mayWrite
-    over h l = rw (enough (lenOf a) s (startOf a) (ok .lends), fine a s ok, le-leb (at + (length (dataOf a s) + 2)) (length out) (omega (arith, long)), lt-ltb 255 (length (dataOf a s) + 1) (omega (arith, long)))
+    over h l = rw (enough (recordLen a) s (recordStart a) (ok .lends), fine a s ok, le-leb (at + (length (dataOf a s) + 2)) (length out) (omega (arith, long)), lt-ltb 255 (length (dataOf a s) + 1) (omega (arith, long)))
 
     may : at + 2 + dataOctets a ≤ length out → 1 + dataOctets a ≤ 255 → mayWrite a s out at ≡ outcome.Accepted
     unfolding mayWrite
-    may h l = rw (enough (lenOf a) s (startOf a) (ok .lends), fine a s ok, le-leb (at + (length (dataOf a s) + 2)) (length out) (omega (arith, long)), le-ltb 255 (length (dataOf a s) + 1) (omega (arith, long)))
+    may h l = rw (enough (recordLen a) s (recordStart a) (ok .lends), fine a s ok, le-leb (at + (length (dataOf a s) + 2)) (length out) (omega (arith, long)), le-ltb 255 (length (dataOf a s) + 1) (omega (arith, long)))
 
-    octets-long : length (octetsOf a s) ≡ 2 + dataOctets a
-    unfolding octetsOf recordOf
+    octets-long : length (recordOctets a s) ≡ 2 + dataOctets a
+    unfolding recordOctets recordOf
     octets-long = omega (arith, long)
 
     put : at + 2 + dataOctets a ≤ length out → 1 + dataOctets a ≤ 255 → Put a s out at
     unfolding writtenTo writtenAfter
     put h l =
-        let xs = octetsOf a s in
+        let xs = recordOctets a s in
         let keeps = written-keeps xs out at (omega (arith, octets-long)) in
         let ends : at + length xs ≡ at + 2 + dataOctets a = omega (arith, octets-long) in
         let after : writtenAfter a s out at ≡ written xs out at = rw (may h l) in
@@ -121,9 +121,9 @@ unfolding mayWrite
 ordered a s out at =
     record {
       places = lies;
-      not-lent = λ h. not-written a s out at (rw (too-few (lenOf a) s (startOf a) (omega arith)));
-      bad-name = λ lends is bad. not-written a s out at (rw (enough (lenOf a) s (startOf a) lends, name-refused a s is bad));
-      bad-list = λ lends odd. not-written a s out at (rw (enough (lenOf a) s (startOf a) lends, list-refused a s lends odd));
+      not-lent = λ h. not-written a s out at (rw (too-few (recordLen a) s (recordStart a) (omega arith)));
+      bad-name = λ lends is bad. not-written a s out at (rw (enough (recordLen a) s (recordStart a) lends, name-refused a s is bad));
+      bad-list = λ lends odd. not-written a s out at (rw (enough (recordLen a) s (recordStart a) lends, list-refused a s lends odd));
       no-space = λ ok h. not-written a s out at (few a s out at ok h);
       too-long = λ ok h l. not-written a s out at (over a s out at ok h l);
       written = λ ok h l. put a s out at ok h l;

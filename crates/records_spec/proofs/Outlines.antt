@@ -9,16 +9,16 @@ use lib.ListN.{length}
 use borrow.Author.Tests.{eq-eqb}
 use Rattle.octets.proofs.Places.{enough}
 use Rattle.octets.specs.declared.error.Outcome.the-variants as outcome
-use Rattle.records_spec.specs.Write.{startOf, lenOf, dataOf, lentCheck, mayWrite, lentTo, lentAfter, octetsOf, writtenTo, writtenAfter}
+use Rattle.records_spec.specs.Write.{recordStart, recordLen, dataOf, lentCheck, mayWrite, lentTo, lentAfter, recordOctets, writtenTo, writtenAfter}
 use Rattle.records_spec.specs.Order.{lentOctets}
 use Rattle.records_spec.specs.Outlines.{WrittenByOutline, LentOutlines}
 
 pub written-by-outline : WrittenByOutline
-unfolding writtenTo writtenAfter mayWrite lentTo lentAfter octetsOf dataOf
+unfolding writtenTo writtenAfter mayWrite lentTo lentAfter recordOctets dataOf
 written-by-outline a o is =
     record {
-      answers = λ s out at lends. rw (enough (lenOf a) s (startOf a) lends, is .check (lentOctets a s), is .own, is .type);
-      after = λ s out at lends. rw (enough (lenOf a) s (startOf a) lends, is .check (lentOctets a s), is .own, is .type);
+      answers = λ s out at lends. rw (enough (recordLen a) s (recordStart a) lends, is .check (lentOctets a s), is .own, is .type);
+      after = λ s out at lends. rw (enough (recordLen a) s (recordStart a) lends, is .check (lentOctets a s), is .own, is .type);
     }
 
 -- any octets are whole units of one

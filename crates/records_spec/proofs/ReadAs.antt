@@ -22,7 +22,7 @@ use Rattle.records_spec.specs.declared.ad_structure.Read.the-variants.{E
 use Rattle.records_spec.specs.Record.{flagsRead, uuidsRead, nameRead, pairRead, dataRead, kindRead, upTo, recordRead, first, recordAt, lentRead, knownRead}
 use Rattle.flags.specs.Flags.{named}
 use Rattle.records_spec.specs.Layout.{ListKind, incomplete16, complete16, incomplete32, complete32, incomplete128, complete128, NameKind, shortenedName, completeName, NumberKind, serviceData, companyData}
-use Rattle.records_spec.specs.ReadAs.{Whole, ReadAs, OfNoKind, readFurther, ReadOnAs}
+use Rattle.records_spec.specs.ReadAs.{WholeRecord, ReadAs, OfNoKind, readFurther, ReadOnAs}
 
 -- the first octet of a part, and the number that two of them are
 part-first : (n : ℕ) (s : List ℕ) (start : ℕ) → 0 < n → getD (part n s start) 0 0 ≡ getD s start 0
@@ -44,7 +44,7 @@ module _ (s : List ℕ) (at : ℕ) where
   unfolding recordAt
   beyond h = rw (lt-ltb (length s) at h)
 
-  module _ (w : Whole s at) where
+  module _ (w : WholeRecord s at) where
     size : length (part (getD s at 0 - 1) s (at + 2)) ≡ getD s at 0 - 1
     size = parts s .as-long (getD s at 0 - 1) (at + 2) (omega (arith, w .some, w .inside))
 

@@ -25,29 +25,29 @@ use Rattle.records_spec.specs.declared.ad_structure.Parsed.the-variants.
 use Rattle.octets.specs.declared.error.Outcome.{Outcome}
 use Rattle.octets.specs.declared.error.Outcome.the-variants as outcome
 use Rattle.records_spec.specs.Record.{recordOf, flagsRead, wholeUuids, uuidList, uuidsRead, localName, nameRead, pairKind, pairRead, dataRead, kindRead, upTo, recordRead, first, recordAt, lentRead, knownRead}
-use Rattle.records_spec.specs.Write.{typeOf, ownOf, startOf, lenOf, listCheck, nameCheck, checkOf, dataOf, spaceFor, andThen, mayWrite, octetsOf, writtenAfter}
+use Rattle.records_spec.specs.Write.{recordType, recordOwn, recordStart, recordLen, listCheck, nameCheck, recordCheck, dataOf, spaceFor, andThen, mayWrite, recordOctets, writtenAfter}
 use Rattle.records_spec.specs.ReadBack.{movedTo, AsItself, OfKnownType, leftAs, WrittenAndReadBack, NotAsItself}
 use Rattle.records_spec.proofs.Space.{space-fine}
 use Rattle.records_spec.proofs.Again.{named-twice}
 
 -- what was tested of a record that may be written
 record May (a : AdStructure) (s out : List ℕ) (at : ℕ) : Type 0 where
-  placed : startOf a + lenOf a ≤ length s
-  checked : checkOf a (part (lenOf a) s (startOf a)) ≡ outcome.Accepted
+  placed : recordStart a + recordLen a ≤ length s
+  checked : recordCheck a (part (recordLen a) s (recordStart a)) ≡ outcome.Accepted
   space : at + (length (dataOf a s) + 2) ≤ length out
 
 may : (a : AdStructure) (s out : List ℕ) (at : ℕ) → mayWrite a s out at ≡ outcome.Accepted → May a s out at
 unfolding mayWrite
-may a s out at = go (has (lenOf a) s (startOf a)) refl
+may a s out at = go (has (recordLen a) s (recordStart a)) refl
   where
     check : Outcome
-    check = checkOf a (part (lenOf a) s (startOf a))
+    check = recordCheck a (part (recordLen a) s (recordStart a))
 
-    go : (there : Bool) → has (lenOf a) s (startOf a) ≡ there → cond there (andThen check (spaceFor (dataOf a s) out at)) (outcome.Refused Eof) ≡ outcome.Accepted → May a s out at
+    go : (there : Bool) → has (recordLen a) s (recordStart a) ≡ there → cond there (andThen check (spaceFor (dataOf a s) out at)) (outcome.Refused Eof) ≡ outcome.Accepted → May a s out at
     go false t e = absurd (let z : _≡_ {A = ℕ} 0 1 = cc in omega arith)
     go true t e =
         let fits = space-fine check (length (dataOf a s)) (length out) at e in
-        record { placed = leb-true (startOf a + lenOf a) (length s) t; checked = fits .0; space = fits .1 }
+        record { placed = leb-true (recordStart a + recordLen a) (length s) t; checked = fits .0; space = fits .1 }
 
 -- what begins at the position of a record that was written, and what begins at its data
 module _ (ty : ℕ) (d out : List ℕ) (at : ℕ) (space : at + (length d + 2) ≤ length out) where
@@ -85,7 +85,7 @@ name-back : (complete : Bool) (len from : ℕ) (s : List ℕ) (start : ℕ) → 
 unfolding nameRead
 name-back complete len from s start placed fine = rw (whole-fine (isUtf8 (part len s from)) InvalidValue fine, parts s .as-long len from placed)
 
-read-itself : (a : AdStructure) (s out : List ℕ) (at start : ℕ) → May a s out at → AsItself a → dataRead (typeOf a) (dataOf a s) start ≡ Structure (movedTo start a)
+read-itself : (a : AdStructure) (s out : List ℕ) (at start : ℕ) → May a s out at → AsItself a → dataRead (recordType a) (dataOf a s) start ≡ Structure (movedTo start a)
 unfolding dataRead dataOf flagsRead
 read-itself (ad.Flags f) s out at start m is = ap (λ (x : ℕ). Structure (ad.Flags (record { bits = x }))) (named-twice (f .bits))
 read-itself (ad.ServiceUuids16 true from len) s out at start m is = uuids-back Uuid16 true len from s start (m .placed) (m .checked)
@@ -98,7 +98,7 @@ read-itself (ad.ShortenedLocalName from len) s out at start m is = absurd is
 read-itself (ad.ManufacturerSpecificData company from len) s out at start m is = absurd is
 read-itself (ad.Unknown ty from len) s out at start m is = rw (ne-eqb ty 1 (is .0), ne-eqb ty 2 (is .1), ne-eqb ty 3 (is .2), parts s .as-long len from (m .placed))
 
-left : (a : AdStructure) (s : List ℕ) (start : ℕ) → OfKnownType a → dataRead (typeOf a) (dataOf a s) start ≡ Structure (leftAs a s start)
+left : (a : AdStructure) (s : List ℕ) (start : ℕ) → OfKnownType a → dataRead (recordType a) (dataOf a s) start ≡ Structure (leftAs a s start)
 unfolding dataRead
 left (ad.Flags f) s start is = absurd is
 left (ad.ServiceUuids16 complete from len) s start is = absurd is
@@ -120,7 +120,7 @@ pair-back kind v d start small =
     rw (le-ltb (suc (suc (length d))) 2 (omega arith), size, field 2 .number-back v small)
 
 known-itself : (a : AdStructure) (s out : List ℕ) (at start : ℕ) → May a s out at → OfKnownType a
-    → kindRead (typeOf a) (dataOf a s) start ≡ Structure (movedTo (start + length (ownOf a)) a)
+    → kindRead (recordType a) (dataOf a s) start ≡ Structure (movedTo (start + length (recordOwn a)) a)
 unfolding kindRead dataOf
 known-itself (ad.Flags f) s out at start m is = absurd is
 known-itself (ad.ServiceUuids16 complete from len) s out at start m is = absurd is
@@ -135,14 +135,14 @@ known-itself (ad.ManufacturerSpecificData company from len) s out at start m is 
 known-itself (ad.Unknown ty from len) s out at start m is = absurd is
 
 pub written-and-read-back : WrittenAndReadBack
-unfolding writtenAfter octetsOf knownRead lentRead upTo
+unfolding writtenAfter recordOctets knownRead lentRead upTo
 written-and-read-back a s out at fine =
     let m = may a s out at fine in
     let d = dataOf a s in
-    let o = written (recordOf (typeOf a) d) out at in
-    let reads = read-written (typeOf a) d out at (m .space) in
-    let there = data-there (typeOf a) d out at (m .space) in
-    let size : at + 2 + length d ≤ length o = omega (arith, long (typeOf a) d out at (m .space), m .space) in
+    let o = written (recordOf (recordType a) d) out at in
+    let reads = read-written (recordType a) d out at (m .space) in
+    let there = data-there (recordType a) d out at (m .space) in
+    let size : at + 2 + length d ≤ length o = omega (arith, long (recordType a) d out at (m .space), m .space) in
     record {
       reads = rw fine reads;
       there = rw fine there;
@@ -151,5 +151,5 @@ written-and-read-back a s out at fine =
     }
 
 pub not-as-itself : NotAsItself
-unfolding writtenAfter octetsOf mayWrite dataOf recordOf recordAt recordRead first dataRead flagsRead upTo
+unfolding writtenAfter recordOctets mayWrite dataOf recordOf recordAt recordRead first dataRead flagsRead upTo
 not-as-itself = record { writes = refl; refuses = refl }

@@ -23,7 +23,7 @@ use Rattle.records_spec.specs.declared.ad_structure.Parsed.{Parsed}
 use Rattle.records_spec.specs.declared.ad_structure.Parsed.the-variants.{Structure}
 use Rattle.octets.specs.declared.error.Outcome.the-variants as outcome
 use Rattle.records_spec.specs.Record.{recordOf, uuidsRead, localName, nameRead, pairKind, pairRead, dataRead, kindRead, lentRead, knownRead}
-use Rattle.records_spec.specs.Write.{startOf, lenOf, dataOf, mayWrite, octetsOf, writtenTo, writtenAfter}
+use Rattle.records_spec.specs.Write.{recordStart, recordLen, dataOf, mayWrite, recordOctets, writtenTo, writtenAfter}
 use Rattle.records_spec.specs.Area.{clean}
 use Rattle.records_spec.specs.RoundTrip.{ReadOnAgain, ReadOnAndRewritten}
 use Rattle.records_spec.proofs.Again.{clean-data, clean-data-length, Means, Meant, lent, uuids-meant, meant}
@@ -85,20 +85,20 @@ module _ (s : List ℕ) (ty start len : ℕ) (b : AdStructure) (inside : start +
   may : (out : List ℕ) (at : ℕ) → at + 2 + len ≤ length out → len < 255 → mayWrite b s out at ≡ outcome.Accepted
   unfolding mayWrite
   may out at room short =
-      simp (enough (lenOf b) s (startOf b) (m .inside), m .fine, enough (length (dataOf b s) + 2) out at (omega (arith, size)), le-ltb 255 (length (dataOf b s) + 1) (omega (arith, size)))
+      simp (enough (recordLen b) s (recordStart b) (m .inside), m .fine, enough (length (dataOf b s) + 2) out at (omega (arith, size)), le-ltb 255 (length (dataOf b s) + 1) (omega (arith, size)))
 
-  octets-are : octetsOf b s ≡ clean (recordOf ty (part len s start))
-  unfolding octetsOf recordOf
+  octets-are : recordOctets b s ≡ clean (recordOf ty (part len s start))
+  unfolding recordOctets recordOf
   octets-are = rw (clean-data, m .type, m .octets, clean-data-length ty (part len s start))
 
-  octets-long : length (octetsOf b s) ≡ 2 + len
-  unfolding octetsOf recordOf
+  octets-long : length (recordOctets b s) ≡ 2 + len
+  unfolding recordOctets recordOf
   octets-long = omega (arith, size)
 
   written-so : (out : List ℕ) (at : ℕ) → at + 2 + len ≤ length out → len < 255 → ReadOnAgain ty start len s out at b
   unfolding writtenTo writtenAfter
   written-so out at room short =
-      let ends : at + length (octetsOf b s) ≡ at + 2 + len = omega (arith, octets-long) in
+      let ends : at + length (recordOctets b s) ≡ at + 2 + len = omega (arith, octets-long) in
       record { answers = rw (may out at room short, ends); writes = rw (may out at room short, octets-are) }
 
 again : (s : List ℕ) → Octets s → (ty start len : ℕ) (b : AdStructure) → knownRead (ad.Unknown ty start len) s ≡ Structure b → (out : List ℕ) (at : ℕ) → at + 2 + len ≤ length out → len < 255

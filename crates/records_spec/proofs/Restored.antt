@@ -27,13 +27,13 @@ abbrev pub next : List ℕ → ℕ → ℕ
 next s p = p + 1 + getD s p 0
 
 -- where an accepted area goes on, there is a good record, and the area goes on after it
-pub record Whole (s : List ℕ) (p : ℕ) : Type 0 where
+pub record WholeTo (s : List ℕ) (p : ℕ) : Type 0 where
   pub good : Good (getD s p 0) (take (getD s p 0) (drop (p + 1) s))
   pub step : Step s p (next s p)
   pub read : ReadAt s p
   pub onward : AcceptedFrom s (next s p)
 
-pub whole-at : (s : List ℕ) (p : ℕ) → AcceptedFrom s p → p < length s → Whole s p
+pub whole-at : (s : List ℕ) (p : ℕ) → AcceptedFrom s p → p < length s → WholeTo s p
 unfolding here first counting
 whole-at s p from inside = go (here s p) refl
   where
@@ -43,7 +43,7 @@ whole-at s p from inside = go (here s p) refl
     octets : first (drop p s) ≡ n ∷ take n (drop (p + 1) s)
     octets = rw (front s p inside)
 
-    go : (r : Read) → here s p ≡ r → Whole s p
+    go : (r : Read) → here s p ≡ r → WholeTo s p
     go (Record a q) e =
         let good : Good n (take n (drop (p + 1) s)) = subst (Class n (drop (p + 1) s)) (ap (λ (l : List ℕ). recordRead l p) (sym octets) ∙ e) (class n (drop (p + 1) s) p) in
         let step : Step s p q = stepped s p e in
@@ -59,7 +59,7 @@ whole-at s p from inside = go (here s p) refl
 -- where a record begins, the octets after are those that rewriting from there on writes
 record Placed (s : List ℕ) (p : ℕ) : Type 0 where
   inside : p < length s
-  whole : Whole s p
+  whole : WholeTo s p
   rest : drop p (rewritten s) ≡ rewritten (drop p s)
 
 placed : (s : List ℕ) (p : ℕ) → AcceptedFrom s 0 → Begins s p → Placed s p

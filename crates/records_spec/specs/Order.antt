@@ -22,7 +22,7 @@ use Rattle.utf8.specs.Utf8.{isUtf8}
 use Rattle.records_spec.specs.declared.ad_structure.AdStructure.{AdStructure}
 use Rattle.records_spec.specs.declared.ad_structure.AdStructure.the-variants.{Flags, ServiceUuids16, ServiceUuids32, ServiceUuids128, ServiceData16, CompleteLocalName, ShortenedLocalName, ManufacturerSpecificData, Unknown}
 use Rattle.records_spec.specs.Layout.{Layout, LaidOut}
-use Rattle.records_spec.specs.Write.{startOf, lenOf, writtenTo, writtenAfter}
+use Rattle.records_spec.specs.Write.{recordStart, recordLen, writtenTo, writtenAfter}
 
 abbrev pub IsName : AdStructure → Type 0
 IsName (Flags f) = ⊥
@@ -58,15 +58,15 @@ dataOctets (ManufacturerSpecificData company start len) = 2 + len
 dataOctets (Unknown ty start len) = len
 
 abbrev pub Lends : AdStructure → List ℕ → Type 0
-Lends a s = startOf a + lenOf a ≤ length s
+Lends a s = recordStart a + recordLen a ≤ length s
 
 abbrev pub lentOctets : AdStructure → List ℕ → List ℕ
-lentOctets a s = part (lenOf a) s (startOf a)
+lentOctets a s = part (recordLen a) s (recordStart a)
 
 pub record Sound (a : AdStructure) (s : List ℕ) : Type 0 where
   pub lends : Lends a s
   pub name : IsName a → isUtf8 (lentOctets a s) ≡ true
-  pub list : lenOf a % uuidOctets a ≡ 0
+  pub list : recordLen a % uuidOctets a ≡ 0
 
 pub record NotWritten (a : AdStructure) (s out : List ℕ) (at : ℕ) (e : Error) : Type 0 where
   pub answers : writtenTo a s out at ≡ Written.Refused e
@@ -82,11 +82,11 @@ pub record Put (a : AdStructure) (s out : List ℕ) (at : ℕ) : Type 0 where
 
 pub record Ordered (a : AdStructure) (s out : List ℕ) (at : ℕ) : Type 0 where
   -- the lent data lie where the record says
-  pub places : {ty start len : ℕ} {own : List ℕ} → Layout a ty own start len → (startOf a ≡ start) × (lenOf a ≡ len)
+  pub places : {ty start len : ℕ} {own : List ℕ} → Layout a ty own start len → (recordStart a ≡ start) × (recordLen a ≡ len)
   pub not-lent : (Lends a s → ⊥) → NotWritten a s out at Eof
   -- whatever the space and the length
   pub bad-name : Lends a s → IsName a → isUtf8 (lentOctets a s) ≡ false → NotWritten a s out at InvalidValue
-  pub bad-list : Lends a s → (lenOf a % uuidOctets a ≡ 0 → ⊥) → NotWritten a s out at Eof
+  pub bad-list : Lends a s → (recordLen a % uuidOctets a ≡ 0 → ⊥) → NotWritten a s out at Eof
   -- whatever the length
   pub no-space : Sound a s → length out < at + 2 + dataOctets a → NotWritten a s out at Eof
   -- the length octet counts the type too

@@ -1,7 +1,7 @@
 -- What a record is read as, by its octets and wherever it stands, in document 01's words: "Flags (type `01`, undefined bits .. cleared), 16-bit lists (`02`
 -- incomplete, `03` complete), otherwise type and data"; "zero length 2, too few octets 1, wrong Flags 2, odd list data 1". And what `read_known` reads type and
 -- data on to.
---   Whole s at                 == the record at position `at` of s has a type, and all the octets that its length octet counts
+--   WholeRecord s at           == the record at position `at` of s has a type, and all the octets that its length octet counts
 --   ReadAs s at                (ReadAs.read-as)     what reading at position `at` of s finds
 --   OfNoKind ty                == no kind has the type ty
 --   readFurther s ty start len == what `read_known` answers for data of type ty that take `len` octets at `start` of s
@@ -24,7 +24,7 @@ use Rattle.records_spec.specs.declared.ad_structure.Read.the-variants.{R
 use Rattle.records_spec.specs.Record.{recordAt, knownRead}
 use Rattle.records_spec.specs.Layout.{ListKind, NameKind, NumberKind}
 
-pub record Whole (s : List ℕ) (at : ℕ) : Type 0 where
+pub record WholeRecord (s : List ℕ) (at : ℕ) : Type 0 where
   pub some : 0 < getD s at 0
   pub inside : at + 1 + getD s at 0 ≤ length s
 
@@ -34,13 +34,13 @@ pub record ReadAs (s : List ℕ) (at : ℕ) : Type 0 where
   pub zero-length : at < length s → getD s at 0 ≡ 0 → recordAt s at ≡ Read.Refused InvalidLength
   pub too-few : at < length s → 0 < getD s at 0 → length s < at + 1 + getD s at 0 → recordAt s at ≡ Read.Refused Eof
   -- by the type octet
-  pub flags : Whole s at → getD s (at + 1) 0 ≡ 0x01 → getD s at 0 ≡ 2 → recordAt s at ≡ Record (Flags (record { bits = getD s (at + 2) 0 % 32 })) (at + 3)
-  pub wrong-flags : Whole s at → getD s (at + 1) 0 ≡ 0x01 → (getD s at 0 ≡ 2 → ⊥) → recordAt s at ≡ Read.Refused InvalidLength
-  pub incomplete : Whole s at → getD s (at + 1) 0 ≡ 0x02 → getD s at 0 % 2 ≡ 1 → recordAt s at ≡ Record (ServiceUuids16 false (at + 2) (getD s at 0 - 1)) (at + 1 + getD s at 0)
-  pub complete : Whole s at → getD s (at + 1) 0 ≡ 0x03 → getD s at 0 % 2 ≡ 1 → recordAt s at ≡ Record (ServiceUuids16 true (at + 2) (getD s at 0 - 1)) (at + 1 + getD s at 0)
-  pub odd-incomplete : Whole s at → getD s (at + 1) 0 ≡ 0x02 → getD s at 0 % 2 ≡ 0 → recordAt s at ≡ Read.Refused Eof
-  pub odd-complete : Whole s at → getD s (at + 1) 0 ≡ 0x03 → getD s at 0 % 2 ≡ 0 → recordAt s at ≡ Read.Refused Eof
-  pub other : Whole s at → (getD s (at + 1) 0 ≡ 0x01 → ⊥) → (getD s (at + 1) 0 ≡ 0x02 → ⊥) → (getD s (at + 1) 0 ≡ 0x03 → ⊥)
+  pub flags : WholeRecord s at → getD s (at + 1) 0 ≡ 0x01 → getD s at 0 ≡ 2 → recordAt s at ≡ Record (Flags (record { bits = getD s (at + 2) 0 % 32 })) (at + 3)
+  pub wrong-flags : WholeRecord s at → getD s (at + 1) 0 ≡ 0x01 → (getD s at 0 ≡ 2 → ⊥) → recordAt s at ≡ Read.Refused InvalidLength
+  pub incomplete : WholeRecord s at → getD s (at + 1) 0 ≡ 0x02 → getD s at 0 % 2 ≡ 1 → recordAt s at ≡ Record (ServiceUuids16 false (at + 2) (getD s at 0 - 1)) (at + 1 + getD s at 0)
+  pub complete : WholeRecord s at → getD s (at + 1) 0 ≡ 0x03 → getD s at 0 % 2 ≡ 1 → recordAt s at ≡ Record (ServiceUuids16 true (at + 2) (getD s at 0 - 1)) (at + 1 + getD s at 0)
+  pub odd-incomplete : WholeRecord s at → getD s (at + 1) 0 ≡ 0x02 → getD s at 0 % 2 ≡ 0 → recordAt s at ≡ Read.Refused Eof
+  pub odd-complete : WholeRecord s at → getD s (at + 1) 0 ≡ 0x03 → getD s at 0 % 2 ≡ 0 → recordAt s at ≡ Read.Refused Eof
+  pub other : WholeRecord s at → (getD s (at + 1) 0 ≡ 0x01 → ⊥) → (getD s (at + 1) 0 ≡ 0x02 → ⊥) → (getD s (at + 1) 0 ≡ 0x03 → ⊥)
       → recordAt s at ≡ Record (Unknown (getD s (at + 1) 0) (at + 2) (getD s at 0 - 1)) (at + 1 + getD s at 0)
 
 -- a type that no kind has

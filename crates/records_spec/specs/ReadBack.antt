@@ -20,7 +20,7 @@ use Rattle.records_spec.specs.declared.ad_structure.Read.the-variants.{R
 use Rattle.octets.specs.declared.error.Outcome.the-variants as outcome
 use Rattle.records_spec.specs.Record.{dataRead, upTo, recordAt, knownRead}
 use Rattle.flags.specs.Flags.{named}
-use Rattle.records_spec.specs.Write.{typeOf, ownOf, dataOf, mayWrite, octetsOf, writtenAfter}
+use Rattle.records_spec.specs.Write.{recordType, recordOwn, dataOf, mayWrite, recordOctets, writtenAfter}
 use Rattle.records_spec.specs.Types.{flagsType, incomplete16Type, complete16Type}
 
 abbrev pub movedTo : ℕ → AdStructure → AdStructure
@@ -58,19 +58,19 @@ OfKnownType (Unknown ty start len) = ⊥
 
 -- what is read of type and data that were written, the type not being that of Flags or of a list of 16-bit UUIDs
 abbrev pub leftAs : AdStructure → List ℕ → ℕ → AdStructure
-leftAs a s start = Unknown (typeOf a) start (length (dataOf a s))
+leftAs a s start = Unknown (recordType a) start (length (dataOf a s))
 
 pub record FoundAgain (a : AdStructure) (s out : List ℕ) (at : ℕ) : Type 0 where
   -- its type and data are read as those of any record; the position after it is the one that writing answered
-  pub reads : recordAt (writtenAfter a s out at) at ≡ upTo (at + length (octetsOf a s)) (dataRead (typeOf a) (dataOf a s) (at + 2))
+  pub reads : recordAt (writtenAfter a s out at) at ≡ upTo (at + length (recordOctets a s)) (dataRead (recordType a) (dataOf a s) (at + 2))
   -- its data stand after its type
   pub there : part (length (dataOf a s)) (writtenAfter a s out at) (at + 2) ≡ dataOf a s
   -- it is read as itself
-  pub itself : AsItself a → recordAt (writtenAfter a s out at) at ≡ Record (movedTo (at + 2) a) (at + length (octetsOf a s))
+  pub itself : AsItself a → recordAt (writtenAfter a s out at) at ≡ Record (movedTo (at + 2) a) (at + length (recordOctets a s))
   -- it is left as type and data, and read on as itself
   pub known : OfKnownType a
-      → (recordAt (writtenAfter a s out at) at ≡ Record (leftAs a s (at + 2)) (at + length (octetsOf a s)))
-      × (knownRead (leftAs a s (at + 2)) (writtenAfter a s out at) ≡ Structure (movedTo (at + 2 + length (ownOf a)) a))
+      → (recordAt (writtenAfter a s out at) at ≡ Record (leftAs a s (at + 2)) (at + length (recordOctets a s)))
+      × (knownRead (leftAs a s (at + 2)) (writtenAfter a s out at) ≡ Structure (movedTo (at + 2 + length (recordOwn a)) a))
 
 abbrev pub WrittenAndReadBack : Type 0
 WrittenAndReadBack = (a : AdStructure) (s out : List ℕ) (at : ℕ) → mayWrite a s out at ≡ outcome.Accepted → FoundAgain a s out at

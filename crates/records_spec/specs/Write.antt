@@ -4,7 +4,7 @@
 --   Shape                              == a row of the table of kinds: the type octet, octets of its own, where the lent part lies, and what that must be
 --   shape type own start len check     == the row of these
 --   shapeOf a                          == the row of the record a
---   typeOf a, ownOf a, startOf a, lenOf a, checkOf a d == what that row says
+--   recordType a, recordOwn a, recordStart a, recordLen a, recordCheck a d == what that row says
 --   Outline                            == what the code writes by: the type octet, a number of its own, where the lent part lies, and what that must be
 --   lentOutline ty start len name unit == the outline of a record that has no octets of its own
 --   ownIn o                            == the octets of its own that an outline writes
@@ -17,7 +17,7 @@
 --   mayWrite a s out at                == whether the record a may be written, whose lent part lies in s
 --   checkedTo o xs at, checkedAfter o xs out at == what a write of xs that passed its checks, or did not, answers and leaves
 --   lentTo o d out at, lentAfter o d out at == what writing by the outline o, with the lent part d, answers and leaves
---   octetsOf a s                       == the octets of the record a, whose lent part lies in s
+--   recordOctets a s                   == the octets of the record a, whose lent part lies in s
 --   writtenTo a s out at, writtenAfter a s out at == what writing it answers and leaves
 use mathlib.Core.Path.{_≡_}
 use Prim.Native.Nat.{ℕ, _+_, _%_, _<_}
@@ -76,20 +76,20 @@ shapeOf (ShortenedLocalName start len) = shape shortenedNameType [] start len na
 shapeOf (ManufacturerSpecificData company start len) = shape manufacturerType (leBytes 2 (company .0)) start len noCheck
 shapeOf (Unknown ty start len) = shape ty [] start len noCheck
 
-abbrev pub typeOf : AdStructure → ℕ
-typeOf a = shapeOf a .type
+abbrev pub recordType : AdStructure → ℕ
+recordType a = shapeOf a .type
 
-abbrev pub ownOf : AdStructure → List ℕ
-ownOf a = shapeOf a .own
+abbrev pub recordOwn : AdStructure → List ℕ
+recordOwn a = shapeOf a .own
 
-abbrev pub startOf : AdStructure → ℕ
-startOf a = shapeOf a .start
+abbrev pub recordStart : AdStructure → ℕ
+recordStart a = shapeOf a .start
 
-abbrev pub lenOf : AdStructure → ℕ
-lenOf a = shapeOf a .len
+abbrev pub recordLen : AdStructure → ℕ
+recordLen a = shapeOf a .len
 
-abbrev pub checkOf : AdStructure → List ℕ → Outcome
-checkOf a d = shapeOf a .check d
+abbrev pub recordCheck : AdStructure → List ℕ → Outcome
+recordCheck a d = shapeOf a .check d
 
 -- What is written of a record: the type octet; what the record holds itself, least significant octet first, and how many octets of that are written; where its
 -- lent data lie; whether these must be UTF-8, or whole units of so many octets. The `Outline` of records is read as this.
@@ -115,16 +115,16 @@ lentCheck name unit d = cond name (nameCheck d) (cond (eqb (length d % unit) 0) 
 
 -- an outline says what the row says
 pub record IsOutline (a : AdStructure) (o : Outline) : Type 0 where
-  pub type : o .ty ≡ typeOf a
-  pub own : ownIn o ≡ ownOf a
-  pub many : o .held ≡ length (ownOf a)
-  pub start : o .start ≡ startOf a
-  pub len : o .len ≡ lenOf a
-  pub check : (d : List ℕ) → lentCheck (o .name) (o .unit) d ≡ checkOf a d
+  pub type : o .ty ≡ recordType a
+  pub own : ownIn o ≡ recordOwn a
+  pub many : o .held ≡ length (recordOwn a)
+  pub start : o .start ≡ recordStart a
+  pub len : o .len ≡ recordLen a
+  pub check : (d : List ℕ) → lentCheck (o .name) (o .unit) d ≡ recordCheck a d
   pub units : 0 < o .unit
 
 unfoldable pub dataOf : AdStructure → List ℕ → List ℕ
-dataOf a s = ownOf a ++ part (lenOf a) s (startOf a)
+dataOf a s = recordOwn a ++ part (recordLen a) s (recordStart a)
 
 -- n octets of data at position `at` of `size` octets: length and type take two octets more; the length octet counts the type too
 abbrev pub spaceIn : ℕ → ℕ → ℕ → Outcome
@@ -139,7 +139,7 @@ andThen (outcome.Refused e) later = outcome.Refused e
 
 unfoldable pub mayWrite : AdStructure → List ℕ → List ℕ → ℕ → Outcome
 mayWrite a s out at =
-    cond (has (lenOf a) s (startOf a)) (andThen (checkOf a (part (lenOf a) s (startOf a))) (spaceFor (dataOf a s) out at)) (outcome.Refused Eof)
+    cond (has (recordLen a) s (recordStart a)) (andThen (recordCheck a (part (recordLen a) s (recordStart a))) (spaceFor (dataOf a s) out at)) (outcome.Refused Eof)
 
 -- what a write of xs that passed its checks, or did not, answers and leaves
 abbrev pub checkedTo : Outcome → List ℕ → ℕ → Written
@@ -158,11 +158,11 @@ unfoldable pub lentAfter : Outline → List ℕ → List ℕ → ℕ → List �
 lentAfter o d out at = checkedAfter (andThen (lentCheck (o .name) (o .unit) d) (spaceFor (ownIn o ++ d) out at)) (recordOf (o .ty) (ownIn o ++ d)) out at
 
 -- of a record
-unfoldable pub octetsOf : AdStructure → List ℕ → List ℕ
-octetsOf a s = recordOf (typeOf a) (dataOf a s)
+unfoldable pub recordOctets : AdStructure → List ℕ → List ℕ
+recordOctets a s = recordOf (recordType a) (dataOf a s)
 
 unfoldable pub writtenTo : AdStructure → List ℕ → List ℕ → ℕ → Written
-writtenTo a s out at = checkedTo (mayWrite a s out at) (octetsOf a s) at
+writtenTo a s out at = checkedTo (mayWrite a s out at) (recordOctets a s) at
 
 unfoldable pub writtenAfter : AdStructure → List ℕ → List ℕ → ℕ → List ℕ
-writtenAfter a s out at = checkedAfter (mayWrite a s out at) (octetsOf a s) out at
+writtenAfter a s out at = checkedAfter (mayWrite a s out at) (recordOctets a s) out at

@@ -43,36 +43,36 @@ pub record OneCycle : Type 0 where
 
 -- ---- the register after n shifts. What leaves is looked at in each, which makes the tests below quick.
 
-unfoldable after : ℕ → List Bool → List Bool
-after zero register = register
-after (suc n) [] = []
-after (suc n) (true ∷ rest) = after n (shifted whiteningTaps true rest)
-after (suc n) (false ∷ rest) = after n (shifted whiteningTaps false rest)
+unfoldable registerAfter : ℕ → List Bool → List Bool
+registerAfter zero register = register
+registerAfter (suc n) [] = []
+registerAfter (suc n) (true ∷ rest) = registerAfter n (shifted whiteningTaps true rest)
+registerAfter (suc n) (false ∷ rest) = registerAfter n (shifted whiteningTaps false rest)
 
-after-one : (n : ℕ) (out : Bool) (rest : List Bool) → after (suc n) (out ∷ rest) ≡ after n (shifted whiteningTaps out rest)
-unfolding after
+after-one : (n : ℕ) (out : Bool) (rest : List Bool) → registerAfter (suc n) (out ∷ rest) ≡ registerAfter n (shifted whiteningTaps out rest)
+unfolding registerAfter
 after-one n true rest = refl
 after-one n false rest = refl
 
-after-none : (n : ℕ) → after n [] ≡ []
-unfolding after
+after-none : (n : ℕ) → registerAfter n [] ≡ []
+unfolding registerAfter
 after-none zero = refl
 after-none (suc n) = refl
 
-after-add : (k n : ℕ) (register : List Bool) → after (k + n) register ≡ after n (after k register)
-unfolding after
+after-add : (k n : ℕ) (register : List Bool) → registerAfter (k + n) register ≡ registerAfter n (registerAfter k register)
+unfolding registerAfter
 after-add zero n register = let e : 0 + n ≡ n = omega arith in rw e
 after-add (suc k) n [] = after-none (suc k + n) ∙ sym (after-none n)
 after-add (suc k) n (out ∷ rest) =
     let e : suc k + n ≡ suc (k + n) = omega arith in
-    ap (λ (m : ℕ). after m (out ∷ rest)) e
+    ap (λ (m : ℕ). registerAfter m (out ∷ rest)) e
     ∙ after-one (k + n) out rest
     ∙ after-add k n (shifted whiteningTaps out rest)
-    ∙ sym (ap (after n) (after-one k out rest))
+    ∙ sym (ap (registerAfter n) (after-one k out rest))
 
 -- its highest position is what leaves next
-next-bit : (n i : ℕ) (register : List Bool) → i < n → getD (leaving n register) i false ≡ getD (after i register) 0 false
-unfolding after leaving
+next-bit : (n i : ℕ) (register : List Bool) → i < n → getD (leaving n register) i false ≡ getD (registerAfter i register) 0 false
+unfolding registerAfter leaving
 next-bit zero i register h = absurd (omega arith)
 next-bit (suc n) zero [] h = refl
 next-bit (suc n) (suc i) [] h = refl
@@ -82,26 +82,26 @@ next-bit (suc n) (suc i) (out ∷ rest) h =
 
 -- ---- round and round
 
-comes-round : after period (registerOn 0) ≡ registerOn 0
-unfolding after added bits xor
+comes-round : registerAfter period (registerOn 0) ≡ registerOn 0
+unfolding registerAfter added bits xor
 comes-round = refl
 
-rounds : (k : ℕ) → after (period * k) (registerOn 0) ≡ registerOn 0
-unfolding after
+rounds : (k : ℕ) → registerAfter (period * k) (registerOn 0) ≡ registerOn 0
+unfolding registerAfter
 rounds zero = refl
 rounds (suc k) =
     let e : period * suc k ≡ period + period * k = omega arith in
-    ap (λ (m : ℕ). after m (registerOn 0)) e
+    ap (λ (m : ℕ). registerAfter m (registerOn 0)) e
     ∙ after-add period (period * k) (registerOn 0)
-    ∙ ap (after (period * k)) comes-round
+    ∙ ap (registerAfter (period * k)) comes-round
     ∙ rounds k
 
-in-round : (n : ℕ) → after n (registerOn 0) ≡ after (n % period) (registerOn 0)
+in-round : (n : ℕ) → registerAfter n (registerOn 0) ≡ registerAfter (n % period) (registerOn 0)
 in-round n =
     let e : n ≡ period * (n / period) + n % period = omega arith in
-    ap (λ (m : ℕ). after m (registerOn 0)) e
+    ap (λ (m : ℕ). registerAfter m (registerOn 0)) e
     ∙ after-add (period * (n / period)) (n % period) (registerOn 0)
-    ∙ ap (after (n % period)) (rounds (n / period))
+    ∙ ap (registerAfter (n % period)) (rounds (n / period))
 
 -- ---- the place of each channel
 
@@ -113,9 +113,9 @@ bitPlaces =
 abbrev bitPlaceOf : ℕ → ℕ
 bitPlaceOf channel = getD bitPlaces channel 0
 
-reached : (channel : ℕ) → channel < 40 → after (bitPlaceOf channel) (registerOn 0) ≡ registerOn channel
-unfolding bitPlaces values after added bits xor
-reached = values-all (λ (c : ℕ). after (bitPlaceOf c) (registerOn 0)) registerOn 40 refl
+reached : (channel : ℕ) → channel < 40 → registerAfter (bitPlaceOf channel) (registerOn 0) ≡ registerOn channel
+unfolding bitPlaces values registerAfter added bits xor
+reached = values-all (λ (c : ℕ). registerAfter (bitPlaceOf c) (registerOn 0)) registerOn 40 refl
 
 bit-place-small : (channel : ℕ) → channel < 40 → bitPlaceOf channel < period
 unfolding bitPlaces count
@@ -129,7 +129,7 @@ follows channel h =
       within = bit-place-small channel (omega arith);
       bit = λ n i l.
           next-bit n i (registerOn channel) l
-          ∙ ap (λ (r : List Bool). getD (after i r) 0 false) (sym (reached channel (omega arith)))
+          ∙ ap (λ (r : List Bool). getD (registerAfter i r) 0 false) (sym (reached channel (omega arith)))
           ∙ ap (λ (r : List Bool). getD r 0 false) (sym (after-add p i (registerOn 0)) ∙ in-round (p + i))
           ∙ sym (next-bit period ((p + i) % period) (registerOn 0) (mod-lt (p + i) (omega arith)));
     }

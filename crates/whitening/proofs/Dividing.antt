@@ -5,7 +5,7 @@ use mathlib.Core.List.{List, [], _∷_, _++_, reverse, append-assoc, append-nil}
 use Prim.Native.Nat.{ℕ, zero, suc, _+_}
 use native.Mathlib.Omega.{arith}
 use lib.ListN.{length, replicate, length-append}
-use Rattle.whitening.specs.Bits.{bits, number, heard, added, shifted}
+use Rattle.whitening.specs.Bits.{bits, number, bitsOf, added, shifted}
 use Rattle.whitening.specs.Crc.{crcTaps, crcStart, crcAfter, crcRegister, crcOf}
 use Rattle.whitening.specs.Laws.{isIn, terms, sum, each, product, Divides}
 use Rattle.whitening.proofs.Bits.{bits-number}
@@ -122,11 +122,11 @@ pub divides : (start : ℕ) (octets : List ℕ) → Divides start octets
 unfolding crcOf
 divides start octets =
     let register = crcRegister start octets in
-    let e = crcAfter-length (crcStart start) (heard octets) (crcStart-length start) in
+    let e = crcAfter-length (crcStart start) (bitsOf octets) (crcStart-length start) in
     let back : bits 24 (number register) ≡ register = ap (λ (n : ℕ). bits n (number register)) (sym e) ∙ bits-number register in
     record {
-      quotient = fedBack (crcStart start) (heard octets);
-      size = fedBack-length (crcStart start) (heard octets) (crcStart-length start);
-      left = divided (crcStart start) (heard octets) (crcStart-length start)
-          ∙ ap (λ (l : List Bool). sum (product (fedBack (crcStart start) (heard octets))) (zeros (length (heard octets)) ++ l)) (sym back);
+      quotient = fedBack (crcStart start) (bitsOf octets);
+      size = fedBack-length (crcStart start) (bitsOf octets) (crcStart-length start);
+      left = divided (crcStart start) (bitsOf octets) (crcStart-length start)
+          ∙ ap (λ (l : List Bool). sum (product (fedBack (crcStart start) (bitsOf octets))) (zeros (length (bitsOf octets)) ++ l)) (sym back);
     }

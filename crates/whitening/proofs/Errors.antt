@@ -10,9 +10,9 @@ use lib.ListN.{length, take, drop, replicate, length-append, length-reverse, len
 use lib.Seq.{take-at, drop-at}
 use borrow.Author.Tests.{eqb-true, eq-eqb}
 use Rattle.octets.specs.Laws.{Octets}
-use Rattle.whitening.specs.Bits.{bits, number, heard, octetsOf, added, shifted}
+use Rattle.whitening.specs.Bits.{bits, number, bitsOf, octetsInBits, added, shifted}
 use Rattle.whitening.specs.Crc.{crcTaps, crcStart, crcAfter, crcOctets, same, crcGood}
-use Rattle.whitening.specs.Laws.{Checks}
+use Rattle.whitening.specs.Laws.{CrcChecks}
 use Rattle.whitening.specs.Number.{Register}
 use Rattle.whitening.proofs.Bits.{bits-length, number-bits}
 use Rattle.whitening.proofs.Rows.{octetsOf-length}
@@ -89,16 +89,16 @@ same-self [] = refl
 same-self (x ∷ xs) = rw (eq-eqb x x refl) (same-self xs)
 
 -- after a packet that is right the register holds zeros
-pub good-zeros : (start : ℕ) (packet : List ℕ) → crcGood start packet ≡ true → crcAfter (crcStart start) (heard packet) ≡ replicate 24 false
+pub good-zeros : (start : ℕ) (packet : List ℕ) → crcGood start packet ≡ true → crcAfter (crcStart start) (bitsOf packet) ≡ replicate 24 false
 unfolding crcGood crcOctets
 good-zeros start packet e =
     let n = length packet - 3 in
-    let register = crcAfter (crcStart start) (heard (take n packet)) in
-    let whole = crcAfter-length (crcStart start) (heard (take n packet)) (crcStart-length start) in
-    ap (λ (l : List ℕ). crcAfter (crcStart start) (heard l)) (sym (take-append-drop n packet))
+    let register = crcAfter (crcStart start) (bitsOf (take n packet)) in
+    let whole = crcAfter-length (crcStart start) (bitsOf (take n packet)) (crcStart-length start) in
+    ap (λ (l : List ℕ). crcAfter (crcStart start) (bitsOf l)) (sym (take-append-drop n packet))
     ∙ ap (crcAfter (crcStart start)) (heard-append (take n packet) (drop n packet))
-    ∙ crcAfter-append (crcStart start) (heard (take n packet)) (heard (drop n packet))
-    ∙ ap (crcAfter register) (ap heard (same-is (drop n packet) (octetsOf 3 register) e) ∙ heard-octetsOf 3 register whole)
+    ∙ crcAfter-append (crcStart start) (bitsOf (take n packet)) (bitsOf (drop n packet))
+    ∙ ap (crcAfter register) (ap bitsOf (same-is (drop n packet) (octetsInBits 3 register) e) ∙ heard-octetsOf 3 register whole)
     ∙ own-bits register whole
 
 -- ---- different bits leave different registers
@@ -201,13 +201,13 @@ last-is start octets last e g =
     let n : length (octets ++ last) - 3 ≡ length octets = simp length-append (omega arith) in
     same-is last (crcOctets start octets) (rw (n, take-at octets last (length octets) refl, drop-at octets last (length octets) refl) at g)
 
-pub checks : (start : ℕ) → Checks start
+pub checks : (start : ℕ) → CrcChecks start
 checks start = record { own = own-good start; no-other = no-other; one-bit = one-bit }
   where
     no-other : (octets last : List ℕ) → length last ≡ 3 → crcGood start (octets ++ last) ≡ true → last ≡ crcOctets start octets
     no-other octets last e g = last-is start octets last e g
 
-    one-bit : (p q : List ℕ) (before after : List Bool) (b d : Bool) → heard p ≡ before ++ b ∷ after → heard q ≡ before ++ d ∷ after
+    one-bit : (p q : List ℕ) (before after : List Bool) (b d : Bool) → bitsOf p ≡ before ++ b ∷ after → bitsOf q ≡ before ++ d ∷ after
         → crcGood start p ≡ true → crcGood start q ≡ true → b ≡ d
     one-bit p q before after b d e f g h =
         let register = crcAfter (crcStart start) before in
@@ -221,40 +221,40 @@ checks start = record { own = own-good start; no-other = no-other; one-bit = one
 
 -- ---- the register holds zeros after packets that are right, and after no others
 
-pub heard-length : (octets : List ℕ) → length (heard octets) ≡ length octets * 8
-unfolding heard
+pub heard-length : (octets : List ℕ) → length (bitsOf octets) ≡ length octets * 8
+unfolding bitsOf
 heard-length [] = refl
 heard-length (x ∷ octets) = simp (length-append, bits-length) (omega (arith, heard-length octets))
 
-octetsOf-heard : (s : List ℕ) → Octets s → octetsOf (length s) (heard s) ≡ s
-unfolding octetsOf heard
+octetsOf-heard : (s : List ℕ) → Octets s → octetsInBits (length s) (bitsOf s) ≡ s
+unfolding octetsInBits bitsOf
 octetsOf-heard [] o = refl
 octetsOf-heard (x ∷ s) o =
     ap₂ _∷_
-    (ap number (take-at (bits 8 x) (heard s) 8 (bits-length 8 x)) ∙ number-bits 8 x (o .0))
-    (ap (octetsOf (length s)) (drop-at (bits 8 x) (heard s) 8 (bits-length 8 x)) ∙ octetsOf-heard s (o .1))
+    (ap number (take-at (bits 8 x) (bitsOf s) 8 (bits-length 8 x)) ∙ number-bits 8 x (o .0))
+    (ap (octetsInBits (length s)) (drop-at (bits 8 x) (bitsOf s) 8 (bits-length 8 x)) ∙ octetsOf-heard s (o .1))
 
 octets-drop : (n : ℕ) (s : List ℕ) → Octets s → Octets (drop n s)
 octets-drop zero s o = o
 octets-drop (suc n) [] o = o
 octets-drop (suc n) (x ∷ s) o = octets-drop n s (o .1)
 
-zeros-good : (start : ℕ) (packet : List ℕ) → 3 ≤ length packet → Octets packet → crcAfter (crcStart start) (heard packet) ≡ replicate 24 false → crcGood start packet ≡ true
+zeros-good : (start : ℕ) (packet : List ℕ) → 3 ≤ length packet → Octets packet → crcAfter (crcStart start) (bitsOf packet) ≡ replicate 24 false → crcGood start packet ≡ true
 unfolding crcGood crcOctets
 zeros-good start packet least o e =
     let n = length packet - 3 in
     let last = drop n packet in
-    let register = crcAfter (crcStart start) (heard (take n packet)) in
-    let whole = crcAfter-length (crcStart start) (heard (take n packet)) (crcStart-length start) in
+    let register = crcAfter (crcStart start) (bitsOf (take n packet)) in
+    let whole = crcAfter-length (crcStart start) (bitsOf (take n packet)) (crcStart-length start) in
     let three : length last ≡ 3 = simp length-drop (omega arith) in
-    let own : length (heard last) ≡ 24 = omega (arith, heard-length last) in
-    let after : crcAfter register (heard last) ≡ replicate 24 false =
-    sym (crcAfter-append (crcStart start) (heard (take n packet)) (heard last))
+    let own : length (bitsOf last) ≡ 24 = omega (arith, heard-length last) in
+    let after : crcAfter register (bitsOf last) ≡ replicate 24 false =
+    sym (crcAfter-append (crcStart start) (bitsOf (take n packet)) (bitsOf last))
     ∙ ap (crcAfter (crcStart start)) (sym (heard-append (take n packet) last))
-    ∙ ap (λ (l : List ℕ). crcAfter (crcStart start) (heard l)) (take-append-drop n packet)
+    ∙ ap (λ (l : List ℕ). crcAfter (crcStart start) (bitsOf l)) (take-append-drop n packet)
     ∙ e in
-    let is : register ≡ heard last = crcAfter-same register (heard last) (heard last) whole own (after ∙ sym (own-bits (heard last) own)) in
-    let sent : octetsOf 3 register ≡ last = ap (octetsOf 3) is ∙ ap (λ (k : ℕ). octetsOf k (heard last)) (sym three) ∙ octetsOf-heard last (octets-drop n packet o) in
+    let is : register ≡ bitsOf last = crcAfter-same register (bitsOf last) (bitsOf last) whole own (after ∙ sym (own-bits (bitsOf last) own)) in
+    let sent : octetsInBits 3 register ≡ last = ap (octetsInBits 3) is ∙ ap (λ (k : ℕ). octetsInBits k (bitsOf last)) (sym three) ∙ octetsOf-heard last (octets-drop n packet o) in
     ap (same last) sent ∙ same-self last
 
 zeros-number : number (replicate 24 false) ≡ 0
@@ -266,7 +266,7 @@ unfolding bits
 zeros-bits = refl
 
 -- so a packet is right exactly if the register's number is 0
-pub good-is : (start : ℕ) (packet : List ℕ) (n : ℕ) → 3 ≤ length packet → Octets packet → Register n (crcAfter (crcStart start) (heard packet)) → eqb n 0 ≡ crcGood start packet
+pub good-is : (start : ℕ) (packet : List ℕ) (n : ℕ) → 3 ≤ length packet → Octets packet → Register n (crcAfter (crcStart start) (bitsOf packet)) → eqb n 0 ≡ crcGood start packet
 good-is start packet n least o is = go (crcGood start packet) refl (eqb n 0) refl
   where
     go : (good : Bool) → crcGood start packet ≡ good → (zero : Bool) → eqb n 0 ≡ zero → zero ≡ good

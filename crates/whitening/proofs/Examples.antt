@@ -1,13 +1,13 @@
 -- The worked values hold of the definitions. Computed. Assumes nothing.
 use mathlib.Core.Path.{refl}
 use mathlib.Core.Bool.{xor}
-use Rattle.whitening.specs.Bits.{bits, number, heard, octetsOf, added}
+use Rattle.whitening.specs.Bits.{bits, number, bitsOf, octetsInBits, added}
 use Rattle.whitening.specs.Whitening.{leaving, whitening, plus, whitened}
 use Rattle.whitening.specs.Crc.{crcAfter, crcOf, crcOctets, same, crcGood}
 use Rattle.whitening.specs.Examples.{Examples}
 
 pub examples : Examples
-unfolding bits number heard octetsOf added leaving whitening plus whitened crcAfter crcOf crcOctets same crcGood xor
+unfolding bits number bitsOf octetsInBits added leaving whitening plus whitened crcAfter crcOf crcOctets same crcGood xor
 examples = record {
   as-heard = refl;
   check-value = refl;

@@ -5,7 +5,7 @@ use mathlib.Core.List.{List, [], _∷_, _++_}
 use Prim.Native.Nat.{ℕ, suc, _+_, _≤_, _<_}
 use native.Mathlib.Omega.{arith}
 use lib.ListN.{length, getD, drop, length-append}
-use Rattle.whitening.specs.Bits.{heard}
+use Rattle.whitening.specs.Bits.{bitsOf}
 use Rattle.whitening.specs.Crc.{crcOctets, crcGood}
 use Rattle.whitening.specs.Laws.{sum, Hears}
 use Rattle.whitening.specs.Packet.{allowed, startOn, flagged, flagOf}
@@ -53,7 +53,7 @@ hears channel start = record { told = told; own = own; no-other = no-other; one-
         let good = flag-good (allowed channel (length (whitened channel (octets ++ last)))) (crcGood (startOn channel start) (whitened channel (whitened channel (octets ++ last)))) g in
         checks (startOn channel start) .no-other octets last e (ap (crcGood (startOn channel start)) (sym (twice channel (octets ++ last) (omega arith))) ∙ good .1)
 
-    one-bit : (p q : List ℕ) (before after : List Bool) (b d : Bool) → heard p ≡ before ++ b ∷ after → heard q ≡ before ++ d ∷ after
+    one-bit : (p q : List ℕ) (before after : List Bool) (b d : Bool) → bitsOf p ≡ before ++ b ∷ after → bitsOf q ≡ before ++ d ∷ after
         → flagOf channel start p ≡ flag.Is true → flagOf channel start q ≡ flag.Is true → b ≡ d
     one-bit p q before after b d e f g h =
         let good-p = flag-good (allowed channel (length p)) (crcGood (startOn channel start) (whitened channel p)) g in

@@ -9,7 +9,7 @@ use lib.ListN.{length}
 use borrow.Author.Tests.{ltb-false, lt-ltb, le-ltb}
 use Rattle.octets.specs.declared.error.Error.the-variants.{Eof, InvalidLength, NoSuchIndex}
 use Rattle.whitening.specs.Crc.{crcGood}
-use Rattle.whitening.specs.Laws.{Refusing, Starting}
+use Rattle.whitening.specs.Laws.{WhiteningRefuses, CrcStartOn}
 use Rattle.whitening.specs.Packet.{allowed, leaves, startOn, flagged}
 use Rattle.whitening.specs.Whitening.{whitened}
 use Rattle.octets.specs.declared.error.Outcome.{Outcome}
@@ -33,7 +33,7 @@ allowed-done channel n = go (ltb 39 channel) refl (ltb 42 n) refl (ltb n 5) refl
 pub allowed-is : (channel n : ℕ) → channel ≤ 39 → 5 ≤ n → n ≤ 42 → allowed channel n ≡ Accepted
 allowed-is channel n h l m = simp (le-ltb 39 channel h, le-ltb 42 n m, le-ltb n 5 l)
 
-pub refusing : (channel : ℕ) (packet : List ℕ) → Refusing channel packet
+pub refusing : (channel : ℕ) (packet : List ℕ) → WhiteningRefuses channel packet
 refusing channel packet = record {
   no-channel = λ h. simp (lt-ltb 39 channel h);
   too-long = λ h l. simp (le-ltb 39 channel h, lt-ltb 42 (length packet) l);
@@ -46,7 +46,7 @@ refusing channel packet = record {
   flag = λ start e is. ap (λ (a : Outcome). flagged a (crcGood (startOn channel start) (whitened channel packet))) is;
 }
 
-pub starting : (channel start : ℕ) → Starting channel start
+pub starting : (channel start : ℕ) → CrcStartOn channel start
 starting channel start = record {
   data-channels = λ h. simp (le-ltb 36 channel h);
   advertising-channels = λ h. preset start h;

@@ -6,7 +6,7 @@ use Prim.Native.Nat.{ℕ, _/_, _%_, _^_, _<_}
 use native.Mathlib.Omega.{arith}
 use lib.ListN.{length}
 use Rattle.octets.specs.Bytes.{leBytes}
-use Rattle.whitening.specs.Bits.{bits, number, heard, octetsOf}
+use Rattle.whitening.specs.Bits.{bits, number, bitsOf, octetsInBits}
 use Rattle.whitening.specs.Crc.{crcStart, crcAfter, crcRegister, crcOf, crcOctets}
 use Rattle.whitening.specs.Number.{Register}
 use Rattle.whitening.specs.Laws.{Numbers}
@@ -15,7 +15,7 @@ use Rattle.whitening.proofs.Registers.{octetsOf-bits}
 use Rattle.whitening.proofs.Errors.{crcAfter-length, crcStart-length}
 
 register-length : (start : ℕ) (octets : List ℕ) → length (crcRegister start octets) ≡ 24
-register-length start octets = crcAfter-length (crcStart start) (heard octets) (crcStart-length start)
+register-length start octets = crcAfter-length (crcStart start) (bitsOf octets) (crcStart-length start)
 
 pub numbers : (start : ℕ) (octets : List ℕ) → Numbers start octets
 unfolding crcOf crcOctets
@@ -27,8 +27,8 @@ numbers start octets =
     let high : v / 65536 ≡ v / 256 / 256 = omega arith in
     record {
       small = subst (λ (n : ℕ). number register < 2 ^ n) e (number-small register);
-      sent = ap (octetsOf 3) (sym back) ∙ octetsOf-bits v ∙ ap (λ (n : ℕ). v % 256 ∷ v / 256 % 256 ∷ n % 256 ∷ []) high;
-      low-24 = ap (λ (bs : List Bool). number (crcAfter (reverse bs) (heard octets))) (sym (bits-24 start));
+      sent = ap (octetsInBits 3) (sym back) ∙ octetsOf-bits v ∙ ap (λ (n : ℕ). v % 256 ∷ v / 256 % 256 ∷ n % 256 ∷ []) high;
+      low-24 = ap (λ (bs : List Bool). number (crcAfter (reverse bs) (bitsOf octets))) (sym (bits-24 start));
     }
 
 -- a register from the start on
@@ -43,4 +43,4 @@ crc-number start octets n is = sym (ap number (sym (is .same)) ∙ number-bits 2
 -- and its octets are those sent
 pub crc-sent : (start : ℕ) (octets : List ℕ) (n : ℕ) → Register n (crcRegister start octets) → n % 256 ∷ n / 256 % 256 ∷ n / 65536 % 256 ∷ [] ≡ crcOctets start octets
 unfolding crcOctets
-crc-sent start octets n is = sym (octetsOf-bits n) ∙ ap (octetsOf 3) (is .same)
+crc-sent start octets n is = sym (octetsOf-bits n) ∙ ap (octetsInBits 3) (is .same)

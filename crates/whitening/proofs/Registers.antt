@@ -12,7 +12,7 @@ use lib.Seq.{drop-cons, drop-length}
 use native.Mathlib.Numerals.{add-one}
 use Rattle.octets.specs.Bytes.{le}
 use Rattle.channels.specs.Count.{bit}
-use Rattle.whitening.specs.Bits.{bits, number, heard, octetsOf, added, shifted}
+use Rattle.whitening.specs.Bits.{bits, number, bitsOf, octetsInBits, added, shifted}
 use Rattle.whitening.specs.Crc.{crcTaps, crcAfter}
 use Rattle.whitening.specs.Number.{Register}
 use Rattle.whitening.proofs.Bits.{below-two, bits-more, number-bits-8, bits-join}
@@ -120,8 +120,8 @@ unfolding bits
 reversed k register rest e = rw e
 
 -- the three octets of a register
-pub octetsOf-bits : (x : ℕ) → octetsOf 3 (bits 24 x) ≡ x % 256 ∷ x / 256 % 256 ∷ x / 65536 % 256 ∷ []
-unfolding octetsOf bits
+pub octetsOf-bits : (x : ℕ) → octetsInBits 3 (bits 24 x) ≡ x % 256 ∷ x / 256 % 256 ∷ x / 65536 % 256 ∷ []
+unfolding octetsInBits bits
 octetsOf-bits x =
     let high : x / 256 / 256 ≡ x / 65536 = omega arith in
     ap₂ _∷_ (number-bits-8 x)
@@ -139,16 +139,16 @@ register-turn n reached rest next e =
     ap (λ (r : List Bool). crcAfter r (bits n (rest / 2))) e ∙ sym (crcAfter-append (bits 24 reached) (bits 1 rest) (bits n (rest / 2)))
 
 -- a turn of the loop over octets, and its end
-heard-at : (i : ℕ) (octets : List ℕ) → i < length octets → heard (drop i octets) ≡ bits 8 (getD octets i 0) ++ heard (drop (i + 1) octets)
-unfolding heard
+heard-at : (i : ℕ) (octets : List ℕ) → i < length octets → bitsOf (drop i octets) ≡ bits 8 (getD octets i 0) ++ bitsOf (drop (i + 1) octets)
+unfolding bitsOf
 heard-at i octets h = rw (add-one, drop-cons octets i 0)
 
 pub octets-turn : (i : ℕ) (octets : List ℕ) (register next : ℕ) → i < length octets
     → bits 24 next ≡ crcAfter (bits 24 register) (bits 8 (getD octets i 0))
-    → crcAfter (bits 24 next) (heard (drop (i + 1) octets)) ≡ crcAfter (bits 24 register) (heard (drop i octets))
+    → crcAfter (bits 24 next) (bitsOf (drop (i + 1) octets)) ≡ crcAfter (bits 24 register) (bitsOf (drop i octets))
 octets-turn i octets register next h e =
-    ap (λ (r : List Bool). crcAfter r (heard (drop (i + 1) octets))) e
-    ∙ sym (crcAfter-append (bits 24 register) (bits 8 (getD octets i 0)) (heard (drop (i + 1) octets)))
+    ap (λ (r : List Bool). crcAfter r (bitsOf (drop (i + 1) octets))) e
+    ∙ sym (crcAfter-append (bits 24 register) (bits 8 (getD octets i 0)) (bitsOf (drop (i + 1) octets)))
     ∙ ap (crcAfter (bits 24 register)) (sym (heard-at i octets h))
 
 -- three octets as a number
@@ -158,30 +158,30 @@ three-bits a b c h l =
     ap (bits 24) e ∙ bits-join 8 16 a (c * 2 ^ 8 + b) h ∙ ap (λ (s : List Bool). bits 8 a ++ s) (bits-join 8 8 b c l)
 
 heard-three : (i : ℕ) (octets : List ℕ) → i + 3 ≤ length octets
-    → heard (drop i octets) ≡ (bits 8 (getD octets i 0) ++ (bits 8 (getD octets (i + 1) 0) ++ bits 8 (getD octets (i + 2) 0))) ++ heard (drop (i + 3) octets)
+    → bitsOf (drop i octets) ≡ (bits 8 (getD octets i 0) ++ (bits 8 (getD octets (i + 1) 0) ++ bits 8 (getD octets (i + 2) 0))) ++ bitsOf (drop (i + 3) octets)
 heard-three i octets h =
     let a = bits 8 (getD octets i 0) in
     let b = bits 8 (getD octets (i + 1) 0) in
     let c = bits 8 (getD octets (i + 2) 0) in
-    let rest = heard (drop (i + 3) octets) in
+    let rest = bitsOf (drop (i + 3) octets) in
     let two : i + 1 + 1 ≡ i + 2 = omega arith in
     let three : i + 2 + 1 ≡ i + 3 = omega arith in
     heard-at i octets (omega arith)
     ∙ ap (λ (s : List Bool). a ++ s)
     (heard-at (i + 1) octets (omega arith)
-    ∙ ap (λ (s : List Bool). b ++ s) (ap (λ (k : ℕ). heard (drop k octets)) two ∙ heard-at (i + 2) octets (omega arith) ∙ ap (λ (k : ℕ). c ++ heard (drop k octets)) three)
+    ∙ ap (λ (s : List Bool). b ++ s) (ap (λ (k : ℕ). bitsOf (drop k octets)) two ∙ heard-at (i + 2) octets (omega arith) ∙ ap (λ (k : ℕ). c ++ bitsOf (drop k octets)) three)
     ∙ sym (append-assoc b c rest))
     ∙ sym (append-assoc a (b ++ c) rest)
 
 pub three-turn : (i : ℕ) (octets : List ℕ) (register next : ℕ) → i + 3 ≤ length octets → getD octets i 0 < 256 → getD octets (i + 1) 0 < 256
     → bits 24 next ≡ crcAfter (bits 24 register) (bits 24 (le (getD octets i 0 ∷ getD octets (i + 1) 0 ∷ getD octets (i + 2) 0 ∷ 0 ∷ [])))
-    → crcAfter (bits 24 next) (heard (drop (i + 3) octets)) ≡ crcAfter (bits 24 register) (heard (drop i octets))
+    → crcAfter (bits 24 next) (bitsOf (drop (i + 3) octets)) ≡ crcAfter (bits 24 register) (bitsOf (drop i octets))
 three-turn i octets register next h l m e =
     let bs = bits 8 (getD octets i 0) ++ (bits 8 (getD octets (i + 1) 0) ++ bits 8 (getD octets (i + 2) 0)) in
-    ap (λ (r : List Bool). crcAfter r (heard (drop (i + 3) octets))) (e ∙ ap (crcAfter (bits 24 register)) (three-bits (getD octets i 0) (getD octets (i + 1) 0) (getD octets (i + 2) 0) l m))
-    ∙ sym (crcAfter-append (bits 24 register) bs (heard (drop (i + 3) octets)))
+    ap (λ (r : List Bool). crcAfter r (bitsOf (drop (i + 3) octets))) (e ∙ ap (crcAfter (bits 24 register)) (three-bits (getD octets i 0) (getD octets (i + 1) 0) (getD octets (i + 2) 0) l m))
+    ∙ sym (crcAfter-append (bits 24 register) bs (bitsOf (drop (i + 3) octets)))
     ∙ ap (crcAfter (bits 24 register)) (sym (heard-three i octets h))
 
-pub octets-end : (i : ℕ) (octets : List ℕ) (register : ℕ) → i ≡ length octets → bits 24 register ≡ crcAfter (bits 24 register) (heard (drop i octets))
-unfolding heard crcAfter
+pub octets-end : (i : ℕ) (octets : List ℕ) (register : ℕ) → i ≡ length octets → bits 24 register ≡ crcAfter (bits 24 register) (bitsOf (drop i octets))
+unfolding bitsOf crcAfter
 octets-end i octets register e = rw (e, drop-length)

@@ -7,7 +7,7 @@ use native.Mathlib.Omega.{arith}
 use lib.Bits.{bitXor, xor-zero-l}
 use lib.ListN.{length, getD, take, drop, replicate}
 use Rattle.channels.specs.Count.{count}
-use Rattle.whitening.specs.Bits.{bits, number, octetsOf, added}
+use Rattle.whitening.specs.Bits.{bits, number, octetsInBits, added}
 use Rattle.whitening.specs.Whitening.{leaving, whitening, plus, whitened}
 use Rattle.whitening.proofs.Values.{values, values-all, values-small}
 use Rattle.whitening.proofs.Octets.{cycle, places}
@@ -16,7 +16,7 @@ abbrev pub placeOf : ℕ → ℕ
 placeOf channel = getD places channel 0
 
 pub part-is : (channel : ℕ) → channel < 40 → take 42 (drop (placeOf channel) cycle) ≡ whitening channel
-unfolding cycle places values whitening leaving bits number octetsOf added xor
+unfolding cycle places values whitening leaving bits number octetsInBits added xor
 part-is = values-all (λ (c : ℕ). take 42 (drop (placeOf c) cycle)) whitening 40 refl
 
 -- none is cut
@@ -24,8 +24,8 @@ pub place-small : (channel : ℕ) → channel < 40 → placeOf channel < 113
 unfolding places count
 place-small = values-small placeOf 113 40 refl
 
-pub octetsOf-length : (n : ℕ) (bs : List Bool) → length (octetsOf n bs) ≡ n
-unfolding octetsOf
+pub octetsOf-length : (n : ℕ) (bs : List Bool) → length (octetsInBits n bs) ≡ n
+unfolding octetsInBits
 octetsOf-length zero bs = refl
 octetsOf-length (suc n) bs = ap suc (octetsOf-length n (drop 8 bs))
 

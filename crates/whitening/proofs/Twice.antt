@@ -10,7 +10,7 @@ use lib.Bits.{bitXor, xor-shr, xor-mod, xor-self, xor-zero-r, xor-lt}
 use lib.Pow.{pow-mono}
 use lib.ListN.{length, getD, take, drop, length-append, length-take, length-drop, take-append-drop}
 use Rattle.octets.specs.Laws.{Octets}
-use Rattle.whitening.specs.Bits.{bits, number, heard, octetsOf, added, shifted}
+use Rattle.whitening.specs.Bits.{bits, number, bitsOf, octetsInBits, added, shifted}
 use Rattle.whitening.specs.Whitening.{whiteningTaps, registerOn, leaving, whitening, plus, whitened}
 use Rattle.whitening.specs.Laws.{sum}
 use Rattle.whitening.proofs.Bits.{odd-bit, xor-assoc, bits-length, bits-number, number-small}
@@ -19,8 +19,8 @@ use Rattle.whitening.proofs.Rows.{whitening-length}
 
 -- ---- octets and their bits
 
-pub heard-octetsOf : (n : ℕ) (bs : List Bool) → length bs ≡ n * 8 → heard (octetsOf n bs) ≡ bs
-unfolding heard octetsOf
+pub heard-octetsOf : (n : ℕ) (bs : List Bool) → length bs ≡ n * 8 → bitsOf (octetsInBits n bs) ≡ bs
+unfolding bitsOf octetsInBits
 heard-octetsOf zero [] e = refl
 heard-octetsOf zero (b ∷ bs) e = absurd (omega arith)
 heard-octetsOf (suc n) bs e =
@@ -29,10 +29,10 @@ heard-octetsOf (suc n) bs e =
     ap₂ _++_ (ap (λ (k : ℕ). bits k (number (take 8 bs))) (sym eight) ∙ bits-number (take 8 bs)) (heard-octetsOf n (drop 8 bs) rest)
     ∙ take-append-drop 8 bs
 
-pub heard-append : (s t : List ℕ) → heard (s ++ t) ≡ heard s ++ heard t
-unfolding heard
+pub heard-append : (s t : List ℕ) → bitsOf (s ++ t) ≡ bitsOf s ++ bitsOf t
+unfolding bitsOf
 heard-append [] t = refl
-heard-append (x ∷ s) t = ap (λ (l : List Bool). bits 8 x ++ l) (heard-append s t) ∙ sym (append-assoc (bits 8 x) (heard s) (heard t))
+heard-append (x ∷ s) t = ap (λ (l : List Bool). bits 8 x ++ l) (heard-append s t) ∙ sym (append-assoc (bits 8 x) (bitsOf s) (bitsOf t))
 
 -- ---- sums
 
@@ -59,13 +59,13 @@ unfolding sum
 sum-none [] = refl
 sum-none (x ∷ xs) = refl
 
-pub heard-plus : (xs ys : List ℕ) → heard (plus xs ys) ≡ sum (heard xs) (heard ys)
-unfolding heard plus sum
+pub heard-plus : (xs ys : List ℕ) → bitsOf (plus xs ys) ≡ sum (bitsOf xs) (bitsOf ys)
+unfolding bitsOf plus sum
 heard-plus [] ys = refl
-heard-plus (x ∷ xs) [] = sym (sum-none (bits 8 x ++ heard xs))
+heard-plus (x ∷ xs) [] = sym (sum-none (bits 8 x ++ bitsOf xs))
 heard-plus (x ∷ xs) (y ∷ ys) =
     ap₂ _++_ (bits-xor 8 x y) (heard-plus xs ys)
-    ∙ sym (sum-append (bits 8 x) (heard xs) (bits 8 y) (heard ys) (bits-length 8 x ∙ sym (bits-length 8 y)))
+    ∙ sym (sum-append (bits 8 x) (bitsOf xs) (bits 8 y) (bitsOf ys) (bits-length 8 x ∙ sym (bits-length 8 y)))
 
 -- ---- twice
 
@@ -112,8 +112,8 @@ pub octets-all : (s : List ℕ) → ((j : ℕ) → getD s j 0 < 256) → Octets 
 octets-all [] h = tt
 octets-all (x ∷ s) h = (h 0, octets-all s (λ j. h (suc j)))
 
-octetsOf-octets : (n : ℕ) (bs : List Bool) → Octets (octetsOf n bs)
-unfolding octetsOf
+octetsOf-octets : (n : ℕ) (bs : List Bool) → Octets (octetsInBits n bs)
+unfolding octetsInBits
 octetsOf-octets zero bs = tt
 octetsOf-octets (suc n) bs =
     let short : length (take 8 bs) ≤ 8 = simp length-take (omega arith) in
@@ -129,10 +129,10 @@ pub whitened-octets : (channel : ℕ) (packet : List ℕ) → Octets packet → 
 unfolding whitened whitening
 whitened-octets channel packet o = plus-octets packet (whitening channel) o (octetsOf-octets 42 (leaving 336 (registerOn channel)))
 
-pub adds : (channel : ℕ) (packet : List ℕ) → heard (whitened channel packet) ≡ sum (heard packet) (leaving 336 (registerOn channel))
+pub adds : (channel : ℕ) (packet : List ℕ) → bitsOf (whitened channel packet) ≡ sum (bitsOf packet) (leaving 336 (registerOn channel))
 unfolding whitened whitening
 adds channel packet =
-    heard-plus packet (whitening channel) ∙ ap (sum (heard packet)) (heard-octetsOf 42 (leaving 336 (registerOn channel)) (leaving-on 336 channel))
+    heard-plus packet (whitening channel) ∙ ap (sum (bitsOf packet)) (heard-octetsOf 42 (leaving 336 (registerOn channel)) (leaving-on 336 channel))
 
 pub twice : (channel : ℕ) (packet : List ℕ) → length packet ≤ 42 → whitened channel (whitened channel packet) ≡ packet
 unfolding whitened

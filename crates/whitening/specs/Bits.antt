@@ -2,8 +2,8 @@
 --
 --   bits n x                   == the n lowest bits of x, lowest first
 --   number bs                  == the number whose bits, lowest first, are bs
---   heard octets               == the bits of octets as they are heard
---   octetsOf n bs              == the first n octets that are heard in the bits bs
+--   bitsOf octets              == the bits of octets as they are heard
+--   octetsInBits n bs          == the first n octets that are heard in the bits bs
 --   added back taps xs         == the bits xs, the bit `back` being added wherever there is a tap
 --   shifted taps back rest     == a register after a shift
 use Prim.Native.Nat.{ℕ, zero, suc, _+_, _*_, _/_, _%_}
@@ -21,13 +21,13 @@ unfoldable pub number : List Bool → ℕ
 number [] = 0
 number (b ∷ bs) = bit b + 2 * number bs
 
-unfoldable pub heard : List ℕ → List Bool
-heard [] = []
-heard (octet ∷ octets) = bits 8 octet ++ heard octets
+unfoldable pub bitsOf : List ℕ → List Bool
+bitsOf [] = []
+bitsOf (octet ∷ octets) = bits 8 octet ++ bitsOf octets
 
-unfoldable pub octetsOf : ℕ → List Bool → List ℕ
-octetsOf zero bs = []
-octetsOf (suc n) bs = number (take 8 bs) ∷ octetsOf n (drop 8 bs)
+unfoldable pub octetsInBits : ℕ → List Bool → List ℕ
+octetsInBits zero bs = []
+octetsInBits (suc n) bs = number (take 8 bs) ∷ octetsInBits n (drop 8 bs)
 
 -- A register is the list of its positions, the highest first. At a shift what stands in the highest position leaves, the others move up by one,
 -- and the bit fed back is added modulo 2 wherever the polynomial has a term: at position i for x^i, position 0 being empty before.

@@ -13,7 +13,7 @@ use mathlib.Core.Bool.{Bool, true, false, xor, _&&_}
 use mathlib.Core.List.{List, [], _∷_, reverse}
 use lib.Dec.{eqb}
 use lib.ListN.{length, take, drop}
-use Rattle.whitening.specs.Bits.{bits, number, heard, octetsOf, shifted}
+use Rattle.whitening.specs.Bits.{bits, number, bitsOf, octetsInBits, shifted}
 
 -- positions 23 to 0
 abbrev pub crcTaps : List Bool
@@ -32,13 +32,13 @@ crcAfter [] (b ∷ bs) = []
 crcAfter (out ∷ rest) (b ∷ bs) = crcAfter (shifted crcTaps (xor out b) rest) bs
 
 abbrev pub crcRegister : ℕ → List ℕ → List Bool
-crcRegister start octets = crcAfter (crcStart start) (heard octets)
+crcRegister start octets = crcAfter (crcStart start) (bitsOf octets)
 
 unfoldable pub crcOf : ℕ → List ℕ → ℕ
 crcOf start octets = number (crcRegister start octets)
 
 unfoldable pub crcOctets : ℕ → List ℕ → List ℕ
-crcOctets start octets = octetsOf 3 (crcRegister start octets)
+crcOctets start octets = octetsInBits 3 (crcRegister start octets)
 
 unfoldable pub same : List ℕ → List ℕ → Bool
 same [] [] = true

@@ -5,7 +5,7 @@ use mathlib.Core.Bool.{true, false}
 use mathlib.Core.List.{List, [], _∷_, map}
 use Prim.Native.Nat.{ℕ}
 use lib.ListN.{take, drop}
-use Rattle.whitening.specs.Bits.{heard}
+use Rattle.whitening.specs.Bits.{bitsOf}
 use Rattle.whitening.specs.Whitening.{whitening, whitened}
 use Rattle.whitening.specs.Crc.{crcOf, crcOctets}
 use Rattle.octets.specs.Error.{outcomeNumber}
@@ -29,7 +29,7 @@ started37 = 0x8F ∷ 0xD2 ∷ 0xC2 ∷ 0x4F ∷ 0xDA ∷ []
 
 pub record Examples : Type 0 where
   -- each octet's lowest bit first
-  pub as-heard : heard (0x01 ∷ 0x80 ∷ [])
+  pub as-heard : bitsOf (0x01 ∷ 0x80 ∷ [])
       ≡ true ∷ false ∷ false ∷ false ∷ false ∷ false ∷ false ∷ false ∷ false ∷ false ∷ false ∷ false ∷ false ∷ false ∷ false ∷ true ∷ []
   pub check-value : crcOf 0x555555 (0x31 ∷ 0x32 ∷ 0x33 ∷ 0x34 ∷ 0x35 ∷ 0x36 ∷ 0x37 ∷ 0x38 ∷ 0x39 ∷ []) ≡ 0xC25A56
   pub check-octets : crcOctets 0x555555 (0x31 ∷ 0x32 ∷ 0x33 ∷ 0x34 ∷ 0x35 ∷ 0x36 ∷ 0x37 ∷ 0x38 ∷ 0x39 ∷ []) ≡ 0x56 ∷ 0x5A ∷ 0xC2 ∷ []

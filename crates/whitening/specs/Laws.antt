@@ -10,9 +10,9 @@
 --   product qs              == the polynomial qs times that of the CRC
 --   Divides start octets    (Dividing.divides)         the CRC is what a division by the polynomial leaves
 --   Numbers start octets    (Numbers.numbers)          the CRC as a number and as octets; only the low 24 bits of a start value count
---   Checks start            (Errors.checks)            a packet's own CRC is right, no other is, and of two packets that differ in one bit not both are right
---   Refusing channel packet (Limits.refusing)          which calls are refused, in which order, and what they leave
---   Starting channel start  (Limits.starting)          where the CRC starts on each channel
+--   CrcChecks start         (Errors.checks)            a packet's own CRC is right, no other is, and of two packets that differ in one bit not both are right
+--   WhiteningRefuses channel packet (Limits.refusing)  which calls are refused, in which order, and what they leave
+--   CrcStartOn channel start (Limits.starting)          where the CRC starts on each channel
 --   Hears channel start     (Heard.hears)              what the flag tells of packets that are heard on a channel: a packet's own CRC, any other, and one bit
 --   Holds                   (Holding.holds)            all of these
 use mathlib.Core.Path.{_≡_}
@@ -27,7 +27,7 @@ use Rattle.octets.specs.declared.error.Error.the-variants.{Eof, InvalidLength, 
 use Rattle.channels.specs.Phy.{indexOf, whiteningStart, dataWhitening, advertisingWhitening}
 use Rattle.channels.specs.declared.phy.AdvertisingChannel.{AdvertisingChannel}
 use Rattle.channels.specs.declared.phy.DataChannel.{DataChannel}
-use Rattle.whitening.specs.Bits.{bits, number, heard}
+use Rattle.whitening.specs.Bits.{bits, number, bitsOf}
 use Rattle.whitening.specs.Whitening.{whiteningTaps, registerOn, leaving, whitened}
 use Rattle.whitening.specs.Crc.{crcTaps, crcOf, crcOctets, crcGood}
 use Rattle.whitening.specs.Packet.{whitenOf, whitenAfter, startOn, flagOf}
@@ -69,7 +69,7 @@ pub record Recurs (channel : ℕ) : Type 0 where
   pub later : (n : ℕ) → drop 7 (leaving (n + 7) (registerOn channel)) ≡ sum (leaving n (registerOn channel)) (drop 4 (leaving (n + 4) (registerOn channel)))
 
 pub record Whitens : Type 0 where
-  pub adds : (channel : ℕ) (packet : List ℕ) → heard (whitened channel packet) ≡ sum (heard packet) (leaving 336 (registerOn channel))
+  pub adds : (channel : ℕ) (packet : List ℕ) → bitsOf (whitened channel packet) ≡ sum (bitsOf packet) (leaving 336 (registerOn channel))
   pub as-long : (channel : ℕ) (packet : List ℕ) → length packet ≤ 42 → length (whitened channel packet) ≡ length packet
   pub twice : (channel : ℕ) (packet : List ℕ) → length packet ≤ 42 → whitened channel (whitened channel packet) ≡ packet
   -- and of two calls, of any packet, refused or not
@@ -87,9 +87,9 @@ product (q ∷ qs) = sum (each q (terms 25 (24 ∷ 10 ∷ 9 ∷ 6 ∷ 4 ∷ 3 �
 -- The bits as they are heard and 24 zeros after them, the start value's 24 bits added to the front, position 23 first: divided by the polynomial, they leave the CRC.
 pub record Divides (start : ℕ) (octets : List ℕ) : Type 0 where
   pub quotient : List Bool
-  pub size : length quotient ≡ length (heard octets)
-  pub left : sum (heard octets ++ replicate 24 false) (reverse (bits 24 start) ++ replicate (length (heard octets)) false)
-      ≡ sum (product quotient) (replicate (length (heard octets)) false ++ bits 24 (crcOf start octets))
+  pub size : length quotient ≡ length (bitsOf octets)
+  pub left : sum (bitsOf octets ++ replicate 24 false) (reverse (bits 24 start) ++ replicate (length (bitsOf octets)) false)
+      ≡ sum (product quotient) (replicate (length (bitsOf octets)) false ++ bits 24 (crcOf start octets))
 
 -- The octets that are sent are the number's, least significant first; "the low 24 bits of any start value" count.
 pub record Numbers (start : ℕ) (octets : List ℕ) : Type 0 where
@@ -97,14 +97,14 @@ pub record Numbers (start : ℕ) (octets : List ℕ) : Type 0 where
   pub sent : crcOctets start octets ≡ leBytes 3 (crcOf start octets)
   pub low-24 : crcOf start octets ≡ crcOf (start % 2 ^ 24) octets
 
-pub record Checks (start : ℕ) : Type 0 where
+pub record CrcChecks (start : ℕ) : Type 0 where
   pub own : (octets : List ℕ) → crcGood start (octets ++ crcOctets start octets) ≡ true
   pub no-other : (octets last : List ℕ) → length last ≡ 3 → crcGood start (octets ++ last) ≡ true → last ≡ crcOctets start octets
-  pub one-bit : (p q : List ℕ) (before after : List Bool) (b d : Bool) → heard p ≡ before ++ b ∷ after → heard q ≡ before ++ d ∷ after
+  pub one-bit : (p q : List ℕ) (before after : List Bool) (b d : Bool) → bitsOf p ≡ before ++ b ∷ after → bitsOf q ≡ before ++ d ∷ after
       → crcGood start p ≡ true → crcGood start q ≡ true → b ≡ d
 
 -- "10, channel above 39, tested first; a packet above 42 octets is 2, one under 5 is 1": `numberOf` of octets has these numbers. What is refused stays as it is.
-pub record Refusing (channel : ℕ) (packet : List ℕ) : Type 0 where
+pub record WhiteningRefuses (channel : ℕ) (packet : List ℕ) : Type 0 where
   pub no-channel : 39 < channel → whitenOf channel packet ≡ outcome.Refused NoSuchIndex
   pub too-long : channel ≤ 39 → 42 < length packet → whitenOf channel packet ≡ outcome.Refused InvalidLength
   pub too-short : channel ≤ 39 → length packet < 5 → whitenOf channel packet ≡ outcome.Refused Eof
@@ -115,7 +115,7 @@ pub record Refusing (channel : ℕ) (packet : List ℕ) : Type 0 where
   pub flag : (start : ℕ) (e : Error) → whitenOf channel packet ≡ outcome.Refused e → flagOf channel start packet ≡ flag.Refused e
 
 -- "started from `0x555555` on advertising channels and from the connect request's value afterwards", which is "unused on 37 to 39".
-pub record Starting (channel start : ℕ) : Type 0 where
+pub record CrcStartOn (channel start : ℕ) : Type 0 where
   pub data-channels : channel ≤ 36 → startOn channel start ≡ start
   pub advertising-channels : 37 ≤ channel → startOn channel start ≡ 0x555555
   pub unused : 37 ≤ channel → (other : ℕ) (packet : List ℕ) → flagOf channel start packet ≡ flagOf channel other packet
@@ -128,7 +128,7 @@ pub record Hears (channel start : ℕ) : Type 0 where
       → flagOf channel start (whitened channel (octets ++ crcOctets (startOn channel start) octets)) ≡ flag.Is true
   pub no-other : (octets last : List ℕ) → length octets ≤ 39 → length last ≡ 3 → flagOf channel start (whitened channel (octets ++ last)) ≡ flag.Is true
       → last ≡ crcOctets (startOn channel start) octets
-  pub one-bit : (p q : List ℕ) (before after : List Bool) (b d : Bool) → heard p ≡ before ++ b ∷ after → heard q ≡ before ++ d ∷ after
+  pub one-bit : (p q : List ℕ) (before after : List Bool) (b d : Bool) → bitsOf p ≡ before ++ b ∷ after → bitsOf q ≡ before ++ d ∷ after
       → flagOf channel start p ≡ flag.Is true → flagOf channel start q ≡ flag.Is true → b ≡ d
 
 pub record Holds : Type 0 where
@@ -138,7 +138,7 @@ pub record Holds : Type 0 where
   pub whitens : Whitens
   pub divides : (start : ℕ) (octets : List ℕ) → Divides start octets
   pub numbers : (start : ℕ) (octets : List ℕ) → Numbers start octets
-  pub checks : (start : ℕ) → Checks start
-  pub refusing : (channel : ℕ) (packet : List ℕ) → Refusing channel packet
-  pub starting : (channel start : ℕ) → Starting channel start
+  pub checks : (start : ℕ) → CrcChecks start
+  pub refusing : (channel : ℕ) (packet : List ℕ) → WhiteningRefuses channel packet
+  pub starting : (channel start : ℕ) → CrcStartOn channel start
   pub hears : (channel start : ℕ) → Hears channel start

@@ -14,7 +14,7 @@ use Prim.Native.Nat.{ℕ, zero, suc}
 use mathlib.Core.Bool.{Bool, true, false}
 use mathlib.Core.List.{List, [], _∷_, _++_}
 use lib.Bits.{bitXor}
-use Rattle.whitening.specs.Bits.{bits, octetsOf, shifted}
+use Rattle.whitening.specs.Bits.{bits, octetsInBits, shifted}
 
 -- positions 6 to 0
 abbrev pub whiteningTaps : List Bool
@@ -31,7 +31,7 @@ leaving (suc n) [] = []
 leaving (suc n) (out ∷ rest) = out ∷ leaving n (shifted whiteningTaps out rest)
 
 unfoldable pub whitening : ℕ → List ℕ
-whitening channel = octetsOf 42 (leaving 336 (registerOn channel))
+whitening channel = octetsInBits 42 (leaving 336 (registerOn channel))
 
 -- added modulo 2, octet by octet; what is longer is cut
 unfoldable pub plus : List ℕ → List ℕ → List ℕ

@@ -5,7 +5,7 @@
 use octets::bytes::u32_from_le_bytes;
 ghost use mathlib.Core.Path.{_≡_};
 ghost use Prim.Native.Nat.{_<_, _^_};
-ghost use Rattle.whitening.specs.Bits.{bits, heard};
+ghost use Rattle.whitening.specs.Bits.{bits, bitsOf};
 ghost use Rattle.whitening.specs.Crc.{crcStart, crcAfter, crcOf, crcOctets};
 ghost use Rattle.whitening.specs.Number.{Register};
 
@@ -57,7 +57,7 @@ fn after_three(register: u32, three: u32) -> u32
 // The register after octets, three at a time while there are three.
 pub(crate) fn after_octets(register: u32, octets: &[u8]) -> u32
     requires { ⌜ register < 2 ^ 24 ⌝ }
-    ensures { λ r. ⌜ Register r (crcAfter (bits 24 register) (heard (now (octets .entry)))) ⌝ }
+    ensures { λ r. ⌜ Register r (crcAfter (bits 24 register) (bitsOf (now (octets .entry)))) ⌝ }
 {
     let mut reached = register;
     let mut i = 0;

@@ -6,7 +6,7 @@ use lib.ListN.{length, take, length-take}
 use borrow.Author.Needs.{needs}
 use Rattle.hub.specs.State.{hubState, blockStep, takenStep}
 use Rattle.hub_spec.proofs.AnyReads.{block-taken}
-use Rattle.hub_spec.specs.Log.{restOf, blockOf}
+use Rattle.hub_spec.specs.Log.{octetsLeft, blockOf}
 use Rattle.hub_spec.specs.State as spec
 use Rattle.hub_spec.specs.State.{Block}
 use Rattle.hublog.proofs.log_read.Statement.{statement}
@@ -30,7 +30,7 @@ is-block c = same-block (sym (ap takenStep (c .block .given .1)) ∙ taken-in (c
 
 -- what is left over
 left-over : (c : tie.After-block) → let a = c .before .before .before .before .before .before .before .before .before .before .before .args in
-    take (c .block .given .0 .0 .kept) (c .before .before .before .before .before .before .take-in .last .1 .0) ≡ restOf (hubState (a .hub)) (take (a .filled) (a .buf .now))
+    take (c .block .given .0 .0 .kept) (c .before .before .before .before .before .before .take-in .last .1 .0) ≡ octetsLeft (hubState (a .hub)) (take (a .filled) (a .buf .now))
 left-over c =
     let start = c .before .before .before .before .before .before .before .before .before .before .before in
     let a = start .args in

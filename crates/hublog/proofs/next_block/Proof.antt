@@ -10,7 +10,7 @@ use Rattle.hub.specs.State.{hubState, blockStep}
 use Rattle.hub.specs.declared.log.Hub as hub
 use Rattle.hub.specs.declared.log.Block as code
 use Rattle.hub_spec.proofs.AnyReads.{block-taken}
-use Rattle.hub_spec.specs.Log.{restOf, blockOf, RunCounts}
+use Rattle.hub_spec.specs.Log.{octetsLeft, blockOf, RunCounts}
 use Rattle.hub_spec.specs.Reads.{Next, nothing-read, took}
 use Rattle.hub_spec.specs.State.{Hub, Block}
 use Rattle.hublog.proofs.next_block.Statement.{statement}
@@ -34,11 +34,11 @@ still t h buf buf′ is same = nothing-read (is .0) (ap (λ (k : ℕ). take k bu
 
 -- what was read stands behind them
 read-on : (t : Block) (h : Hub) (buf buf′ buf″ : List ℕ) {kept filled : ℕ} → take kept buf′ ≡ take kept buf → kept ≤ filled
-    → (t ≡ blockOf h (take filled buf′)) × (take (t .kept) buf″ ≡ restOf h (take filled buf′)) → Next h (take kept buf) t (take (t .kept) buf″)
+    → (t ≡ blockOf h (take filled buf′)) × (take (t .kept) buf″ ≡ octetsLeft h (take filled buf′)) → Next h (take kept buf) t (take (t .kept) buf″)
 read-on t h buf buf′ buf″ {kept} {filled} same more is =
     let all : take kept buf ++ drop kept (take filled buf′) ≡ take filled buf′ =
     ap (λ (l : List ℕ). l ++ drop kept (take filled buf′)) (sym same ∙ sym (take-take kept filled buf′ more)) ∙ take-append-drop kept (take filled buf′) in
-    took (drop kept (take filled buf′)) (is .0 ∙ ap (blockOf h) (sym all)) (is .1 ∙ ap (restOf h) (sym all))
+    took (drop kept (take filled buf′)) (is .0 ∙ ap (blockOf h) (sym all)) (is .1 ∙ ap (octetsLeft h) (sym all))
 
 returns : tie.Need-returns
 returns c =

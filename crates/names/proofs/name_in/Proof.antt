@@ -9,7 +9,7 @@ use borrow.Author.Needs.{needs}
 use Rattle.octets.specs.Bytes.{part}
 use Rattle.records_spec.specs.Area.{records, AcceptedFrom}
 use Rattle.records_spec.proofs.Cuts.{Step}
-use Rattle.records_spec.proofs.Restored.{Whole, whole-at}
+use Rattle.records_spec.proofs.Restored.{WholeTo, whole-at}
 use Rattle.records_spec.specs.Search.{firstWhere, searched}
 use Rattle.records_spec.specs.declared.area.Found.the-variants.{At}
 use Rattle.records_spec.proofs.Search.{goes-on, at-end}
@@ -38,7 +38,7 @@ unfolding nameIn searched
 loop-holds c = record { from = c .before .pre; so-far = refl }
 
 -- a good record stands there
-whole : (c : tie.In-loop Inv-loop μ-loop) → Whole (c .before .before .before .args .s .now) (c .before .loop .at)
+whole : (c : tie.In-loop Inv-loop μ-loop) → WholeTo (c .before .before .before .args .s .now) (c .before .loop .at)
 whole c = whole-at _ _ (c .before .loop .inv .from) (c .loop-test .taken)
 
 found : tie.Need-returns Inv-loop μ-loop

@@ -49,7 +49,7 @@ use denote.Exit.{yes}
 use denote.Triple.Clauses.{ensured, lasts}
 use Rattle.records_spec.specs.Record.{recordAt}
 use Rattle.records_spec.specs.Area.{records, reads, areaOf, readArea}
-use Rattle.record_iter.specs.Iter.{after, front, onward}
+use Rattle.record_iter.specs.Iter.{atNext, front, onward}
 use Rattle.record_iter.specs.declared.Records.{Records}
 use Rattle.records_spec.specs.declared.ad_structure.Read.{Read}
 use Rattle.records_spec.specs.declared.ad_structure.Read.the-variants.{Record, End}
@@ -83,31 +83,31 @@ use Rattle.record_iter.proofs.read_through.Code as code
 use Rattle.record_iter.proofs.read_through.Code.Mir as pieces
 
 -- ---- what a turn begins with: a position, and the number of records before it
-record Turn (s : List ℕ) : Type 0 where
+record ReadSoFar (s : List ℕ) : Type 0 where
   at : ℕ
   count : ℕ
   so-far : readArea s ≡ counting count (areaOf (reads (records (drop-list at s)) at))
   few : count ≤ at
   inside : at ≤ length s
 
-abbrev less : (s : List ℕ) → Turn s → Turn s → Type 0
+abbrev less : (s : List ℕ) → ReadSoFar s → ReadSoFar s → Type 0
 less s t′ t = length s - t′ .at < length s - t .at
 
 less-wf : (s : List ℕ) → WellFounded (less s)
-less-wf s = InvImage·wf (λ (t : Turn s). length s - t .at) (Nat·lt-wfRel .wf)
+less-wf s = InvImage·wf (λ (t : ReadSoFar s). length s - t .at) (Nat·lt-wfRel .wf)
 
-begin : (s : List ℕ) → Turn s
+begin : (s : List ℕ) → ReadSoFar s
 unfolding readArea
 begin s = record { at = 0; count = 0; so-far = counting-none (readArea s); few = omega arith; inside = omega arith }
 
-module _ (s : List ℕ) (t : Turn s) where
+module _ (s : List ℕ) (t : ReadSoFar s) where
   read-here : {r : Read} → recordAt s (t .at) ≡ r → here s (t .at) ≡ r
   read-here e = sym (at-here s (t .at) (t .inside)) ∙ e
 
   step-on : {a : _} {next : ℕ} → recordAt s (t .at) ≡ Record a next → Step s (t .at) next
   step-on e = stepped s (t .at) (read-here e)
 
-  turn-on : {a : _} {next : ℕ} → recordAt s (t .at) ≡ Record a next → Turn s
+  turn-on : {a : _} {next : ℕ} → recordAt s (t .at) ≡ Record a next → ReadSoFar s
   turn-on {a} {next} e =
       let step : Step s (t .at) next = step-on e in
       record { at = next; count = t .count + 1; so-far = t .so-far ∙ area-more _ _ _ (read-here e); few = omega (arith, t .few, step .later); inside = step .inside }
@@ -247,11 +247,11 @@ module _ {M : Type 1} (𝓤 : URA M) (H : Heap 𝓤) (A : Atoms 𝓤) (W : Given
         ∷ ‵ (fat fullShare word l₃ 0 (vint w64 n)) ∷ ‵ (fdies word l₃) ∷ ‵ (fat fullShare It l₂ 0 (T′.lowered (iter i))) ∷ ‵ (fdies It l₂)
         ∷ ‵ (fat fullShare Slc l₁ 0 v) ∷ ‵ (fdies Slc l₁) ∷ zero ∷ ‵ (fdies Ar′.mir l₀) ∷ []
 
-    abbrev Inv : Turn (now s) → List (Item 𝓤)
+    abbrev Inv : ReadSoFar (now s) → List (Item 𝓤)
     Inv t = Has (t .at) (t .count) (‵ (froom R′.mir l₅ 0)) (‵ (froom Ar′.mir l₀ 0))
 
     -- what is to hold after a turn
-    abbrev Then : Turn (now s) → Kit.Post 𝓤 H
+    abbrev Then : ReadSoFar (now s) → Kit.Post 𝓤 H
     Then t = anyQ (afterTurn 𝓤 H (Below 𝓤 H A (less (now s)) Inv t) (afterBlock 𝓤 H (afterSeq 𝓤 H (Wp 𝓤 H C Λ E pieces.t-4 (atReturn 𝓤 H E Post)) (atReturn 𝓤 H E Post))))
 
     typed : (r : Records) (u : Val) → Is (B (κ, tt)) r (u ∷ []) → Holds (hasTy It u) × WT u
@@ -266,7 +266,7 @@ module _ {M : Type 1} (𝓤 : URA M) (H : Heap 𝓤) (A : Atoms 𝓤) (W : Given
         move ! (9 ∷ 10 ∷ []) $ free1 ! $ move ! (7 ∷ 8 ∷ []) $ free1 ! $ move ! (5 ∷ 6 ∷ []) $ free1 ! $ move ! (3 ∷ 4 ∷ []) $ free1 ! $ free0 ! $ drop ! $ by ! (exits r e is)
 
     -- the match, by cases on what was read
-    matched : (t : Turn (now s)) (r : Read) → recordAt (now s) (t .at) ≡ r → Is R.the-row r (R′.lowered r ∷ [])
+    matched : (t : ReadSoFar (now s)) (r : Read) → recordAt (now s) (t .at) ≡ r → Is R.the-row r (R′.lowered r ∷ [])
         → Sq W (Has (t .at) (t .count) (‵ (fat fullShare R′.mir l₅ 0 (R′.lowered r))) (‵ (froom Ar′.mir l₀ 0))) (runs C Λ E the-match (Then t))
     unfolding afterTurn turn-on
     matched t (Record a n) e is =
@@ -285,7 +285,7 @@ module _ {M : Type 1} (𝓤 : URA M) (H : Heap 𝓤) (A : Atoms 𝓤) (W : Given
       where
         -- the iterator moved on stands after the record
         past : onward (iter (t .at)) ≡ iter n
-        past = ap (λ (r : Read). iter (after (t .at) r)) e
+        past = ap (λ (r : Read). iter (atNext (t .at) r)) e
 
         step : Step (now s) (t .at) n
         step = step-on (now s) t e
@@ -319,7 +319,7 @@ module _ {M : Type 1} (𝓤 : URA M) (H : Heap 𝓤) (A : Atoms 𝓤) (W : Given
             subst (Is Ar.the-row (Area.Refused k)) (Ar′.lowers .val-is (Area.Refused k) _ owes) owes
 
     -- a turn: the record at the iterator's position is read, and the answer stands in _5
-    turn : (t : Turn (now s)) → Sq W (Inv t) (runs C Λ E pieces.turn-1 (Then t))
+    turn : (t : ReadSoFar (now s)) → Sq W (Inv t) (runs C Λ E pieces.turn-1 (Then t))
     turn t =
         peeks ! (B (κ, tt)) (Is (B (κ, tt))) (shows 𝓤 H A (B (κ, tt))) (iter (t .at)) _ (λ it.
         assigns ! (of-opd ! (load ! (from ! (stop !)) (look ! 13 refl))) (from ! (stop !)) (init ! 5 refl (typed (iter (t .at)) _ it)) $

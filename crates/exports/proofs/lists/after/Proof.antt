@@ -6,13 +6,13 @@ use lib.ListN.{length}
 use Rattle.radio_spec.specs.State.{State}
 use Rattle.radio.specs.State.{state}
 use Rattle.exports.specs.Lists.{Board, board, ran, ranAll}
-use Rattle.exports.proofs.Turns.{Turn, turned}
+use Rattle.exports.proofs.Replays.{Replayed, replays-on}
 use borrow.Author.Needs.{needs}
 use Rattle.exports.proofs.lists.after.Statement.{statement}
 use Rattle.exports.proofs.lists.after.Tie as tie
 
 abbrev Inv-loop : tie.InvT-loop
-Inv-loop calls first₀ second₀ device₀ n i₀ first second device i = Turn (board (state device₀) first₀ second₀) calls n first second (state device) i
+Inv-loop calls first₀ second₀ device₀ n i₀ first second device i = Replayed (board (state device₀) first₀ second₀) calls n first second (state device) i
 
 abbrev μ-loop : tie.MeasureT-loop
 μ-loop calls first₀ second₀ device₀ n i₀ first second device i = n - i
@@ -28,7 +28,7 @@ loop-again c =
     record {
       below = omega (arith, c .before .before .before .before .before .before .before .before .before .loop-test .taken);
       small = l .loop .inv .small;
-      reached = turned _ _ (l .loop .i) (l .loop .inv .reached) (c .before .before .before .before .before .before .before .before .part-of .ensures .1) (s .step-with .ensures .0) (s .step-with .ensures .1) (s .step-with .ensures .2);
+      reached = replays-on _ _ (l .loop .i) (l .loop .inv .reached) (c .before .before .before .before .before .before .before .before .part-of .ensures .1) (s .step-with .ensures .0) (s .step-with .ensures .1) (s .step-with .ensures .2);
       long-first = search needs;
       long-second = search needs;
     }

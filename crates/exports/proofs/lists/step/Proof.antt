@@ -9,7 +9,7 @@ use Rattle.addresses.specs.Header.{parsed}
 use Rattle.radio_spec.specs.Call.{Call, callOf}
 use Rattle.radio.specs.State.{state}
 use Rattle.exports.specs.Lists.{headerOr, bufferAfter}
-use Rattle.exports.proofs.Turns.{as-start, as-tick, as-packet, as-event, as-set, as-stop}
+use Rattle.exports.proofs.Replays.{as-start, as-tick, as-packet, as-event, as-set, as-stop}
 use borrow.Author.Needs.{needs}
 use Rattle.exports.proofs.lists.step.Statement.{statement}
 use Rattle.exports.proofs.lists.step.Tie as tie

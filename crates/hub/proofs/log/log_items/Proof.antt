@@ -12,7 +12,7 @@ use Rattle.beacon_spec.specs.State.{BeaconScanner}
 use Rattle.beacon.specs.State.{scannerState}
 use Rattle.items.specs.Item.{wholeSize, items}
 use Rattle.hub_spec.specs.Line.{lineSize, roomFor, line, reportsIn}
-use Rattle.hub_spec.specs.Log.{mostItems, heardIn, after, printed, afterAll, printedAll, itemsFor, linesOf, hubOf, loggedOf, RunCounts, linesIn}
+use Rattle.hub_spec.specs.Log.{mostItems, heardIn, afterItem, printed, afterAll, printedAll, itemsFor, linesOf, hubOf, loggedOf, RunCounts, linesIn}
 use Rattle.hub_spec.specs.State.{Hub}
 use Rattle.items.proofs.Items.{whole-fits, none-whole, one-whole, none-more}
 use Rattle.hub_spec.proofs.Pieces.{Wrote, nothing-yet, as-long, then-piece}
@@ -35,8 +35,8 @@ record Progress (h : Hub) (s out₀ out : List ℕ) (count found : ℕ) (scanner
 
 -- an item is taken
 next-item : (h : Hub) (s : List ℕ) → h .items < mostItems → (wholeSize s ≡ 0 → ⊥)
-    → itemsFor h s ≡ take (wholeSize s) s ∷ itemsFor (after h (take (wholeSize s) s)) (drop (wholeSize s) s)
-unfolding after
+    → itemsFor h s ≡ take (wholeSize s) s ∷ itemsFor (afterItem h (take (wholeSize s) s)) (drop (wholeSize s) s)
+unfolding afterItem
 next-item h s more item =
     let left : mostItems - h .items ≡ suc (mostItems - (h .items + 1)) = omega arith in
     rw left (one-whole (mostItems - (h .items + 1)) s item)
@@ -62,17 +62,17 @@ module _ {h : Hub} {s out₀ out : List ℕ} {count found : ℕ} {scanner : Beac
     unfolding item
     item-long = simp (length-take, length-drop) (omega (arith, fits))
 
-    split : itemsFor (hub count found scanner) (drop at s) ≡ item ∷ itemsFor (after (hub count found scanner) item) (drop (at + size) s)
+    split : itemsFor (hub count found scanner) (drop at s) ≡ item ∷ itemsFor (afterItem (hub count found scanner) item) (drop (at + size) s)
     unfolding item
     split =
         let width : at + size - at ≡ size = omega arith in
         rw (width, ← drop-drop size at s, is) (next-item (hub count found scanner) (drop at s) more (λ e. some (is ∙ e)))
 
     advance : {out′ : List ℕ} → out′ ≡ written (line (count + 1) (heardIn scanner item)) out to
-        → Progress h s out₀ out′ (count + 1) (found + reportsIn (heardIn scanner item)) (after (hub count found scanner) item .scanner) (at + size) (to + lineSize * reportsIn (heardIn scanner item))
-    unfolding afterAll printedAll printed after flatten
+        → Progress h s out₀ out′ (count + 1) (found + reportsIn (heardIn scanner item)) (afterItem (hub count found scanner) item .scanner) (at + size) (to + lineSize * reportsIn (heardIn scanner item))
+    unfolding afterAll printedAll printed afterItem flatten
     advance is-out =
-        let octets : length (flatten (itemsFor (hub count found scanner) (drop at s))) ≡ size + length (flatten (itemsFor (after (hub count found scanner) item) (drop (at + size) s))) =
+        let octets : length (flatten (itemsFor (hub count found scanner) (drop at s))) ≡ size + length (flatten (itemsFor (afterItem (hub count found scanner) item) (drop (at + size) s))) =
         ap (λ (its : List (List ℕ)). length (flatten its)) split ∙ simp (length-append, item-long) in
         record {
           lines = p .lines ++ line (count + 1) (heardIn scanner item);
@@ -156,7 +156,7 @@ added : (c : tie.After-log-item Inv-loop μ-loop) → c .log-item .result ≤ 1
 added c = rw (c .log-item .ensures .0) (one-report _)
 
 loop-again : tie.Need-loop-again Inv-loop μ-loop
-unfolding item after
+unfolding item afterItem
 loop-again c =
     let at-call = c .before .before .before in
     let at-test = at-call .before .before .before in

@@ -6,8 +6,8 @@ use Prim.Native.Nat.{ℕ, _-_, _≤_}
 use native.Mathlib.Omega.{arith}
 use lib.ListN.{length, take, drop, length-take, length-drop}
 use borrow.Author.Needs.{needs}
-use Rattle.items.specs.Item.{behind}
-use Rattle.hub_spec.specs.Log.{mostItems, hubOf, restOf, isStuck, loggedOf, blockOf, restIn}
+use Rattle.items.specs.Item.{afterItems}
+use Rattle.hub_spec.specs.Log.{mostItems, hubOf, octetsLeft, isStuck, loggedOf, blockOf, restIn}
 use Rattle.hub_spec.specs.State.{Hub, Logged}
 use Rattle.items.proofs.Items.{items-fit}
 use Rattle.hub.specs.State.{hubState, loggedStep}
@@ -26,18 +26,18 @@ module _ (h : Hub) (buf : List ℕ) (filled : ℕ) (g : Logged) (inside : filled
   left : List ℕ
   left = take (filled - g .taken) (drop (g .taken) buf)
 
-  left-over : left ≡ restOf h (take filled buf)
-  unfolding left behind
+  left-over : left ≡ octetsLeft h (take filled buf)
+  unfolding left afterItems
   left-over = sym (drop-take (g .taken) filled buf) ∙ ap (λ (x : Logged). drop (x .taken) (take filled buf)) is
 
-  left-long : filled - g .taken ≡ length (restOf h (take filled buf))
+  left-long : filled - g .taken ≡ length (octetsLeft h (take filled buf))
   unfolding left
   left-long = sym (simp (length-take, length-drop) (omega arith)) ∙ ap length left-over
 
   answer : {stopped : Bool} → stopped ≡ isStuck (g .hub .items) left
       → record { hub = g .hub; written = g .written; kept = filled - g .taken; «is_stopped» = stopped } ≡ blockOf h (take filled buf)
   answer is-stopped =
-      let stop : _ ≡ isStuck (hubOf h (take filled buf) .items) (restOf h (take filled buf)) = is-stopped ∙ (λ i. isStuck (is i .hub .items) (left-over i)) in
+      let stop : _ ≡ isStuck (hubOf h (take filled buf) .items) (octetsLeft h (take filled buf)) = is-stopped ∙ (λ i. isStuck (is i .hub .items) (left-over i)) in
       λ i. record { hub = is i .hub; written = is i .written; kept = left-long i; «is_stopped» = stop i }
 
   moved : {buf′ : List ℕ} → buf′ ≡ left ++ drop (filled - g .taken) buf → buf′ ≡ restIn h buf filled

@@ -42,7 +42,7 @@ use denote.Triple.Walked.{says, Stays, stay-none, walkOf, goes-none, Walks, ends
 use denote.Exit.{yes}
 use Rattle.record_iter.specs.Iter.{positionAfter}
 use Rattle.record_iter.specs.declared.Records.{Records}
-use Rattle.record_iter.proofs.TakenApart.{B, passed, Token, Own, Entry, Asked, apart}
+use Rattle.record_iter.proofs.TakenApart.{B, passed, Token, Own, AtEntry, Asked, apart}
 use Rattle.record_iter.proofs.Records as T
 use Rattle.record_iter.proofs.Records.Laws as T′
 use Rattle.record_iter.proofs.position_after as position
@@ -96,9 +96,9 @@ module _ {M : Type 1} (𝓤 : URA M) (H : Heap 𝓤) (A : Atoms 𝓤) (W : Given
   said n = exE 𝓤 _ (λ ws. snd∗ 𝓤 (sem 𝓤 H A (lasts position.ended (κ, tt) (d .records, (d .at, tt)) ws)) (fact 𝓤 (Said n)))
 
   module _ (C : Calls 𝓤 H) (Λ : Loops 𝓤 H) (fm : FmC 𝓤 H (W .laws) C) (known : Triple 𝓤 (C #position-after) (Position 𝓤 H A mem run)) where
-    walk : Holds (hasTy (T′.mir (named 0)) (T′.lowered d)) × WT (T′.lowered d) → ent 𝓤 (Entry 𝓤 H A W κ q d) (WpFn 𝓤 H C Λ code.function (T′.lowered d ∷ []) Post)
+    walk : Holds (hasTy (T′.mir (named 0)) (T′.lowered d)) × WT (T′.lowered d) → ent 𝓤 (AtEntry 𝓤 H A W κ q d) (WpFn 𝓤 H C Λ code.function (T′.lowered d ∷ []) Post)
     walk wt =
-        qed W (raw (Entry 𝓤 H A W κ q d) ∷ []) ∵ enter ! C Λ code.function (T′.lowered d ∷ []) _ $
+        qed W (raw (AtEntry 𝓤 H A W κ q d) ∷ []) ∵ enter ! C Λ code.function (T′.lowered d ∷ []) _ $
         alloc1 ! (λ l₀. alloc1 ! (λ l₁. alloc1 ! (λ l₂. alloc1 ! (λ l₃. alloc1 ! (λ l₄. alloc1 ! (λ l₅. alloc0 ! $ params1 ! $ pass1 ! (init ! 8 refl wt) $ pass0 ! $
         assigns ! (of-opd ! (load ! (from ! (fld ! refl (stop !))) (look-in ! 8 (sub ! 0 refl (whole !))))) (from ! (stop !)) (init ! 4 refl (tt, wt .1 .0)) $
         assigns ! (of-opd ! (load ! (from ! (fld ! refl (stop !))) (look-in ! 8 (sub ! 1 refl (whole !))))) (from ! (stop !)) (init ! 2 refl (tt, wt .1 .1 .0)) $

@@ -13,13 +13,13 @@ use Rattle.octets.specs.declared.bytes.Written.{Written}
 use Rattle.octets.specs.Bytes.{has}
 use Rattle.records_spec.specs.declared.ad_structure.AdStructure.{AdStructure}
 use Rattle.records_spec.specs.declared.ad_structure.AdStructure.the-variants as ad
-use Rattle.records_spec.specs.Write.{Outline, ownOf, IsOutline, mayWrite, lentTo, lentAfter, writtenTo, writtenAfter}
+use Rattle.records_spec.specs.Write.{Outline, recordOwn, IsOutline, mayWrite, lentTo, lentAfter, writtenTo, writtenAfter}
 use Rattle.records_spec.specs.Order.{Lends, lentOctets}
 use Rattle.records_spec.proofs.Outlines.{written-by-outline}
 use Rattle.records.proofs.ad_structure.write_record.Statement.{statement}
 use Rattle.records.proofs.ad_structure.write_record.Tie as tie
 
-own-short : (a : AdStructure) → length (ownOf a) ≤ 2
+own-short : (a : AdStructure) → length (recordOwn a) ≤ 2
 own-short (ad.Flags f) = omega arith
 own-short (ad.ServiceUuids16 complete start len) = omega arith
 own-short (ad.ServiceUuids32 complete start len) = omega arith

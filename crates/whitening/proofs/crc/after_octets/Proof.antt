@@ -4,7 +4,7 @@ use Prim.Native.Nat.{ℕ, _+_, _-_, _<_, _≤_, _^_}
 use native.Mathlib.Omega.{arith}
 use borrow.Author.Needs.{needs}
 use lib.ListN.{length, drop}
-use Rattle.whitening.specs.Bits.{bits, heard}
+use Rattle.whitening.specs.Bits.{bits, bitsOf}
 use Rattle.whitening.specs.Crc.{crcAfter}
 use Rattle.whitening.proofs.Registers.{octets-turn, three-turn, octets-end}
 use Rattle.whitening.proofs.crc.after_octets.Statement.{statement}
@@ -12,7 +12,7 @@ use Rattle.whitening.proofs.crc.after_octets.Tie as tie
 
 abbrev Inv-loop : tie.InvT-loop
 Inv-loop register octets reached₀ i₀ reached i =
-    (i ≤ length octets) × ((reached < 2 ^ 24) × (crcAfter (bits 24 reached) (heard (drop i octets)) ≡ crcAfter (bits 24 register) (heard octets)))
+    (i ≤ length octets) × ((reached < 2 ^ 24) × (crcAfter (bits 24 reached) (bitsOf (drop i octets)) ≡ crcAfter (bits 24 register) (bitsOf octets)))
 
 abbrev μ-loop : tie.MeasureT-loop
 μ-loop register octets reached₀ i₀ reached i = length octets - i

@@ -1,6 +1,6 @@
 -- `crc::crc_octets` meets its contract. Assumes nothing.
 use borrow.Author.Needs.{needs}
-use Rattle.whitening.specs.Bits.{heard}
+use Rattle.whitening.specs.Bits.{bitsOf}
 use Rattle.whitening.proofs.Numbers.{started, crc-sent}
 use Rattle.whitening.proofs.crc.crc_octets.Statement.{statement}
 use Rattle.whitening.proofs.crc.crc_octets.Tie as tie
@@ -12,7 +12,7 @@ returns : tie.Need-returns
 returns c =
     let args = c .before .before .before .args in
     crc-sent (args .start) (args .octets .now) (c .after-octets .result)
-    (started (args .start) (heard (args .octets .now)) (c .before .register-at .result) (c .after-octets .result) (c .before .register-at .ensures) (c .after-octets .ensures))
+    (started (args .start) (bitsOf (args .octets .now)) (c .before .register-at .result) (c .after-octets .result) (c .before .register-at .ensures) (c .after-octets .ensures))
 
 pub crc-octets-spec : {M : Type 1} → statement M
 crc-octets-spec =

@@ -6,7 +6,7 @@ use native.Mathlib.Omega.{arith}
 use borrow.Author.Needs.{needs}
 use lib.ListN.{length, take, drop, length-take}
 use lib.Seq.{take-at}
-use Rattle.whitening.specs.Bits.{bits, heard}
+use Rattle.whitening.specs.Bits.{bits, bitsOf}
 use Rattle.whitening.specs.Crc.{crcAfter}
 use Rattle.whitening.specs.Number.{Register}
 use Rattle.whitening.specs.Packet.{startOn}
@@ -52,12 +52,12 @@ returns c =
     let start = startOn (args .channel) (args .start) in
     let front = take-at (sum .last .0) (drop (length packet) (octets .result)) (length packet) (sum-length (c .before .before .before .before)) in
     let is = front ∙ sum .ensures ∙ plus-comm (take (length packet) (octets .result)) packet ∙ plus-row (args .channel) packet (octets .result) (octets .ensures) in
-    let after : Register (c .after-octets .result) (crcAfter (bits 24 (first .result)) (heard clear)) =
-    subst (λ (l : List ℕ). Register (c .after-octets .result) (crcAfter (bits 24 (first .result)) (heard l))) is (c .after-octets .ensures) in
+    let after : Register (c .after-octets .result) (crcAfter (bits 24 (first .result)) (bitsOf clear)) =
+    subst (λ (l : List ℕ). Register (c .after-octets .result) (crcAfter (bits 24 (first .result)) (bitsOf l))) is (c .after-octets .ensures) in
     let least : 3 ≤ length clear = omega (arith, whitened-length (args .channel) packet (omega arith)) in
     good-is start clear (c .after-octets .result) least
     (whitened-octets (args .channel) packet (octets-all packet (λ j. omega (arith, known .given j))))
-    (started start (heard clear) (first .result) (c .after-octets .result) (first .ensures) after)
+    (started start (bitsOf clear) (first .result) (c .after-octets .result) (first .ensures) after)
 
 pub is-good-spec : {M : Type 1} → statement M
 is-good-spec =

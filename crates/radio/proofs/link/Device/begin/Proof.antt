@@ -18,21 +18,21 @@ use Rattle.radio.proofs.link.Device.begin.Statement.{statement}
 use Rattle.radio.proofs.link.Device.begin.Tie as tie
 
 -- what the code makes of a hop
-abbrev after : State → Instant → ConnectRequestData → ConnectionSettings → Hop → Step
-after d end l s (hop.To unmapped channel) = connectedAt d end l s unmapped channel
-after d end l s (hop.Refused e) = refusal d e
+abbrev begunOn : State → Instant → ConnectRequestData → ConnectionSettings → Hop → Step
+begunOn d end l s (hop.To unmapped channel) = connectedAt d end l s unmapped channel
+begunOn d end l s (hop.Refused e) = refusal d e
 
 -- what the first hop came to
 is : (c : tie.After-hop-channel)
     → let a = c .before .before .before .args in
-    begun (state (a .self)) (a .rx-end) (a .lldata) (a .settings) ≡ after (state (a .self)) (a .rx-end) (a .lldata) (a .settings) (c .hop-channel .result)
+    begun (state (a .self)) (a .rx-end) (a .lldata) (a .settings) ≡ begunOn (state (a .self)) (a .rx-end) (a .lldata) (a .settings) (c .hop-channel .result)
 is c =
     let start = c .before .before .before in
     let a = start .args in
     let hop-is : c .hop-channel .result ≡ hopped (a .settings .chm) 0 (a .settings .hop) =
     c .hop-channel .ensures ∙ rw (c .before .before .channel-map .ensures, c .before .hop .ensures) in
     let there = hop-there (a .settings .chm) 0 (a .settings .hop) (omega arith) (omega (arith, start .pre .two-channels)) in
-    ap (after (state (a .self)) (a .rx-end) (a .lldata) (a .settings)) (sym (hop-is ∙ there))
+    ap (begunOn (state (a .self)) (a .rx-end) (a .lldata) (a .settings)) (sym (hop-is ∙ there))
 
 returns : tie.Need-returns
 returns c =
@@ -45,7 +45,7 @@ returns c =
     rw (is there, c .before .before .before .before .before .before .before .before .before .unmapped-channel .given .1, there .before .before .channel-map .ensures, there .before .hop .ensures, c .crc-init .ensures, c .before .access-address .ensures, time)
 
 returns-2 : tie.Need-returns-2
-returns-2 c = c .refused .ensures ∙ sym (is (c .before .before .before .before) ∙ ap (after _ _ _ _) (c .before .before .error .given .1))
+returns-2 c = c .refused .ensures ∙ sym (is (c .before .before .before .before) ∙ ap (begunOn _ _ _ _) (c .before .before .error .given .1))
 
 pub begin-spec : {M : Type 1} → statement M
 begin-spec =
