@@ -5,9 +5,10 @@ use Prim.Native.Nat.{ℕ, zero, suc, _+_, _≤_}
 use native.Mathlib.Omega.{arith}
 use lib.ListN.{length, getD, take, drop, length-append, length-take, length-drop, take-append-drop}
 use lib.Seq.{take-append-seam, drop-append-seam, drop-append-add, drop-drop}
+use Rattle.octets.specs.Lists.{total}
 use Rattle.octets.specs.Bytes.{part}
 use Rattle.advertising.specs.Laws.{Figure}
-use Rattle.advertising.specs.Pdu.{total, fieldAt}
+use Rattle.advertising.specs.Pdu.{fieldAt}
 
 tiled : (fs : List (List ℕ)) (further : List ℕ) (k : ℕ) → fieldAt (map length fs) k (flatten fs ++ further) ≡ getD fs k []
 unfolding flatten

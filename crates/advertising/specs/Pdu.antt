@@ -8,7 +8,6 @@
 --     LLData      | AA 4 | CRCInit 3 | WinSize 1 | WinOffset 2 | Interval 2 | Latency 2 | Timeout 2 | ChM 5 | Hop 5 bits, SCA 3 bits |
 --
 -- TxAdd is the kind of the first address and RxAdd that of the second. Numbers stand least significant octet first.
---   total widths                         == the sum of these widths
 --   fieldAt widths k p                   == field k of a payload, where its figure has these widths in octets
 --   undirectedFigure, directedFigure, connectFigure == the widths of the figures: with records, with two addresses, and of a connect request
 --   accuracyOf n                         == the sleep clock accuracy of a code (2.3.3.1)
@@ -38,6 +37,7 @@ use Prim.Native.Nat.{ℕ, _+_, _-_, _*_, _/_, _%_}
 use lib.Dec.{eqb, leb, ltb}
 use lib.ListN.{length, getD, take, drop}
 use denote.Ref.{RefT}
+use Rattle.octets.specs.Lists.{total}
 use Rattle.channels.specs.Map.{fromRaw}
 use Rattle.octets.specs.Bytes.{part, partOr, partPlace, le}
 use Rattle.octets.specs.Error.{isAccepted}
@@ -65,10 +65,6 @@ use Rattle.octets.specs.declared.error.Outcome.the-variants.{Accepted, Refused}
 use Rattle.advertising.specs.declared.pdu.Padded.{Padded}
 use Rattle.advertising.specs.declared.pdu.SleepClockAccuracy.{SleepClockAccuracy}
 use Rattle.advertising.specs.declared.pdu.SleepClockAccuracy.the-variants.{Ppm251To500, Ppm151To250, Ppm101To150, Ppm76To100, Ppm51To75, Ppm31To50, Ppm21To30, Ppm0To20}
-
-abbrev pub total : List ℕ → ℕ
-total [] = 0
-total (w ∷ ws) = w + total ws
 
 abbrev pub fieldAt : List ℕ → ℕ → List ℕ → List ℕ
 fieldAt widths k p = part (getD widths k 0) p (total (take k widths))

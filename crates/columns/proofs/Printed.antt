@@ -8,8 +8,9 @@ use lib.Dec.{ltb}
 use lib.ListN.{length, getD, take, drop, replicate, length-drop}
 use lib.Seq.{drop-cons}
 use borrow.Author.Tests.{lt-ltb, le-ltb, le-leb, ltb-true, ltb-false}
+use Rattle.octets.specs.Laws.{Octets}
 use Rattle.columns.specs.Column.{leading, column}
-use Rattle.columns.specs.Table.{octetColumns, octetFrom, octetLike, numberFrom, octetsFrom, AllOctets, Printed}
+use Rattle.columns.specs.Table.{octetColumns, octetFrom, octetLike, numberFrom, octetsFrom, Printed}
 use Rattle.columns.proofs.Pairs.{leading-some, pair-same, column-pair}
 use Rattle.columns.proofs.Justified.{leading-blank}
 use Rattle.columns.proofs.Table.{copied}
@@ -78,13 +79,13 @@ number zero n = refl
 number (suc zero) n = one-column n (ltb n 256) refl
 number (suc (suc w)) n = two-columns w n (number w (n / 100)) (ltb n 256) refl
 
-octets : (os out : List ℕ) → AllOctets os → length out ≡ 4 * length os → octetsFrom octetColumns os out ≡ flatten (map (column 4) os)
+octets : (os out : List ℕ) → Octets os → length out ≡ 4 * length os → octetsFrom octetColumns os out ≡ flatten (map (column 4) os)
 unfolding octetsFrom flatten
 octets [] [] all long = refl
 octets [] (x ∷ out) all long = absurd (omega arith)
 octets (o ∷ os) out all long =
     let rest : length (drop 4 out) ≡ 4 * length os = rw length-drop (omega arith) in
-    rw (le-leb 4 (length out) (omega arith), octet 4 o (all 0 (omega arith)), octets os (drop 4 out) (λ i inside. all (suc i) (omega arith)) rest)
+    rw (le-leb 4 (length out) (omega arith), octet 4 o (all .0), octets os (drop 4 out) (all .1) rest)
 
 pub printed : Printed
 printed = record { octet = octet; number = number; octets = octets }

@@ -10,8 +10,9 @@ use lib.ListN.{length, replicate, length-append}
 use lib.Seq.{take-at, drop-at}
 use lib.Dec.{ltb}
 use borrow.Author.Tests.{ne-eqb, ltb-true, ltb-false}
-use Rattle.columns.specs.Column.{column, digits, readDecimal, AllDigits}
-use Rattle.columns.specs.Row.{rowOf, readColumn, readRow, total, Fits, Row}
+use Rattle.octets.specs.Lists.{total, All}
+use Rattle.columns.specs.Column.{column, digits, readDecimal, IsDigit}
+use Rattle.columns.specs.Row.{rowOf, readColumn, readRow, Fits, Row}
 use Rattle.columns.proofs.Widths.{column-length}
 use Rattle.columns.proofs.Justified.{justified, decimal, read-snoc}
 
@@ -21,7 +22,7 @@ read-spaces zero s = refl
 read-spaces (suc m) s = read-spaces m s
 
 -- digits are no spaces
-read-digits : (s : List ℕ) → AllDigits s → readColumn s ≡ readDecimal 0 s
+read-digits : (s : List ℕ) → All IsDigit s → readColumn s ≡ readDecimal 0 s
 unfolding readColumn readDecimal
 read-digits [] all = refl
 read-digits (c ∷ s) all = rw (ne-eqb c 32 (λ e. omega (arith, all .0 .0))) refl

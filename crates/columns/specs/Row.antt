@@ -5,9 +5,7 @@
 --   rowOf ws ns         == the numbers ns in columns of the widths ws, one behind the other, and the octet 0A
 --   readColumn s        == the number in a column: spaces before its digits are passed over
 --   readRow ws s        == the numbers in columns of these widths, which s begins with
---   total ws            == how many octets these columns have
 --   Fits ws ns          == there are as many numbers as columns, and none is too long for its column
---   AllFit ws rows      == the same of each row
 --   Row ws ns           == numbers that fit are read again, and no others (Rows.row)
 use mathlib.Core.Path.{_≡_}
 use mathlib.Core.Bool.{cond}
@@ -15,6 +13,7 @@ use mathlib.Core.List.{List, [], _∷_, _++_}
 use Prim.Native.Nat.{ℕ, _+_, _^_, _<_}
 use lib.Dec.{eqb}
 use lib.ListN.{length, take, drop}
+use Rattle.octets.specs.Lists.{total}
 use Rattle.columns.specs.Column.{column, readDecimal}
 
 unfoldable pub rowOf : List ℕ → List ℕ → List ℕ
@@ -30,20 +29,12 @@ unfoldable pub readRow : List ℕ → List ℕ → List ℕ
 readRow [] s = []
 readRow (w ∷ ws) s = readColumn (take w s) ∷ readRow ws (drop w s)
 
-abbrev pub total : List ℕ → ℕ
-total [] = 0
-total (w ∷ ws) = w + total ws
-
 -- w columns, one or more, hold w decimal digits: the numbers below 10 ^ w
 abbrev pub Fits : List ℕ → List ℕ → Type 0
 Fits [] [] = Unit {0}
 Fits [] (n ∷ ns) = ⊥
 Fits (w ∷ ws) [] = ⊥
 Fits (w ∷ ws) (n ∷ ns) = (n < 10 ^ w) × Fits ws ns
-
-abbrev pub AllFit : List ℕ → List (List ℕ) → Type 0
-AllFit ws [] = Unit {0}
-AllFit ws (row ∷ rows) = Fits ws row × AllFit ws rows
 
 -- Numbers that fit are read again, whatever stands behind the row; and numbers that are read again fit.
 pub record Row (ws ns : List ℕ) : Type 0 where

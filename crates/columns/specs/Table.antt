@@ -11,7 +11,7 @@
 --   endsAs n                  == an octet that ends as n does; n itself where that is an octet
 --   numberFrom t w n          == n in w columns, an octet at a time
 --   octetsFrom t os out       == each of the octets os in the next four columns of `out`, as far as there are four
---   AllOctets os              == these are octets
+--   Octets os              == these are octets
 --   Printed                   == from `octetColumns` all this is copied as `column` says (Printed.printed)
 use mathlib.Core.Path.{_≡_}
 use Prim.Native.Nat.{ℕ, zero, suc, _+_, _-_, _*_, _/_, _%_, _<_, _≤_}
@@ -19,6 +19,7 @@ use mathlib.Core.Bool.{cond}
 use mathlib.Core.List.{List, [], _∷_, _++_, map, flatten}
 use lib.Dec.{leb, ltb}
 use lib.ListN.{length, getD, take, drop}
+use Rattle.octets.specs.Laws.{Octets}
 use Rattle.columns.specs.Column.{column}
 
 unfoldable pub columnsFrom : ℕ → ℕ → List ℕ
@@ -56,10 +57,7 @@ unfoldable pub octetsFrom : List ℕ → List ℕ → List ℕ → List ℕ
 octetsFrom t [] out = out
 octetsFrom t (o ∷ os) out = cond (leb 4 (length out)) (octetFrom t 4 o ++ octetsFrom t os (drop 4 out)) out
 
-abbrev pub AllOctets : List ℕ → Type 0
-AllOctets os = (i : ℕ) → i < length os → getD os i 0 < 256
-
 pub record Printed : Type 0 where
   pub octet : (w n : ℕ) → n < 256 → octetFrom octetColumns w n ≡ column w n
   pub number : (w n : ℕ) → numberFrom octetColumns w n ≡ column w n
-  pub octets : (os out : List ℕ) → AllOctets os → length out ≡ 4 * length os → octetsFrom octetColumns os out ≡ flatten (map (column 4) os)
+  pub octets : (os out : List ℕ) → Octets os → length out ≡ 4 * length os → octetsFrom octetColumns os out ≡ flatten (map (column 4) os)

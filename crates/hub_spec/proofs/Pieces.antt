@@ -6,12 +6,13 @@ use native.Mathlib.Omega.{arith}
 use lib.ListN.{length, set, take, drop, length-append, length-take, length-drop, take-append-drop}
 use lib.Seq.{drop-drop}
 use borrow.Rule.Slice.PartMut.{putMid}
+use Rattle.octets.specs.Laws.{Octets}
 use Rattle.octets.specs.Bytes.{written}
 use Rattle.octets.proofs.Laws.{written-keeps, set-written, written-written}
 use Rattle.channels.specs.declared.phy.AdvertisingChannel.{AdvertisingChannel}
 use Rattle.addresses.specs.declared.device_address.DeviceAddress.{DeviceAddress}
 use Rattle.columns.specs.Column.{column}
-use Rattle.columns.specs.Table.{octetColumns, octetFrom, numberFrom, octetsFrom, AllOctets}
+use Rattle.columns.specs.Table.{octetColumns, octetFrom, numberFrom, octetsFrom}
 use Rattle.columns.proofs.Printed.{printed}
 use Rattle.columns.proofs.Widths.{column-length}
 use Rattle.hub_spec.specs.Line.{reportLine, lineSize, lastSize}
@@ -92,7 +93,7 @@ module _ {out₀ : List ℕ} {at : ℕ} {done out : List ℕ} {next : ℕ} (w : 
     then-number width n fits is =
         then-put width n fits (is ∙ ap (λ (t : List ℕ). numberFrom t (length (take (next + width - next) (drop next out))) n) is-table ∙ printed .number (length (take (next + width - next) (drop next out))) n)
 
-    pub then-octets : (octets : List ℕ) {part : List ℕ} → AllOctets octets → next + 4 * length octets ≤ length out₀
+    pub then-octets : (octets : List ℕ) {part : List ℕ} → Octets octets → next + 4 * length octets ≤ length out₀
         → part ≡ octetsFrom table octets (take (next + 4 * length octets - next) (drop next out))
         → Wrote out₀ at (done ++ flatten (map (column 4) octets)) (putMid next (next + 4 * length octets - next) out part) (next + 4 * length octets)
     then-octets octets all fits is =

@@ -9,6 +9,7 @@ use lib.ListN.{length, take, drop, length-append}
 use lib.Seq.{drop-length, take-at, drop-at, drop-drop}
 use lib.Dec.{leb, eqb, eqb·suc-zero}
 use borrow.Author.Tests.{eqb-true, ne-eqb, le-leb, lt-ltb, le-ltb, lt-leb}
+use Rattle.octets.specs.Lists.{All}
 use Rattle.octets.specs.Bytes.{le}
 use Rattle.octets.specs.Laws.{Octets}
 use Rattle.channels.specs.Laws.{cycles}
@@ -29,10 +30,10 @@ use Rattle.beacon_spec.specs.declared.beacon.Report.the-variants as report
 use Rattle.columns.proofs.Rows.{row}
 use Rattle.columns.proofs.Widths.{column-length}
 use Rattle.columns.specs.Column.{column}
-use Rattle.columns.specs.Row.{rowOf, Fits, AllFit}
+use Rattle.columns.specs.Row.{rowOf, Fits}
 use Rattle.items.proofs.Falling.{falls}
 use Rattle.items.proofs.Items.{cut}
-use Rattle.items.specs.Item.{items, afterItems, IsItem, tick, packet, AllItems}
+use Rattle.items.specs.Item.{items, afterItems, IsItem, tick, packet}
 use Rattle.hub_spec.specs.Line.{sentColumns, reportLine, line, reportsIn, lineSize}
 use Rattle.hub_spec.specs.Log.{mostItems, start, isCrcGood, heardIn, scannerAfter, afterItem, printed, afterAll, printedAll, leftOver, lastLine, freshHub, itemsFor, logOf, isStuck}
 use Rattle.hub_spec.specs.Reported as spec
@@ -223,7 +224,7 @@ each-line [] b = refl
 each-line (row ∷ a) b = rw (each-line a b) (sym (append-assoc (rowOf reportWidths row) (lineEach a) (lineEach b)))
 
 told : (k : ℕ) (from : AdvertisingChannel) (before : List (List ℕ)) (h : Hub) (its : List (List ℕ)) → h .items ≡ k + length before → Heard from before (h .scanner)
-    → h .scanner .filter .scan ≡ AllowAll → AllItems its → Told k from before h its
+    → h .scanner .filter .scan ≡ AllowAll → All IsItem its → Told k from before h its
 unfolding afterAll printedAll afterItem printed flatten
 told k from before h [] number heard all-pass all =
     record {
@@ -256,7 +257,7 @@ nothing-heard s = record { ticks = 0; ticked = spec.no-items; channel = refl }
 pub continued : (h : Hub) (s : List ℕ) (passing : h .scanner .filter .scan ≡ AllowAll) → Continued h s passing
 continued h s passing =
     let its : List (List ℕ) = itemsFor h s in
-    let are : AllItems its = falls (mostItems - h .items) s .each in
+    let are : All IsItem its = falls (mostItems - h .items) s .each in
     let all = told (h .items) (h .scanner .channel) [] h its (omega arith) (nothing-heard (h .scanner)) passing are in
     record {
       rows = all .rows;
@@ -324,7 +325,7 @@ reported s =
     let sum : end .reports ≡ length (all .rows) = all .report-count ∙ omega arith in
     let last : List ℕ = rowOf lastWidths (length its ∷ length (all .rows) ∷ flag ∷ []) in
     let log : logOf s ≡ lineEach (all .rows) ++ last = rw (all .lines, last-is end (length (afterItems its s)), size, sum) refl in
-    let fit : Octets s → AllFit reportWidths (all .rows) = all .fit (omega arith, omega arith) in
+    let fit : Octets s → All (Fits reportWidths) (all .rows) = all .fit (omega arith, omega arith) in
     let last-fits : Fits lastWidths (length its ∷ length (all .rows) ∷ flag ∷ []) =
     rw (size, sum) at (rowed end 0 .last-fits (block-taken freshHub s .counted (omega arith, omega arith)) flag (over-one (length (afterItems its s)))) in
     record {

@@ -5,6 +5,7 @@ use mathlib.Core.Logic.{inl, inr}
 use Prim.Native.Nat.{ℕ, zero, suc, _+_, _-_, _*_, _≤_}
 use native.Mathlib.Omega.{arith}
 use lib.ListN.{length, replicate, length-append, length-replicate}
+use Rattle.octets.specs.Lists.{All}
 use Rattle.addresses.specs.Header.{pduType}
 use Rattle.advertising.specs.Pdu.{decodeBy, byType, undirected, withArea}
 use Rattle.beacon_spec.specs.Scanner.{scanned}
@@ -13,7 +14,7 @@ use Rattle.columns.specs.Column.{leading, column}
 use Rattle.columns.specs.Text.{ascii, lines}
 use Rattle.items.proofs.Falling.{falls}
 use Rattle.items.proofs.Items.{one-whole, none-whole}
-use Rattle.items.specs.Item.{sizeOf, wholeSize, items, afterItems, tick, packet, AllItems}
+use Rattle.items.specs.Item.{IsItem, sizeOf, wholeSize, items, afterItems, tick, packet}
 use Rattle.records_spec.specs.Area.{cut, reads, withFirst, areaOf, readArea}
 use Rattle.records_spec.specs.HubReading.{beforeZero, unpadded, isZeros, endedBy, readPadded, areaIn}
 use Rattle.records_spec.specs.Record.{first, flagsRead, dataRead, upTo, recordRead}
@@ -68,7 +69,7 @@ unfolding sizeOf wholeSize
 cut-item = none-whole mostItems (0x01 ∷ 0x42 ∷ []) refl
 
 -- items, one behind the other
-each-found : (its : List (List ℕ)) (n : ℕ) (rest : List ℕ) → AllItems its → items (length its + n) (flatten its ++ rest) ≡ its ++ items n rest
+each-found : (its : List (List ℕ)) (n : ℕ) (rest : List ℕ) → All IsItem its → items (length its + n) (flatten its ++ rest) ≡ its ++ items n rest
 unfolding flatten
 each-found [] n rest all = ap (λ (k : ℕ). items k rest) (omega arith)
 each-found (item ∷ its) n rest all =
@@ -108,7 +109,7 @@ sample =
     }
 
 -- short beacons, one behind the other
-short-items : (k : ℕ) → AllItems (replicate k shortBeacon)
+short-items : (k : ℕ) → All IsItem (replicate k shortBeacon)
 short-items zero = tt
 short-items (suc k) = (packet _ _ _ _ (inl refl) refl, short-items k)
 

@@ -16,6 +16,7 @@ use mathlib.Core.Bool.{true, false}
 use mathlib.Core.List.{List, [], _∷_, _++_, map, flatten}
 use Prim.Native.Nat.{ℕ, suc, _+_, _*_, _/_, _%_, _<_, _≤_}
 use lib.ListN.{length, getD, take, drop}
+use Rattle.octets.specs.Lists.{All}
 use Rattle.octets.specs.Bytes.{part}
 use Rattle.octets.specs.Laws.{Octets}
 use Rattle.channels.specs.Laws.{cycles}
@@ -32,7 +33,7 @@ use Rattle.addresses.specs.declared.filter.AddressFilter.the-variants.{AllowAll
 use Rattle.advertising.specs.Pdu.{heardOf}
 use Rattle.octets.specs.declared.error.Outcome.the-variants as outcome
 use Rattle.columns.specs.Column.{column}
-use Rattle.columns.specs.Row.{rowOf, readRow, Fits, AllFit}
+use Rattle.columns.specs.Row.{rowOf, readRow, Fits}
 use Rattle.items.specs.Item.{items}
 use Rattle.hub_spec.specs.Line.{reportLine, bareLine, lineSize}
 use Rattle.hub_spec.specs.Log.{mostItems, itemsFor, linesOf, hubOf, lastLine, logOf, isStuck, RunCounts}
@@ -91,7 +92,7 @@ pub record Reported (s : List ℕ) : Type 0 where
   pub all-read : flatten (items mostItems s) ≡ s → flag ≡ 0
   pub stopped : (flatten (items mostItems s) ≡ s → ⊥) → flag ≡ 1
   -- every number fits its column
-  pub fit : Octets s → AllFit reportWidths rows
+  pub fit : Octets s → All (Fits reportWidths) rows
   pub last-fits : Fits lastWidths (length (items mostItems s) ∷ length rows ∷ flag ∷ [])
   -- so no digit is lost: line i of the log, cut into its columns, reads as row i, and the last line as its three numbers
   pub read : Octets s → (i : ℕ) → i < length rows → readRow reportWidths (drop (lineSize * i) (logOf s)) ≡ getD rows i []
@@ -102,7 +103,7 @@ pub record Continued (h : Hub) (s : List ℕ) (passing : h .scanner .filter .sca
   pub rows : List (List ℕ)
   pub printed : Rows (h .items) (h .scanner .channel) [] (itemsFor h s) rows
   pub lines : linesOf h s ≡ lineEach rows
-  pub fit : RunCounts h → Octets s → AllFit reportWidths rows
+  pub fit : RunCounts h → Octets s → All (Fits reportWidths) rows
   pub item-count : hubOf h s .items ≡ h .items + length (itemsFor h s)
   pub report-count : hubOf h s .reports ≡ h .reports + length rows
   pub all-pass : hubOf h s .scanner .filter .scan ≡ AllowAll

@@ -10,7 +10,8 @@ use lib.ListN.{length, take, drop, length-append, take-append-drop}
 use lib.Seq.{take-append-seam, drop-at, length-take-le}
 use lib.Dec.{ltb, eqb}
 use borrow.Author.Tests.{ne-eqb, le-ltb, eqb-true, eqb-false, ltb-false}
-use Rattle.items.specs.Item.{payloadSize, sizeOf, wholeSize, items, afterItems, IsItem, tick, packet, AllItems, Falls}
+use Rattle.octets.specs.Lists.{All}
+use Rattle.items.specs.Item.{payloadSize, sizeOf, wholeSize, items, afterItems, IsItem, tick, packet, Falls}
 use Rattle.items.proofs.Items.{whole-is, whole-fits, none-whole, one-whole, at-front, item-whole, ends}
 
 -- an item at the front is whole, and as long as it is
@@ -59,7 +60,7 @@ is-item (first ∷ h0 ∷ h1 ∷ payload) whole some = go (eqb first 0) (ltb 2 f
     go false true e l whole = absurd (omega arith)
     go false false e l whole = packet first h0 h1 payload (one-or-two (eqb-false first 0 e) (ltb-false 2 first l)) (omega arith)
 
-each : (n : ℕ) (s : List ℕ) → AllItems (items n s)
+each : (n : ℕ) (s : List ℕ) → All IsItem (items n s)
 unfolding items
 each zero s = tt
 each (suc n) s =

@@ -9,8 +9,9 @@ use lib.ListN.{length, getD, take, drop, length-append, take-append-drop, length
 use lib.Seq.{getD-drop, getD-take, length-take-le, take-append-le, drop-append-le, drop-drop}
 use lib.Dec.{leb, ltb, eqb}
 use borrow.Author.Tests.{le-leb, lt-leb, eq-eqb, ne-eqb, leb-true, leb-false, lt-ltb, le-ltb}
+use Rattle.octets.specs.Lists.{All}
 use Rattle.octets.proofs.Places.{front}
-use Rattle.items.specs.Item.{payloadSize, sizeOf, wholeSize, items, afterItems, AllWhole, Cut}
+use Rattle.items.specs.Item.{payloadSize, sizeOf, wholeSize, items, afterItems, HasItsSize, Cut}
 
 pub whole-is : (s : List ℕ) {n : ℕ} → sizeOf s ≡ n → n ≤ length s → wholeSize s ≡ n
 unfolding wholeSize
@@ -215,7 +216,7 @@ tiles (suc n) s =
         ∙ ap (λ (l : List ℕ). take (wholeSize s) s ++ l) later
         ∙ take-append-drop (wholeSize s) s)
 
-all-whole : (n : ℕ) (s : List ℕ) → AllWhole (items n s)
+all-whole : (n : ℕ) (s : List ℕ) → All HasItsSize (items n s)
 unfolding items
 all-whole zero s = tt
 all-whole (suc n) s =

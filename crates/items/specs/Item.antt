@@ -8,8 +8,8 @@
 --   wholeSize s         == the same where s has so many octets, else 0
 --   items n s           == the whole items at the front of s, at most n of them
 --   afterItems its s    == what is left of s behind these items
---   IsItem item         == an item, in the paper's words; AllItems its: each of these is one
---   AllWhole its        == each of these is as long as its own octets say
+--   IsItem item         == an item, in the paper's words
+--   HasItsSize item     == an item is as long as its own octets say
 --   Falls n s, Cut n s  (Falling.falls, Items.cut)  what `items` finds is just that
 use mathlib.Core.Path.{_≡_}
 use mathlib.Core.Logic.{_⊎_}
@@ -18,6 +18,7 @@ use mathlib.Core.Bool.{cond}
 use mathlib.Core.List.{List, [], _∷_, _++_, flatten}
 use lib.ListN.{length, getD, take, drop}
 use lib.Dec.{leb, ltb, eqb}
+use Rattle.octets.specs.Lists.{All}
 
 -- the header's bits 8 to 13
 abbrev pub payloadSize : ℕ → ℕ
@@ -42,13 +43,9 @@ pub data IsItem : List ℕ → Type 0 where
   tick : IsItem (0x00 ∷ [])
   packet : (first h0 h1 : ℕ) (payload : List ℕ) → (first ≡ 0x01) ⊎ (first ≡ 0x02) → length payload ≡ h1 % 64 → IsItem (first ∷ h0 ∷ h1 ∷ payload)
 
-abbrev pub AllItems : List (List ℕ) → Type 0
-AllItems [] = Unit {0}
-AllItems (item ∷ its) = IsItem item × AllItems its
-
 pub record Falls (n : ℕ) (s : List ℕ) : Type 0 where
   -- what is found are items, and an item at the front is found
-  pub each : AllItems (items n s)
+  pub each : All IsItem (items n s)
   pub found : (item rest : List ℕ) → IsItem item → items (suc n) (item ++ rest) ≡ item ∷ items n rest
   -- what `whole_size` answers: how long the item at the front is, or 0 where none stands
   pub size : (item rest : List ℕ) → IsItem item → wholeSize (item ++ rest) ≡ length item
@@ -56,14 +53,13 @@ pub record Falls (n : ℕ) (s : List ℕ) : Type 0 where
   -- reading ends after n items, or where no item stands
   pub stops : (length (items n s) ≡ n) ⊎ ((item more : List ℕ) → IsItem item → afterItems (items n s) s ≡ item ++ more → ⊥)
 
-abbrev pub AllWhole : List (List ℕ) → Type 0
-AllWhole [] = Unit {0}
-AllWhole (item ∷ its) = (sizeOf item ≡ length item) × AllWhole its
+abbrev pub HasItsSize : List ℕ → Type 0
+HasItsSize item = sizeOf item ≡ length item
 
 pub record Cut (n : ℕ) (s : List ℕ) : Type 0 where
   -- the items and the octets behind them are the input, and each item is whole
   pub tiles : flatten (items n s) ++ afterItems (items n s) s ≡ s
-  pub whole : AllWhole (items n s)
+  pub whole : All HasItsSize (items n s)
   -- reading ends at the end, at the item behind n, at another first octet, or at an item that is cut short
   pub ends :
       (afterItems (items n s) s ≡ [])

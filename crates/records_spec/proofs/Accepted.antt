@@ -10,6 +10,7 @@ use lib.ListN.{length, getD, take, drop, length-append, length-take, length-drop
 use lib.Seq.{getD-take, take-at, drop-at, take-all}
 use lib.Dec.{ltb, eqb}
 use borrow.Author.Tests.{eqb-true, eqb-false, ltb-true, ltb-false, ne-eqb, lt-ltb, le-ltb}
+use Rattle.octets.specs.Lists.{All}
 use Rattle.octets.specs.declared.error.Error.{Error}
 use Rattle.octets.specs.declared.error.Error.the-variants.{Eof, InvalidLength}
 use Rattle.octets.specs.declared.uuid.UuidKind.the-variants.{Uuid16}
@@ -23,7 +24,7 @@ use Rattle.records_spec.specs.declared.area.Area.the-variants.{Accepted}
 use Rattle.records_spec.specs.Record.{flagsRead, uuidsRead, dataRead, upTo, recordRead, first}
 use Rattle.flags.specs.Flags.{named}
 use Rattle.records_spec.specs.Area.{cut, records, reads, withFirst, areaOf, readArea}
-use Rattle.records_spec.specs.Accepted.{IsList, Good, AllGood, Bad, zero-length, too-few, wrong-flags, odd-list, Verdict, Decided}
+use Rattle.records_spec.specs.Accepted.{GoodRecord, IsList, Good, Bad, zero-length, too-few, wrong-flags, odd-list, Verdict, Decided}
 use Rattle.records_spec.proofs.Cuts.{cut-skip, counting, counting-none}
 
 -- what a record's answer says of it, where `rest` follows its length octet n
@@ -169,13 +170,13 @@ counting-more k (Accepted m) = ap Accepted (omega arith)
 counting-more k (Area.Refused e) = refl
 
 -- good records add their number to the area after them
-behind : (rs : List (List ℕ)) (rest : List ℕ) (at : ℕ) → AllGood rs
+behind : (rs : List (List ℕ)) (rest : List ℕ) (at : ℕ) → All GoodRecord rs
     → areaOf (reads (records (flatten rs ++ rest)) at) ≡ counting (length rs) (areaOf (reads (records rest) (at + length (flatten rs))))
 unfolding cut first reads areaOf flatten
 behind [] rest at g =
     let same : at + 0 ≡ at = omega arith in
     rw same (counting-none (areaOf (reads (records rest) at)))
-behind ([] ∷ rs) rest at g = absurd g
+behind ([] ∷ rs) rest at g = absurd (g .0)
 behind ((n ∷ body) ∷ rs) rest at g =
     let more : List ℕ = flatten rs ++ rest in
     let next : ℕ = at + suc (length body) in

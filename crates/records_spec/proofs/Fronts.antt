@@ -5,6 +5,8 @@ use Prim.Native.Nat.{ℕ, zero, suc, _+_, _-_, _≤_}
 use native.Mathlib.Omega.{arith}
 use lib.ListN.{length, take, drop, length-append, length-drop, take-append-drop}
 use lib.Seq.{take-add, take-all, take-at, drop-at}
+use Rattle.octets.specs.Lists.{All}
+use Rattle.octets.proofs.Lists.{all-append}
 use Rattle.octets.specs.declared.error.Error.{Error}
 use Rattle.records_spec.specs.declared.ad_structure.AdStructure.{AdStructure}
 use Rattle.records_spec.specs.declared.ad_structure.Read.{Read}
@@ -12,7 +14,7 @@ use Rattle.records_spec.specs.declared.ad_structure.Read.the-variants.{R
 use Rattle.records_spec.specs.Record.{recordRead, first}
 use Rattle.records_spec.specs.Area.{cut, records, frontAt, frontFrom, frontOf}
 use Rattle.records_spec.specs.declared.area.Front.the-variants as front
-use Rattle.records_spec.specs.Accepted.{Good, AllGood, Tiling, Bad, FirstBad, FrontOf, Fronted}
+use Rattle.records_spec.specs.Accepted.{GoodRecord, Good, Tiling, Bad, FirstBad, FrontOf, Fronted}
 use Rattle.records_spec.proofs.Accepted.{Class, class}
 use Rattle.records_spec.proofs.Cuts.{cut-skip, here, Step, stepped, ended}
 
@@ -21,26 +23,21 @@ unfolding flatten
 flatten-append [] ts = refl
 flatten-append (r ∷ rs) ts = ap (λ (l : List ℕ). r ++ l) (flatten-append rs ts) ∙ sym (append-assoc r (flatten rs) (flatten ts))
 
-all-good-more : (rs : List (List ℕ)) (n : ℕ) (body : List ℕ) → AllGood rs → Good n body → AllGood (rs ++ ((n ∷ body) ∷ []))
-all-good-more [] n body all good = (good, tt)
-all-good-more ([] ∷ rs) n body all good = absurd all
-all-good-more ((k ∷ b) ∷ rs) n body all good = (all .0, all-good-more rs n body (all .1) good)
-
 -- good records before other octets are cut apart as they are
-pub records-behind : (rs : List (List ℕ)) (l : List ℕ) → AllGood rs → records (flatten rs ++ l) ≡ rs ++ records l
+pub records-behind : (rs : List (List ℕ)) (l : List ℕ) → All GoodRecord rs → records (flatten rs ++ l) ≡ rs ++ records l
 unfolding cut first flatten
 records-behind [] l all = refl
-records-behind ([] ∷ rs) l all = absurd all
+records-behind ([] ∷ rs) l all = absurd (all .0)
 records-behind ((n ∷ body) ∷ rs) l all =
     let more : List ℕ = flatten rs ++ l in
     let long : length body ≡ n = all .0 .whole in
     rw (append-assoc body (flatten rs) l, take-at body more n long, cut-skip (body ++ more) n, drop-at body more n long, records-behind rs l (all .1))
 
 -- of records that are all good, those before one, and that one, are
-pub good-parts : (ps : List (List ℕ)) (r : List ℕ) (qs : List (List ℕ)) → AllGood (ps ++ (r ∷ qs)) → AllGood ps × AllGood (r ∷ [])
-good-parts [] [] qs all = absurd all
+pub good-parts : (ps : List (List ℕ)) (r : List ℕ) (qs : List (List ℕ)) → All GoodRecord (ps ++ (r ∷ qs)) → All GoodRecord ps × All GoodRecord (r ∷ [])
+good-parts [] [] qs all = absurd (all .0)
 good-parts [] (n ∷ body) qs all = (tt, (all .0, tt))
-good-parts ([] ∷ ps) r qs all = absurd all
+good-parts ([] ∷ ps) r qs all = absurd (all .0)
 good-parts ((n ∷ body) ∷ ps) r qs all =
     let later = good-parts ps r qs (all .1) in
     ((all .0, later .0), later .1)
@@ -66,7 +63,7 @@ one-more s at {count} {a} {next} e t = go (drop at s) refl
         record {
           pieces = t .pieces ++ ((n ∷ take n rest) ∷ []);
           tile = flatten-append (t .pieces) ((n ∷ take n rest) ∷ []) ∙ ap₂ (λ (x y : List ℕ). x ++ y) (t .tile) (append-nil (n ∷ take n rest) ∙ ap first (sym is)) ∙ up-to;
-          good = all-good-more (t .pieces) n (take n rest) (t .good) good;
+          good = all-append GoodRecord (t .pieces) ((n ∷ take n rest) ∷ []) (t .good) (good, tt);
           count = length-append (t .pieces) ((n ∷ take n rest) ∷ []) ∙ ap (λ (k : ℕ). k + 1) (t .count);
         }
 

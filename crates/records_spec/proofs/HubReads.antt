@@ -9,6 +9,7 @@ use lib.ListN.{length, getD, take, drop, replicate, length-append, length-take, 
 use lib.Seq.{take-at, drop-at, take-all, getD-take, getD-append-add}
 use lib.Dec.{eqb}
 use borrow.Author.Tests.{eqb-true, eqb-false, ne-eqb}
+use Rattle.octets.specs.Lists.{All}
 use Rattle.octets.specs.declared.error.Error.{Error}
 use Rattle.octets.specs.declared.error.Error.the-variants.{InvalidLength}
 use Rattle.records_spec.specs.declared.area.Area.{Area}
@@ -18,7 +19,7 @@ use Rattle.records_spec.specs.declared.area.PaddedArea.the-variants as p
 use Rattle.records_spec.specs.Record.{flagsRead, uuidsRead, dataRead, upTo, recordRead, first}
 use Rattle.flags.specs.Flags.{named}
 use Rattle.records_spec.specs.Area.{cut, records, reads, withFirst, areaOf, readArea}
-use Rattle.records_spec.specs.Accepted.{IsList, AllGood, Tiling, Bad, zero-length, too-few, wrong-flags, odd-list, FirstBad, Verdict}
+use Rattle.records_spec.specs.Accepted.{GoodRecord, IsList, Tiling, Bad, zero-length, too-few, wrong-flags, odd-list, FirstBad, Verdict}
 use Rattle.records_spec.specs.HubReading.{beforeZero, unpadded, isZeros, endedBy, readPadded, areaIn}
 use Rattle.records_spec.specs.HubReads.{Padding, Fault, bad-record, not-zero, PaddedVerdict, HubReads, ZeroLength, tookAll, Differs, WithoutSize, Took, PaddedRows}
 use Rattle.records_spec.proofs.Accepted.{decided}
@@ -30,10 +31,10 @@ pub tiling-of : (s : List ℕ) {m : ℕ} → readArea s ≡ area.Accepted m → 
 tiling-of s is = subst (Verdict s) is (decided s .verdict)
 
 -- the octets before a zero length, after good records
-pub unpadded-behind : (rs : List (List ℕ)) (l : List ℕ) → AllGood rs → unpadded (flatten rs ++ l) ≡ flatten rs ++ unpadded l
+pub unpadded-behind : (rs : List (List ℕ)) (l : List ℕ) → All GoodRecord rs → unpadded (flatten rs ++ l) ≡ flatten rs ++ unpadded l
 unfolding unpadded beforeZero cut first flatten
 unpadded-behind [] l all = refl
-unpadded-behind ([] ∷ rs) l all = absurd all
+unpadded-behind ([] ∷ rs) l all = absurd (all .0)
 unpadded-behind ((n ∷ body) ∷ rs) l all =
     let more : List ℕ = flatten rs ++ l in
     let long : length body ≡ n = all .0 .whole in

@@ -10,6 +10,7 @@ use lib.ListN.{length, getD, set, take, drop, length-take, drop-of-length-le}
 use lib.Seq.{take-at, drop-at, take-all, set-getD, getD-set-same, getD-set-other}
 use lib.Dec.{ltb, eqb}
 use borrow.Author.Tests.{ltb-false, eqb-true}
+use Rattle.octets.specs.Lists.{All}
 use Rattle.octets.specs.declared.error.Error.the-variants.{Eof}
 use Rattle.records_spec.specs.declared.ad_structure.AdStructure.{AdStructure}
 use Rattle.records_spec.specs.declared.ad_structure.Read.{Read}
@@ -101,7 +102,7 @@ cleans r =
     go false e i other = refl
 
 -- records of named bits alone are clean
-named-clean : (rs : List (List ℕ)) → NamedOnly rs → map clean rs ≡ rs
+named-clean : (rs : List (List ℕ)) → All NamedOnly rs → map clean rs ≡ rs
 unfolding clean named
 named-clean [] only = refl
 named-clean (r ∷ rs) only = ap (λ (l : List (List ℕ)). clean r ∷ l) (named-clean rs (only .1)) ∙ ap (λ (x : List ℕ). x ∷ rs) (go (eqb (getD r 1 0) 1) refl)

@@ -6,8 +6,9 @@ use Prim.Native.Nat.{ℕ, zero, suc, _+_, _-_, _≤_, _<_}
 use native.Mathlib.Omega.{arith}
 use lib.ListN.{length, getD, take, drop, replicate, length-append}
 use lib.Seq.{take-at, getD-append-add}
+use Rattle.octets.specs.Lists.{All}
 use Rattle.octets.specs.Bytes.{part}
-use Rattle.records_spec.specs.Accepted.{AllGood, Tiling}
+use Rattle.records_spec.specs.Accepted.{GoodRecord, Tiling}
 use Rattle.records_spec.specs.Area.{cut, records}
 use Rattle.records_spec.specs.HubReads.{Padding, PaddedVerdict}
 use Rattle.records_spec.specs.HubReading.{unpadded}
@@ -51,16 +52,15 @@ search-of test (r ∷ rs) at = go (test r) refl (firstWhere test rs (at + length
     go false e Nothing nowhere = nowhere
 
 -- zero lengths begin no record that is found
-abbrev AllZero : List (List ℕ) → Type 0
-AllZero [] = Unit {0}
-AllZero (r ∷ rs) = (getD r 0 0 ≡ 0) × AllZero rs
+abbrev NoLength : List ℕ → Type 0
+NoLength r = getD r 0 0 ≡ 0
 
-zeros-cut : (k : ℕ) → AllZero (records (replicate k 0))
+zeros-cut : (k : ℕ) → All NoLength (records (replicate k 0))
 unfolding cut first
 zeros-cut zero = tt
 zeros-cut (suc k) = (refl, zeros-cut k)
 
-among-zeros : (zs ps : List (List ℕ)) (r : List ℕ) (qs : List (List ℕ)) → AllZero zs → zs ≡ ps ++ (r ∷ qs) → getD r 0 0 ≡ 0
+among-zeros : (zs ps : List (List ℕ)) (r : List ℕ) (qs : List (List ℕ)) → All NoLength zs → zs ≡ ps ++ (r ∷ qs) → getD r 0 0 ≡ 0
 among-zeros [] [] r qs all is = absurd (nil≢cons is)
 among-zeros [] (p ∷ ps) r qs all is = absurd (nil≢cons is)
 among-zeros (z ∷ zs) [] r qs all is = ap (λ (l : List ℕ). getD l 0 0) (sym (head-eq-of-cons-eq is)) ∙ all .0
@@ -71,7 +71,7 @@ abbrev FoundBy : ℕ → Found → Type 0
 FoundBy last (At start len) = start ≤ last
 FoundBy last Nothing = ⊥
 
-found-by : (test : List ℕ → Bool) (at : ℕ) (rs zs ps : List (List ℕ)) (r : List ℕ) (qs : List (List ℕ)) → AllZero zs → 0 < getD r 0 0 → test r ≡ true → rs ++ zs ≡ ps ++ (r ∷ qs)
+found-by : (test : List ℕ → Bool) (at : ℕ) (rs zs ps : List (List ℕ)) (r : List ℕ) (qs : List (List ℕ)) → All NoLength zs → 0 < getD r 0 0 → test r ≡ true → rs ++ zs ≡ ps ++ (r ∷ qs)
     → FoundBy (at + length (flatten ps) + 2) (firstWhere test rs at)
 unfolding firstWhere flatten
 found-by test at [] zs ps r qs zeros some name is = absurd (omega (arith, among-zeros zs ps r qs zeros is))
@@ -115,10 +115,10 @@ module _ (s : List ℕ) (x : IsRead s) where
     -- what is found is a record that stands there
     stands : {start len : ℕ} → Finds test (tiling .pieces) 0 (At start len) → Stands P s start len
     unfolding flatten
-    stands {start} {len} (there ps r qs is passes begins long) = go r is passes long (good-parts ps r qs (subst AllGood is (tiling .good)))
+    stands {start} {len} (there ps r qs is passes begins long) = go r is passes long (good-parts ps r qs (subst (All GoodRecord) is (tiling .good)))
       where
-        go : (r : List ℕ) → tiling .pieces ≡ ps ++ (r ∷ qs) → test r ≡ true → len ≡ length r - 2 → AllGood ps × AllGood (r ∷ []) → Stands P s start len
-        go [] is passes long good = absurd (good .1)
+        go : (r : List ℕ) → tiling .pieces ≡ ps ++ (r ∷ qs) → test r ≡ true → len ≡ length r - 2 → All GoodRecord ps × All GoodRecord (r ∷ []) → Stands P s start len
+        go [] is passes long good = absurd (good .1 .0)
         go (n ∷ []) is passes long good = absurd (omega (arith, good .1 .0 .whole, good .1 .0 .some))
         go (n ∷ t ∷ d) is passes long good =
             let counts : n ≡ suc (length d) = sym (good .1 .0 .whole) in

@@ -3,7 +3,7 @@
 -- odd list data 1."
 --   IsList ty    == the type octet is that of a list of 16-bit UUIDs
 --   Good n body  == a good record: its length octet, and its octets of type and data
---   AllGood rs   == the octets rs are good records
+--   GoodRecord r == the octets r are a good record
 --   Tiling s m   == m good records tile s
 --   Bad l e      == the record that l begins with is bad, and refused with e
 --   FirstBad s e == good records, and then a bad one, are what s begins with
@@ -16,6 +16,7 @@ use mathlib.Core.Logic.{_⊎_}
 use mathlib.Core.List.{List, [], _∷_, _++_, flatten}
 use Prim.Native.Nat.{ℕ, _≤_, _<_, _%_}
 use lib.ListN.{length, getD, take, drop}
+use Rattle.octets.specs.Lists.{All}
 use Rattle.octets.specs.declared.error.Error.{Error}
 use Rattle.octets.specs.declared.error.Error.the-variants.{Eof, InvalidLength}
 use Rattle.records_spec.specs.declared.area.Area.{Area}
@@ -35,15 +36,14 @@ pub record Good (n : ℕ) (body : List ℕ) : Type 0 where
   pub flags : getD body 0 0 ≡ flagsType → n ≡ 2
   pub list : IsList (getD body 0 0) → n % 2 ≡ 1
 
-abbrev pub AllGood : List (List ℕ) → Type 0
-AllGood [] = Unit {0}
-AllGood ([] ∷ rs) = ⊥
-AllGood ((n ∷ body) ∷ rs) = Good n body × AllGood rs
+abbrev pub GoodRecord : List ℕ → Type 0
+GoodRecord [] = ⊥
+GoodRecord (n ∷ body) = Good n body
 
 pub record Tiling (s : List ℕ) (m : ℕ) : Type 0 where
   pub pieces : List (List ℕ)
   pub tile : flatten pieces ≡ s
-  pub good : AllGood pieces
+  pub good : All GoodRecord pieces
   pub count : length pieces ≡ m
 
 pub data Bad : List ℕ → Error → Type 0 where
@@ -56,7 +56,7 @@ pub record FirstBad (s : List ℕ) (e : Error) : Type 0 where
   pub pieces : List (List ℕ)
   pub rest : List ℕ
   pub tile : flatten pieces ++ rest ≡ s
-  pub good : AllGood pieces
+  pub good : All GoodRecord pieces
   pub bad : Bad rest e
 
 abbrev pub Verdict : List ℕ → Area → Type 0

@@ -1,6 +1,6 @@
 -- What holds of an area and of what rewriting it writes, whatever its octets are; and of a record that is read and written again.
 --   Cleans r                            (RoundTrip.cleans)              `clean r` is r but for the octet of Flags, which keeps its bits 0 to 4 alone
---   NamedOnly rs                        == no Flags among these records has a bit without a name
+--   NamedOnly r                         == a record that is Flags has no bit without a name
 --   RoundTrip s                         (RoundTrip.round-trip)          `rewritten s` is s with `clean` of each record in its place, and reads as s does
 --   octetsAt s at                       == the octets of the record at position `at` of s
 --   WrittenAgain s out at a next        == writing a record of s at position `at`, as it was read there, writes `clean` of its octets
@@ -16,6 +16,7 @@ use mathlib.Core.Path.{_≡_}
 use mathlib.Core.List.{List, [], _∷_, map, flatten}
 use Prim.Native.Nat.{ℕ, _+_, _%_, _<_, _≤_}
 use lib.ListN.{length, getD, take, drop}
+use Rattle.octets.specs.Lists.{All}
 use Rattle.octets.specs.declared.error.Error.{Error}
 use Rattle.octets.specs.declared.error.Error.the-variants.{Eof}
 use Rattle.octets.specs.declared.bytes.Written.{Written}
@@ -38,16 +39,15 @@ pub record Cleans (r : List ℕ) : Type 0 where
   pub kept : (i : ℕ) → (getD r 1 0 ≡ 0x01 → i ≡ 2 → ⊥) → getD (clean r) i 0 ≡ getD r i 0
   pub flags : getD r 1 0 ≡ 0x01 → 2 < length r → getD (clean r) 2 0 ≡ getD r 2 0 % 32
 
-abbrev pub NamedOnly : List (List ℕ) → Type 0
-NamedOnly [] = Unit {0}
-NamedOnly (r ∷ rs) = (getD r 1 0 ≡ 0x01 → getD r 2 0 < 32) × NamedOnly rs
+abbrev pub NamedOnly : List ℕ → Type 0
+NamedOnly r = getD r 1 0 ≡ 0x01 → getD r 2 0 < 32
 
 pub record RoundTrip (s : List ℕ) : Type 0 where
   -- the records tile the area, and `rewritten s` has `clean` of each in its place
   pub tiles : flatten (records s) ≡ s
   pub as-long : length (rewritten s) ≡ length s
   -- so it is the area itself where no Flags octet has a bit without a name
-  pub same : NamedOnly (records s) → rewritten s ≡ s
+  pub same : All NamedOnly (records s) → rewritten s ≡ s
   -- reading it gives the same records at the same positions
   pub records-again : records (rewritten s) ≡ map clean (records s)
   pub reads-again : reads (records (rewritten s)) 0 ≡ reads (records s) 0

@@ -9,8 +9,9 @@ use native.Mathlib.Omega.{arith}
 use lib.ListN.{length, getD}
 use lib.Dec.{leb}
 use borrow.Author.Tests.{le-leb, lt-leb, leb-true, leb-false}
+use Rattle.octets.specs.Lists.{All}
 use Rattle.utf8.specs.Utf8.{Range, _to_, within, tail, table, Sequence, WellFormed, nothing, and-then}
-use Rattle.utf8.specs.Encoding.{IsScalar, trailing, encoded, AllScalar, Encodes, Utf8Encodes}
+use Rattle.utf8.specs.Encoding.{IsScalar, trailing, encoded, Encodes, Utf8Encodes}
 use Rattle.octets.proofs.Places.{both-true}
 use Rattle.utf8.proofs.Sequences.{in-range}
 use Rattle.utf8.proofs.WellFormed.{utf8-is}
@@ -199,7 +200,7 @@ upper v low high =
 in-table : (v : ℕ) → IsScalar v → Row v
 in-table v scalar = ⊎-elim (lower v) (λ h. upper v (h .0) (h .1)) scalar
 
-all-in-table : (vs : List ℕ) → AllScalar vs → WellFormed (flatten (map encoded vs))
+all-in-table : (vs : List ℕ) → All IsScalar vs → WellFormed (flatten (map encoded vs))
 unfolding flatten
 all-in-table [] scalar = nothing
 all-in-table (v ∷ vs) scalar =

@@ -8,7 +8,6 @@
 --   IsScalar v    == v is a scalar value
 --   trailing v    == the octet 10xxxxxx with the lowest six bits of v
 --   encoded v     == the octets of v in UTF-8
---   AllScalar vs  == each of vs is a scalar value
 --   Encodes vs s  == s is the encodings of the scalar values vs, one after the other
 --   Utf8Encodes s (Encoded.utf8-encodes)  `isUtf8 s` says that there are such values
 use mathlib.Core.Path.{_≡_}
@@ -17,6 +16,7 @@ use mathlib.Core.Bool.{true, cond}
 use mathlib.Core.List.{List, [], _∷_, map, flatten}
 use Prim.Native.Nat.{ℕ, _+_, _/_, _%_, _≤_}
 use lib.Dec.{leb}
+use Rattle.octets.specs.Lists.{All}
 use Rattle.utf8.specs.Utf8.{isUtf8}
 
 abbrev pub IsScalar : ℕ → Type 0
@@ -33,12 +33,8 @@ encoded v =
     (cond (leb v 0xFFFF) ((0xE0 + v / 4096) ∷ trailing (v / 64) ∷ trailing v ∷ [])
     ((0xF0 + v / 262144) ∷ trailing (v / 4096) ∷ trailing (v / 64) ∷ trailing v ∷ [])))
 
-abbrev pub AllScalar : List ℕ → Type 0
-AllScalar [] = Unit {0}
-AllScalar (v ∷ vs) = IsScalar v × AllScalar vs
-
 pub record Encodes (vs s : List ℕ) : Type 0 where
-  pub scalar : AllScalar vs
+  pub scalar : All IsScalar vs
   pub octets : s ≡ flatten (map encoded vs)
 
 pub record Utf8Encodes (s : List ℕ) : Type 0 where

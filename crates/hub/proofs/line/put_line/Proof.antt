@@ -6,6 +6,8 @@ use native.Mathlib.Omega.{arith}
 use lib.ListN.{length, set, take, drop, length-append}
 use borrow.Author.Needs.{needs}
 use borrow.Rule.Slice.PartMut.{putMid}
+use Rattle.octets.proofs.Lists.{all-at}
+use Rattle.octets.specs.Laws.{Octets}
 use Rattle.octets.proofs.Laws.{written-keeps}
 use Rattle.octets.specs.Bytes.{written}
 use Rattle.channels.specs.Phy.{indexOf}
@@ -14,7 +16,7 @@ use Rattle.addresses.specs.Address.{kindNumber}
 use Rattle.addresses.specs.declared.device_address.DeviceAddress.{DeviceAddress}
 use Rattle.columns.proofs.Widths.{column-length}
 use Rattle.columns.specs.Column.{column}
-use Rattle.columns.specs.Table.{octetColumns, octetFrom, numberFrom, octetsFrom, AllOctets}
+use Rattle.columns.specs.Table.{octetColumns, octetFrom, numberFrom, octetsFrom}
 use Rattle.hub_spec.specs.Line.{lineSize, reportLine}
 use Rattle.hub_spec.proofs.Pieces.{line-length, nothing-yet, then-piece, then-octet, then-copied, then-number, then-octets}
 use Rattle.hub.proofs.line.put_line.Statement.{statement}
@@ -22,7 +24,7 @@ use Rattle.hub.proofs.line.put_line.Tie as tie
 
 -- as the calls write them
 all-columns : (sender : DeviceAddress) (number : ℕ) (c : AdvertisingChannel) (records : ℕ) (out : List ℕ) (at : ℕ) {kind n₁ : ℕ} {table octets out₁ p₂ p₃ p₄ : List ℕ}
-    → table ≡ octetColumns → at + lineSize ≤ length out → length octets ≡ 6 → octets ≡ sender .bytes → AllOctets octets → kind ≡ kindNumber (sender .kind) → kind < 256
+    → table ≡ octetColumns → at + lineSize ≤ length out → length octets ≡ 6 → octets ≡ sender .bytes → Octets octets → kind ≡ kindNumber (sender .kind) → kind < 256
     → (n₁ ≡ at + 9) × (out₁ ≡ written (column 6 number ++ column 3 (indexOf c)) out at)
     → p₂ ≡ octetFrom table (length (take (n₁ + 2 - n₁) (drop n₁ out₁))) kind
     → let n₂ = n₁ + 2 in
@@ -56,7 +58,7 @@ returns c =
     let start = known .before in
     let a = start .args in
     all-columns (a .sender) (a .number) (a .channel) (a .records) (a .out .now) (a .at) (start .pre .0) (start .pre .1 .1 .1) (start .pre .1 .1 .0) (start .pre .1 .0)
-    (λ i inside. omega (arith, known .shared-slice-known .given i))
+    (all-at (λ (x : ℕ). x < 256) _ (λ i inside. omega (arith, known .shared-slice-known .given i)))
     (kind-call .kind-number .ensures) (small kind-call) (item .put-item .ensures) (kind .put-octet .ensures) (octets .put-octets .ensures) (count .put-number .ensures)
 
 same-length : tie.Need-same-length
