@@ -23,7 +23,7 @@
  * connect request), 6 ADV_SCAN_IND.
  *
  * A device or a scanner does not live across calls yet: board_call and board_scanner_call replay a list from a fresh one on and answer one more
- * call. The list is octets, 272 for each call; octets behind the last whole 272 are not looked at. The call that is answered may be shorter: octets
+ * call. The list is octets, 272 for each call; octets after the last whole 272 are not looked at. The call that is answered may be shorter: octets
  * that it lacks are 0, and a header, records or a payload that do not lie in it whole are 0 and none. */
 #ifndef BOARD_H
 #define BOARD_H
@@ -103,7 +103,7 @@ BoardHead board_header(const uint8_t *raw, size_t raw_len);
 BoardGot board_new_header(uint8_t ty, bool tx_add, bool rx_add, uint8_t length);
 BoardGot board_set_header(const uint8_t *raw, size_t raw_len, bool tx_add, bool rx_add, uint8_t length);
 
-/* A built PDU: its header, and its payload, which the header counts, with zeros behind it. */
+/* A built PDU: its header, and its payload, which the header counts, with zeros after it. */
 typedef struct BoardFrame {
     uint8_t number;
     uint16_t header;
@@ -199,12 +199,12 @@ BoardSaid board_call(const uint8_t own[6], bool random, const uint8_t *calls, si
 BoardGot board_area(const uint8_t *s, size_t s_len);
 
 /* The same as the hub reads an area, which a board may have filled with zeros: a length of 0 ends the records. second: how many octets they took, without
- * that zero. An octet behind it that is not zero is 2. board_rewrite writes the records of so many octets again. */
+ * that zero. An octet after it that is not zero is 2. board_rewrite writes the records of so many octets again. */
 BoardGot board_padded_area(const uint8_t *s, size_t s_len);
 
 /* A record. kind: 0 the end of the area, 1 Flags, 2, 3 and 4 lists of UUIDs of 16, 32 and 128 bits, 5 service data, 6 a complete name, 7 a
  * shortened one, 8 data of a manufacturer, 9 any other. complete: of a list. value: the bits of Flags (1), a UUID (5), a company (8) or a type (9).
- * start, len: where the rest of its data lies in s, none for Flags. next: the position behind the record, 0 at the end. */
+ * start, len: where the rest of its data lies in s, none for Flags. next: the position after the record, 0 at the end. */
 typedef struct BoardStructure {
     uint8_t number;
     uint8_t kind;
@@ -219,14 +219,14 @@ typedef struct BoardStructure {
 BoardStructure board_record(const uint8_t *s, size_t s_len, size_t at);
 BoardStructure board_known(const uint8_t *s, size_t s_len, size_t at);
 
-/* Writes a record to position `at` of out; first: the position behind it. It is given as in BoardStructure: of Flags the low five bits of value count,
+/* Writes a record to position `at` of out; first: the position after it. It is given as in BoardStructure: of Flags the low five bits of value count,
  * of a type the low eight, and kinds 0 and 10 to 255 are taken as 9. */
 BoardGot board_write(uint8_t kind, bool complete, uint16_t value, size_t start, size_t len, const uint8_t *s, size_t s_len, size_t at, uint8_t *out, size_t out_len);
 
-/* Reads an area and writes its records; first: the position behind them. */
+/* Reads an area and writes its records; first: the position after them. */
 BoardGot board_rewrite(const uint8_t *s, size_t s_len, uint8_t *out, size_t out_len);
 
-/* first: the UUID of 16 bits at a position of a list, second: the position behind it; at the end 0 and the same position. */
+/* first: the UUID of 16 bits at a position of a list, second: the position after it; at the end 0 and the same position. */
 BoardGot board_uuid_at(const uint8_t *data, size_t data_len, size_t at);
 
 /* Flags. bits: those with a name, 0 to 4; limited, general: discoverable so (bits 0 and 1); classic: BR/EDR is supported (bit 2 is not set);
@@ -317,7 +317,7 @@ typedef struct BoardSettingsSaid {
     uint16_t win_offset;
 } BoardSettingsSaid;
 
-/* The settings in the 22 octets behind a connect request's two addresses. A map that marks no channel is 6, and is tested first. Otherwise 12, unless
+/* The settings in the 22 octets after a connect request's two addresses. A map that marks no channel is 6, and is tested first. Otherwise 12, unless
  *   hop          5 to 16                                 timeout      10 to 3,200, and 4 times it above (1 + latency) times interval
  *   channels     2 and more                              win_size     1 to 8, and below interval
  *   interval     6 to 3,200                              win_offset   up to interval
@@ -333,7 +333,7 @@ BoardGot board_skip(const uint8_t *s, size_t s_len, size_t at, size_t n);
 /* first: how many octets are left, second: 1 where there are none. */
 BoardGot board_bytes_left(const uint8_t *s, size_t s_len, size_t at);
 
-/* A part of s: its `len` octets from `start` on; next: the position behind it. */
+/* A part of s: its `len` octets from `start` on; next: the position after it. */
 typedef struct BoardPart {
     uint8_t number;
     size_t start;
@@ -344,10 +344,10 @@ typedef struct BoardPart {
 /* The place of n octets. */
 BoardPart board_read_slice(const uint8_t *s, size_t s_len, size_t at, size_t n);
 
-/* Fills dst; first: the position behind what was read. */
+/* Fills dst; first: the position after what was read. */
 BoardGot board_read_into(const uint8_t *s, size_t s_len, size_t at, uint8_t *dst, size_t dst_len);
 
-/* Octets that were read; next: the position behind them. */
+/* Octets that were read; next: the position after them. */
 typedef struct BoardFive {
     uint8_t number;
     uint8_t octets[5];
@@ -365,7 +365,7 @@ typedef struct BoardSix {
 BoardFive board_read_array5(const uint8_t *s, size_t s_len, size_t at);
 BoardSix board_read_array6(const uint8_t *s, size_t s_len, size_t at);
 
-/* first: a number, least significant octet first, second: the position behind it. */
+/* first: a number, least significant octet first, second: the position after it. */
 BoardGot board_read_u8(const uint8_t *s, size_t s_len, size_t at);
 BoardGot board_read_u16_le(const uint8_t *s, size_t s_len, size_t at);
 BoardGot board_read_u32_le(const uint8_t *s, size_t s_len, size_t at);
@@ -376,38 +376,38 @@ BoardGot board_write_skip(const uint8_t *out, size_t out_len, size_t at, size_t 
 /* How many octets can be written. */
 size_t board_space_left(const uint8_t *out, size_t out_len, size_t at);
 
-/* Writes all or nothing; first: the position behind it. */
+/* Writes all or nothing; first: the position after it. */
 BoardGot board_write_slice(uint8_t *out, size_t out_len, size_t at, const uint8_t *other, size_t other_len);
 BoardGot board_write_u8(uint8_t *out, size_t out_len, size_t at, uint8_t byte);
 BoardGot board_write_u16_le(uint8_t *out, size_t out_len, size_t at, uint16_t value);
 BoardGot board_write_u32_le(uint8_t *out, size_t out_len, size_t at, uint32_t value);
 
-/* Writes as many octets as there is space for; first: their number, second: the position behind them. */
+/* Writes as many octets as there is space for; first: their number, second: the position after them. */
 BoardGot board_write_slice_truncate(uint8_t *out, size_t out_len, size_t at, const uint8_t *other, size_t other_len);
 
 /* --- libbasics.a: UUIDs, headers and PDUs at a position --- */
 
-/* The 16 octets of a UUID as they stand; next: the position behind them. */
+/* The 16 octets of a UUID as they stand; next: the position after them. */
 typedef struct BoardUuidRead {
     uint8_t number;
     uint8_t octets[16];
     size_t next;
 } BoardUuidRead;
 
-/* first: a UUID, least significant octet first, second: the position behind it; the long one as it stands. */
+/* first: a UUID, least significant octet first, second: the position after it; the long one as it stands. */
 BoardGot board_read_uuid16(const uint8_t *s, size_t s_len, size_t at);
 BoardGot board_read_uuid32(const uint8_t *s, size_t s_len, size_t at);
 BoardUuidRead board_read_uuid128(const uint8_t *s, size_t s_len, size_t at);
 
-/* first: the position behind a UUID that is written, in the same order. */
+/* first: the position after a UUID that is written, in the same order. */
 BoardGot board_write_uuid16(uint8_t *out, size_t out_len, size_t at, uint16_t value);
 BoardGot board_write_uuid32(uint8_t *out, size_t out_len, size_t at, uint32_t value);
 BoardGot board_write_uuid128(uint8_t *out, size_t out_len, size_t at, const uint8_t octets[16]);
 
-/* first: a header's 16 bits, second: the position behind it. */
+/* first: a header's 16 bits, second: the position after it. */
 BoardGot board_read_header(const uint8_t *s, size_t s_len, size_t at);
 
-/* Writes the header of the first two octets of raw; first: the position behind it. */
+/* Writes the header of the first two octets of raw; first: the position after it. */
 BoardGot board_write_header(uint8_t *out, size_t out_len, size_t at, const uint8_t *raw, size_t raw_len);
 
 /* A PDU whose header begins at a position, and whose payload is all that follows it. */

@@ -286,7 +286,7 @@ static void scanner(void) {
         got("board_scanner", board_scanner(100, 20, (uint8_t)n)), channel("board_advertising_channel", board_advertising_channel((uint8_t)n));
 }
 
-/* An area that is padded: all octets of it and fewer, up to each end; with an octet behind the first zero, and the last, that is not zero. What was read is
+/* An area that is padded: all octets of it and fewer, up to each end; with an octet after the first zero, and the last, that is not zero. What was read is
  * rewritten. The scanner hears the same, and the general decoder, a builder and a start refuse it. */
 static void padding(void) {
     static const uint8_t sizes[] = {0, 2, 3, 6, 7, 8, 10}, header[] = {0x42, 0x10};
@@ -311,7 +311,7 @@ static void padding(void) {
     }
 }
 
-/* A name in each place, with those that come behind it in the other places; one that is not UTF-8 before it; empty ones; none; each refusal in each area, with a
+/* A name in each place, with those that come after it in the other places; one that is not UTF-8 before it; empty ones; none; each refusal in each area, with a
  * name in the other; both bad. */
 static void names(void) {
     static const uint8_t advertisement[] = {2, 1, 6, 4, 8, 0x41, 0x64, 0x61, 3, 9, 0x42, 0x6F, 0}, reply[] = {3, 8, 0x43, 0x79, 4, 9, 0x44, 0x61, 0x6E, 0, 0};

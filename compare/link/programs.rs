@@ -1,5 +1,5 @@
 //! Tries the programs hublog and replay from outside, as a shell starts them: `programs BIN REPOSITORY SCRATCH`, with the folders of the programs, of the repository and
-//! for files that are made; with the word `log` behind these hublog's log alone. Prints a line for each thing tried, and ends with 1 if one of them is not as it should be.
+//! for files that are made; with the word `log` after these hublog's log alone. Prints a line for each thing tried, and ends with 1 if one of them is not as it should be.
 use std::fs::{self, File};
 use std::io::{Read, Seek, Write};
 use std::os::fd::{AsRawFd, FromRawFd, OwnedFd};

@@ -189,7 +189,7 @@ impl Counts {
         1
     }
 
-    /// Counts an area that is refused with 2, where it has zeros behind its records and is no other.
+    /// Counts an area that is refused with 2, where it has zeros after its records and is no other.
     fn count_strict(&mut self, by: usize, number: u8, area: Option<&[u8]>) {
         let Some(area) = area.filter(|a| number == 2 && a.last() == Some(&0)) else { return };
         self.strict[by] += (padding::read(area).behind == Behind::Zeros) as u64;

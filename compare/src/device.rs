@@ -81,7 +81,7 @@ impl<'a> List<'a> {
         self.push(START, second, &Packet { header: [0; 2], payload: records, crc_ok: true });
     }
 
-    /// Scan data around the most that a reply holds, sometimes damaged or with zeros behind them, any, or none.
+    /// Scan data around the most that a reply holds, sometimes damaged or with zeros after them, any, or none.
     fn set(&mut self) {
         let n = match self.rng.below(8) {
             0..=3 => self.rng.below(32),
@@ -108,7 +108,7 @@ impl<'a> List<'a> {
         self.mode = ADVERTISING;
     }
 
-    /// A start with records of any length, sometimes damaged or with zeros behind them.
+    /// A start with records of any length, sometimes damaged or with zeros after them.
     fn any_start(&mut self) {
         let n = if self.rng.bit() == 0 { 24 + self.rng.below(9) } else { length(self.rng) };
         let mut records = area(self.rng, n);

@@ -40,7 +40,7 @@ pub fn area(rng: &mut Rng, n: usize) -> Vec<u8> {
     out
 }
 
-/// Zeros behind records: to 31 octets in all, to 57, one, or some.
+/// Zeros after records: to 31 octets in all, to 57, one, or some.
 pub fn pad(rng: &mut Rng, area: &mut Vec<u8>) {
     let least = area.len() + 1;
     let all = match rng.below(4) {
@@ -52,8 +52,8 @@ pub fn pad(rng: &mut Rng, area: &mut Vec<u8>) {
     area.resize(all.max(least), 0);
 }
 
-/// Spoils the zeros behind the first so many octets: behind the first of them another octet comes next, comes last or stands anywhere, or a record does. Where
-/// there is one zero alone, an octet comes behind it.
+/// Spoils the zeros after the first so many octets: after the first of them another octet comes next, comes last or stands anywhere, or a record does. Where
+/// there is one zero alone, an octet comes after it.
 pub fn spoil(rng: &mut Rng, area: &mut Vec<u8>, taken: usize) {
     let next = taken + 1;
     if area.len() <= next {
@@ -157,7 +157,7 @@ pub fn payload(rng: &mut Rng, ty: u8, n: usize) -> Vec<u8> {
     }
 }
 
-/// Another type: the one before or behind it, or one of four bits off.
+/// Another type: the one before or after it, or one of four bits off.
 pub fn neighbour(rng: &mut Rng, ty: u8) -> u8 {
     match rng.below(3) {
         0 => (ty + 15) % 16,

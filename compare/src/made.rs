@@ -25,7 +25,7 @@ impl Share {
 
 pub type Each<'a> = &'a mut dyn FnMut(&Request);
 
-/// All headers with payloads of every length; once also behind up to three octets of one slice.
+/// All headers with payloads of every length; once also after up to three octets of one slice.
 pub fn all_headers(share: &Share, each: Each) {
     let mut rng = Rng(share.seed);
     for variant in 0..3 {
@@ -64,7 +64,7 @@ pub fn all_headers(share: &Share, each: Each) {
     }
 }
 
-/// Packets whose header counts the payload, and damaged ones; each fourth also behind up to three octets of one slice.
+/// Packets whose header counts the payload, and damaged ones; each fourth also after up to three octets of one slice.
 pub fn packets(share: &Share, count: u64, each: Each) {
     let mut rng = share.rng(2);
     for n in 0..count / share.shares {

@@ -1,5 +1,5 @@
 //! A player's name in two areas, an advertisement and the reply to a scan request (document 02, Note 4). rubble has no such search, so this answers in its
-//! place: rubble reads each record, `padding` says what stands behind them, Rust's `str` judges UTF-8. Which name counts is ours, and shares no line with
+//! place: rubble reads each record, `padding` says what stands after them, Rust's `str` judges UTF-8. Which name counts is ours, and shares no line with
 //! the translation.
 pub mod made;
 
@@ -39,7 +39,7 @@ impl End<'_> {
 }
 
 pub struct Search<'a> {
-    /// What stands behind the records of the advertisement, and of the reply.
+    /// What stands after the records of the advertisement, and of the reply.
     pub behind: [Behind; 2],
     /// Names that are not UTF-8.
     pub malformed: usize,

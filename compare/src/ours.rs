@@ -207,15 +207,15 @@ pub fn pattern(len: usize) -> Vec<u8> {
     (0..len).map(filled).collect()
 }
 
-/// Octets behind each buffer that is lent for writing. They are no part of it, and stand behind it in the answer: a write past the end shows.
+/// Octets after each buffer that is lent for writing. They are no part of it, and stand after it in the answer: a write past the end shows.
 pub const BEHIND: usize = 8;
 
-/// What stands behind a buffer of so many octets.
+/// What stands after a buffer of so many octets.
 pub fn behind(len: usize) -> [u8; BEHIND] {
     std::array::from_fn(|i| filled(len + i))
 }
 
-/// A buffer of so many octets, and those behind it.
+/// A buffer of so many octets, and those after it.
 fn lent(len: u64) -> Vec<u8> {
     pattern(len as usize + BEHIND)
 }

@@ -6,14 +6,14 @@ use crate::theirs::number;
 use rubble::bytes::{ByteReader, FromBytes};
 use rubble::link::ad_structure::AdStructure;
 
-/// What stands behind the good records that an area begins with.
+/// What stands after the good records that an area begins with.
 #[derive(Clone, Copy, Debug, PartialEq, Eq)]
 pub enum Behind {
     /// Nothing: they are the whole area.
     Nothing,
-    /// A zero length, and zeros alone behind it.
+    /// A zero length, and zeros alone after it.
     Zeros,
-    /// A zero length, and behind it an octet that is not zero.
+    /// A zero length, and after it an octet that is not zero.
     Another,
     /// A record that rubble refuses, with its number.
     Bad(u8),
@@ -30,7 +30,7 @@ impl Behind {
     }
 }
 
-/// The good records that an area begins with, the octets that they took, and what stands behind them.
+/// The good records that an area begins with, the octets that they took, and what stands after them.
 pub struct Read<'a> {
     pub records: Vec<AdStructure<'a>>,
     pub taken: usize,
@@ -57,7 +57,7 @@ pub fn read(area: &[u8]) -> Read<'_> {
         let rest = reader.as_raw_bytes();
         let behind = match rest {
             [] => Behind::Nothing,
-            [0, zeros @ ..] if zeros.iter().all(|octet| *octet == 0) => Behind::Zeros,
+            [0, zeros @ ..] if zeros.iter().all(|octet| *octet == 0) => After::Zeros,
             [0, ..] => Behind::Another,
             _ => match AdStructure::from_bytes(&mut reader) {
                 Ok(record) => {

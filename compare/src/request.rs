@@ -128,7 +128,7 @@ impl Kind {
     }
 }
 
-/// The last channel and place that a map is asked for: two behind the last one, for some maps all that an octet holds.
+/// The last channel and place that a map is asked for: two after the last one, for some maps all that an octet holds.
 pub fn last_asked(map: &[u8]) -> u8 {
     if map[1] == 0x5A { 255 } else { 38 }
 }

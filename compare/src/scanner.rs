@@ -17,7 +17,7 @@ impl Heard {
         (self.header.first().unwrap_or(&0) / 64 % 2) as u64
     }
 
-    /// The sender's octets; zeros behind a short payload.
+    /// The sender's octets; zeros after a short payload.
     pub fn sender(&self) -> Vec<u8> {
         let mut sender = self.payload.clone();
         sender.resize(6, 0);
@@ -25,14 +25,14 @@ impl Heard {
     }
 }
 
-/// A beacon that a header can count, and a list that holds its sender behind up to two others.
+/// A beacon that a header can count, and a list that holds its sender after up to two others.
 fn beacon(rng: &mut Rng) -> Heard {
     let n = 6 + if rng.bit() == 0 { rng.below(32) } else { rng.below(58) };
     let p = payload(rng, 2, if n == 7 { 6 } else { n });
     listed(rng, p)
 }
 
-/// The same with zeros behind its records, a quarter of them spoiled, and sometimes damaged.
+/// The same with zeros after its records, a quarter of them spoiled, and sometimes damaged.
 fn padded(rng: &mut Rng) -> Heard {
     let all = match rng.below(4) {
         0 => 31,

@@ -1,4 +1,4 @@
-//! The settings of a connect request (document 02, Note 6): 22 octets behind its two addresses. rubble reads them and takes any, so this answers in its place where
+//! The settings of a connect request (document 02, Note 6): 22 octets after its two addresses. rubble reads them and takes any, so this answers in its place where
 //! they are taken alone, and says which requests to a device are outside the ranges. rubble reads each setting; the ranges alone are ours, and share no line with the
 //! translation.
 pub mod made;
@@ -103,7 +103,7 @@ impl Settings {
     }
 }
 
-/// Number, hop, map, channels, interval, latency, timeout, window size and window offset; behind a refusal zeros.
+/// Number, hop, map, channels, interval, latency, timeout, window size and window offset; after a refusal zeros.
 pub fn answer(octets: &[u8], out: &mut Vec<u8>) {
     let s = read(octets);
     let number = s.number();

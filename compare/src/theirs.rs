@@ -44,7 +44,7 @@ fn got(number: u8, first: u64, second: u64, out: &mut Vec<u8>) {
     out.extend(second.to_le_bytes());
 }
 
-/// A lent buffer, and the octets behind it, which stay as they were.
+/// A lent buffer, and the octets after it, which stay as they were.
 fn whole(buffer: &[u8], out: &mut Vec<u8>) {
     out.extend(buffer);
     out.extend(behind(buffer.len()));
@@ -639,7 +639,7 @@ fn listens(cmd: Cmd) -> (u8, NextUpdate) {
     }
 }
 
-/// A packet as rubble's scanner can read it. A beacon with zeros behind its records is cut there, and its header counts what is left; any other packet is as
+/// A packet as rubble's scanner can read it. A beacon with zeros after its records is cut there, and its header counts what is left; any other packet is as
 /// it came.
 fn unpadded(header: Header, payload: &[u8]) -> (Header, &[u8]) {
     let counted = header.type_().is_beacon() && header.payload_length() as usize == payload.len();
@@ -959,7 +959,7 @@ pub fn answer(r: &Request, out: &mut Vec<u8>) {
                     // `DataChannel::new` panics: see `DataChannel`.
                     _ => got(8, 0, 0, out),
                 }
-                // `by_index` is the place of `iter_used`, and panics behind its end: asked for itself on a sample.
+                // `by_index` is the place of `iter_used`, and panics after its end: asked for itself on a sample.
                 match marked.get(c as usize) {
                     Some(index) => {
                         if p[0][0] == 0x5A || p[0][4] == 0x1F {

@@ -86,7 +86,7 @@ fn any_octet(rng: &mut Rng, octet: &mut u8, times: usize) {
     }
 }
 
-/// Octets 1 and 2 of a call have any value, and so has now and then its kind; behind its payload stands anything.
+/// Octets 1 and 2 of a call have any value, and so has now and then its kind; after its payload stands anything.
 fn any_octets(rng: &mut Rng, calls: &mut [u8]) {
     for c in calls.chunks_exact_mut(CALL) {
         any_octet(rng, &mut c[0], 64);

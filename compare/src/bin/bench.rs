@@ -2,7 +2,7 @@
 //! called from here, in alternating rounds. Our answer has the number of records; rubble's area is walked for it, and timed without that too.
 //!
 //! Likewise both scanners, a new one for each of one million beacons that fill their area: ours as `board_scan` answers, rubble's with a callback that counts
-//! the records. rubble reports none that has zeros behind its records, so ours alone is timed on the same beacons with zeros up to 37 octets.
+//! the records. rubble reports none that has zeros after its records, so ours alone is timed on the same beacons with zeros up to 37 octets.
 //!
 //! Then the bit stream of packets of 42 octets, ours beside the same by tables (`tables.rs`); rubble has none.
 use compare::inputs::payload;

@@ -1,5 +1,5 @@
 //! Prints requests for `crates/replay` with rubble's answers, a line for each: first the request, then its answer. From each suite the first
-//! requests that show a refusal, a type, a builder, a kind of record, a call's answer, what stands behind an area's records, where a name lies or which of a connect
+//! requests that show a refusal, a type, a builder, a kind of record, a call's answer, what stands after an area's records, where a name lies or which of a connect
 //! request's settings is outside its range are taken.
 use compare::made::{self, Share};
 use compare::names;
@@ -48,7 +48,7 @@ fn rubble(r: &Request) -> Vec<u8> {
     out
 }
 
-/// A lent buffer, with the octets behind it, as replay prints it: what was written, and FF where rubble's buffer kept what it held.
+/// A lent buffer, with the octets after it, as replay prints it: what was written, and FF where rubble's buffer kept what it held.
 fn lent(whole: &[u8], written: usize) -> String {
     let buffer = &whole[..whole.len() - BEHIND];
     assert_eq!(buffer[written..], pattern(buffer.len())[written..]);
@@ -84,7 +84,7 @@ fn decode(r: &Request) -> Vec<Line> {
     line('d', (0, a[1]), &parts, text)
 }
 
-/// The number and the position of an answer, and the buffer behind them.
+/// The number and the position of an answer, and the buffer after them.
 fn written(a: &[u8]) -> (u8, String) {
     let to = word(a, 1) as usize;
     match a[0] {
@@ -155,7 +155,7 @@ fn beacon(r: &Request) -> Vec<Line> {
     line('k', (a[0], 0), &parts, text)
 }
 
-/// What stands behind the records of an area: nothing, zeros, another octet behind a zero length, or a bad record by its number.
+/// What stands after the records of an area: nothing, zeros, another octet after a zero length, or a bad record by its number.
 fn behind(area: &[u8]) -> u8 {
     match padding::read(area).behind {
         Behind::Nothing => 0,

@@ -56,7 +56,7 @@ fn text(rng: &mut Rng, len: usize) -> Vec<u8> {
     text.into_bytes()
 }
 
-/// The same with a fault before, behind or between the characters; as long as the fault where that is longer.
+/// The same with a fault before, after or between the characters; as long as the fault where that is longer.
 fn malformed(rng: &mut Rng, fault: &[u8], len: usize) -> Vec<u8> {
     let around = len.saturating_sub(fault.len());
     let before = rng.below(around + 1);
@@ -125,7 +125,7 @@ fn ordered(rng: &mut Rng, complete: Vec<Vec<u8>>, shortened: Vec<Vec<u8>>, order
     records
 }
 
-/// An area of names, with other records before, between and behind them.
+/// An area of names, with other records before, between and after them.
 fn among_others(rng: &mut Rng, names: Vec<Vec<u8>>) -> Vec<u8> {
     let mut area = Vec::new();
     for name in names {
@@ -140,7 +140,7 @@ fn among_others(rng: &mut Rng, names: Vec<Vec<u8>>) -> Vec<u8> {
     area
 }
 
-/// A pair as it is; with zeros behind one or both; each with these spoiled, and damaged.
+/// A pair as it is; with zeros after one or both; each with these spoiled, and damaged.
 fn around(rng: &mut Rng, pair: Pair, each: Each) {
     ask(&pair, each);
     let mut padded = pair.clone();
@@ -234,7 +234,7 @@ fn beside(rng: &mut Rng, ty: u8, name: &[u8], each: Each) {
 /// How many faults of an area there are, none among them.
 const BAD: u64 = 7;
 
-/// Puts a fault behind an area's records: none; a record cut short, half a UUID (1); Flags without data, Flags of two octets, an octet behind a zero length, a name
+/// Puts a fault after an area's records: none; a record cut short, half a UUID (1); Flags without data, Flags of two octets, an octet after a zero length, a name
 /// there (2).
 fn make_bad(rng: &mut Rng, fault: u64, area: &mut Vec<u8>) {
     let name = record(rng.pick(&[COMPLETE, SHORTENED]), &good(rng));
@@ -256,13 +256,13 @@ fn make_bad(rng: &mut Rng, fault: u64, area: &mut Vec<u8>) {
             area.extend(&name);
         }
     }
-    // Behind a record that is cut short these would be its own octets.
+    // After a record that is cut short these would be its own octets.
     if fault > 1 && rng.bit() == 0 {
         area.extend(name);
     }
 }
 
-/// Each fault in each area, with each in the other and with none, behind names of all forms.
+/// Each fault in each area, with each in the other and with none, after names of all forms.
 pub fn refusals(share: &Share, rounds: u64, each: Each) {
     let mut rng = share.rng(28);
     for _ in (0..rounds).filter(|n| share.has(*n)) {

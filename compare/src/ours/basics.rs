@@ -11,7 +11,7 @@ struct Part {
     next: usize,
 }
 
-/// Octets that were read, and the position behind them.
+/// Octets that were read, and the position after them.
 #[repr(C)]
 struct Octets<const N: usize> {
     number: u8,
@@ -113,7 +113,7 @@ fn read(n: &[u64], s: &[u8], out: &mut Vec<u8>) {
     }
 }
 
-/// Writes into a new buffer, which is answered whole, with the octets behind it.
+/// Writes into a new buffer, which is answered whole, with the octets after it.
 fn written(space: u64, out: &mut Vec<u8>, write: impl FnOnce(Out, usize) -> Got) {
     let mut buffer = lent(space);
     got(write(buffer.as_mut_ptr(), space as usize), out);

@@ -34,7 +34,7 @@ pub fn crc_flag(channel: u8, start: u32, packet: &[u8]) -> FlagSaid {
 
 pub fn answer(r: &Request, out: &mut Vec<u8>) {
     let (n, s) = (&r.numbers, &r.parts[0]);
-    // A packet as it is lent: the octets behind it are no part of it.
+    // A packet as it is lent: the octets after it are no part of it.
     let lent = || [&s[..], &behind(s.len())].concat();
     match r.kind {
         Kind::Whiten => {

@@ -1,4 +1,4 @@
-//! Requests for the hub's reading: areas with zeros behind their records, and such as are off by an octet or a record. The strict readings are asked for
+//! Requests for the hub's reading: areas with zeros after their records, and such as are off by an octet or a record. The strict readings are asked for
 //! them too, and refuse them as rubble does.
 use crate::inputs::{area, count, damage, pad, spoil};
 use crate::made::{Each, Share};
@@ -59,7 +59,7 @@ fn strict(rng: &mut Rng, a: &[u8], each: Each) {
     }
 }
 
-/// Good records of so many octets, and zeros behind them, to so many octets in all: as they are, spoiled, and damaged before the zeros and anywhere.
+/// Good records of so many octets, and zeros after them, to so many octets in all: as they are, spoiled, and damaged before the zeros and anywhere.
 fn around(rng: &mut Rng, len: usize, all: Option<usize>, each: Each) {
     let records = if len == 1 { Vec::new() } else { area(rng, len) };
     let taken = records.len();

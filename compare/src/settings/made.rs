@@ -59,7 +59,7 @@ fn choose(rng: &mut Rng, known: &mut Known) {
     }
 }
 
-/// A map that marks so many channels, with any of the three bits behind them.
+/// A map that marks so many channels, with any of the three bits after them.
 fn map(rng: &mut Rng, channels: u64) -> [u8; 5] {
     let mut left: Vec<usize> = (0..37).collect();
     let mut map = [0, 0, 0, 0, if rng.bit() == 0 { 0 } else { rng.octet() & 0xE0 }];
@@ -243,7 +243,7 @@ pub fn products(share: &Share, count: u64, each: Each) {
     }
 }
 
-/// All maps that mark one channel or two, or none, with each of the three bits behind them, and all others within their ranges.
+/// All maps that mark one channel or two, or none, with each of the three bits after them, and all others within their ranges.
 pub fn maps(share: &Share, rounds: u64, each: Each) {
     let mut rng = share.rng(34);
     let mut r = blank();

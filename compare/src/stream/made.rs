@@ -86,7 +86,7 @@ pub fn crcs(share: &Share, count: u64, each: Each) {
     }
 }
 
-/// A packet as it is heard: octets, three behind them, and the whitening of a channel.
+/// A packet as it is heard: octets, three after them, and the whitening of a channel.
 fn heard(channel: u8, octets: &[u8], last: [u8; 3]) -> Vec<u8> {
     let mut packet = [octets, &last].concat();
     whiten(channel, &mut packet);
@@ -109,7 +109,7 @@ fn with_one_off(rng: &mut Rng, ask: &mut dyn FnMut(u8, u32, &[u8])) {
     let good = heard(channel, &octets, own);
     ask(channel, start, &good);
     ask(channel, start, &flipped(&good, rng.below(8 * len)));
-    // Two octets that stand behind each other, or anywhere.
+    // Two octets that stand after each other, or anywhere.
     let mut swapped = good.clone();
     let at = rng.below(len - 1);
     swapped.swap(at, if rng.bit() == 0 { at + 1 } else { rng.below(len) });

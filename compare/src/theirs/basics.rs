@@ -21,7 +21,7 @@ fn behind(s: &[u8], reader: &ByteReader<'_>) -> u64 {
     (s.len() - reader.bytes_left()) as u64
 }
 
-/// A number that was read at a position, and the position behind it.
+/// A number that was read at a position, and the position after it.
 fn value(s: &[u8], at: u64, out: &mut Vec<u8>, read: impl FnOnce(&mut ByteReader<'_>) -> Result<u64, Error>) {
     let done = reader(s, at).and_then(|mut r| read(&mut r).map(|value| (value, behind(s, &r))));
     match done {
@@ -30,7 +30,7 @@ fn value(s: &[u8], at: u64, out: &mut Vec<u8>, read: impl FnOnce(&mut ByteReader
     }
 }
 
-/// Octets that were read at a position, and the position behind them.
+/// Octets that were read at a position, and the position after them.
 fn array<const N: usize>(
     s: &[u8],
     at: u64,
@@ -89,8 +89,8 @@ fn read(n: &[u64], s: &[u8], out: &mut Vec<u8>) {
     }
 }
 
-/// Writes at a position of a new buffer, which is answered whole, with the octets behind it; before the buffer what `write` says, then the position
-/// behind what was written.
+/// Writes at a position of a new buffer, which is answered whole, with the octets after it; before the buffer what `write` says, then the position
+/// after what was written.
 fn written<T: Into<Option<u64>>>(
     at: u64,
     space: u64,

@@ -97,7 +97,7 @@ module _ (n : ℕ) (p : List ℕ) where
   has-records (inr (inr (inr (inl e)))) = record { code = 6; type = AdvScanInd; is = e; named = codes .code-6; allows = refl }
   has-records (inr (inr (inr (inr none)))) = absurd none
 
-  -- what an area that reads so comes to
+  -- the answer for an area, by what reading it found
   of-area : (k : ℕ) (a : Area) → n / 256 % 64 ≡ length p → Among (n % 16) (0 ∷ 2 ∷ 4 ∷ 6 ∷ []) → 6 ≤ length p → readArea (drop 6 p) ≡ a
       → ((ty : PduType) → outcomeNumber (withArea ty h p a .outcome) ≡ k) → numberFor n p ≡ k
   unfolding undirected

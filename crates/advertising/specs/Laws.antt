@@ -94,7 +94,7 @@ Accepting h p = AcceptingBy readArea decodeOf h p
 abbrev pub AcceptingHeard : Header → List ℕ → Type 0
 AcceptingHeard h p = AcceptingBy asHub heardOf h p
 
--- a PDU of type ty from the address a was built with these records, n of them, and reads so
+-- a PDU of type ty from the address a was built with these records, n of them, and is read as that
 pub record ReadsBack (ty : PduType) (a : DeviceAddress) (flags s : List ℕ) (n : ℕ) : Type 0 where
   pub pdu : PduBuf
   pub built : builtOf ty a flags s ≡ record { outcome = Accepted; pdu = pdu }

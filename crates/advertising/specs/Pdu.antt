@@ -163,7 +163,7 @@ decodedAs outcome ty sender receiver records lldata =
 abbrev pub refusedPdu : Error → Decoded
 refusedPdu e = decodedAs (Refused e) (Unknown 15) noAddress noAddress noData noRequest
 
--- a PDU whose record area, after the address, reads so
+-- by what reading the record area after the address found
 unfoldable pub withArea : PduType → Header → List ℕ → Area → Decoded
 withArea ty h p (area.Accepted n) =
     decodedAs Accepted ty (senderOf h p) noAddress (record { start = 6; len = length p - 6; count = n }) noRequest

@@ -27,7 +27,7 @@ use Rattle.advertising.specs.declared.pdu.Pdu.{Pdu}
 use Rattle.advertising.specs.Laws.{nine}
 use Rattle.channels.specs.Laws.{rowMap}
 
--- what a header and a payload, or an area, come to: a type with a random or public sender and a number of records, a number of records, or a refusal
+-- what a header and a payload, or an area, are read as: a type with a random or public sender and a number of records, a number of records, or a refusal
 pub data Result : Type 0 where
   pdu : (type : ℕ) (random : Bool) (records : ℕ) → Result
   records : ℕ → Result

@@ -20,7 +20,7 @@ pub record Examples : Type 0 where
   pub row : rowOf (6 ∷ 3 ∷ 2 ∷ []) (2 ∷ 38 ∷ 1 ∷ []) ≡ lines ("     2 38 1" ∷ [])
   -- the last one spaces alone
   pub read : map (λ t. readColumn (ascii t)) ("  0" ∷ " 38" ∷ "100" ∷ "   " ∷ []) ≡ 0 ∷ 38 ∷ 100 ∷ 0 ∷ []
-  -- the largest numbers that two and three columns hold, which stand directly behind each other; and one more, which lose their first digits
+  -- the largest numbers that two and three columns hold, which stand directly after each other; and one more, which lose their first digits
   pub full : readRow (2 ∷ 3 ∷ []) (rowOf (2 ∷ 3 ∷ []) (99 ∷ 999 ∷ [])) ≡ 99 ∷ 999 ∷ []
   pub lost : readRow (2 ∷ 3 ∷ []) (rowOf (2 ∷ 3 ∷ []) (100 ∷ 1000 ∷ [])) ≡ 0 ∷ 0 ∷ []
   -- octets from the table: in all of the room, as far as there are four columns, and with columns left over

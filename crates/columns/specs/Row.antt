@@ -2,7 +2,7 @@
 --
 --     | number, right-justified | number, right-justified | .. | 0A |
 --
---   rowOf ws ns         == the numbers ns in columns of the widths ws, one behind the other, and the octet 0A
+--   rowOf ws ns         == the numbers ns in columns of the widths ws, one after the other, and the octet 0A
 --   readColumn s        == the number in a column: spaces before its digits are passed over
 --   readRow ws s        == the numbers in columns of these widths, which s begins with
 --   Fits ws ns          == there are as many numbers as columns, and none is too long for its column
@@ -36,7 +36,7 @@ Fits [] (n ∷ ns) = ⊥
 Fits (w ∷ ws) [] = ⊥
 Fits (w ∷ ws) (n ∷ ns) = (n < 10 ^ w) × Fits ws ns
 
--- Numbers that fit are read again, whatever stands behind the row; and numbers that are read again fit.
+-- Numbers that fit are read again, whatever stands after the row; and numbers that are read again fit.
 pub record Row (ws ns : List ℕ) : Type 0 where
   pub size : Fits ws ns → length (rowOf ws ns) ≡ total ws + 1
   pub back : Fits ws ns → (rest : List ℕ) → readRow ws (rowOf ws ns ++ rest) ≡ ns

@@ -239,7 +239,7 @@ impl Hub {
     }
 
     // Takes in the first `filled` octets of `buf`: writes the lines of the whole items among them to the front of `out`, and moves the octets
-    // behind these items to the front of `buf`.
+    // after these items to the front of `buf`.
     pub fn take_in(self, buf: &mut [u8], filled: usize, out: &mut [u8]) -> TakenIn
         ensures { λ r. ⌜ (takenStep r ≡ takenIn (hubState self) (now (buf .entry)) filled (now (out .entry))) × ((now (buf .exit) ≡ restAfter (hubState self) (now (buf .entry)) filled (now (out .entry))) × (now (out .exit) ≡ linesAfter (hubState self) (now (buf .entry)) filled (now (out .entry)))) ⌝ }
     {

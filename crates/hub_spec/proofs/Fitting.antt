@@ -1,4 +1,4 @@
--- Every number of a report's row fits its column: `rows-fit`; and lines whose numbers fit are read again, one behind the other: `lines-read`. Assumes nothing.
+-- Every number of a report's row fits its column: `rows-fit`; and lines whose numbers fit are read again, one after the other: `lines-read`. Assumes nothing.
 use mathlib.Core.Path.{_≡_, refl, ap}
 use mathlib.Core.List.{List, [], _∷_, _++_, append-assoc, flatten}
 use Prim.Native.Nat.{ℕ, zero, suc, _+_, _*_, _<_, _≤_}
@@ -73,7 +73,7 @@ rows-fit {k = k} {from = from} (spec.next before item its rows more ticks count 
     let here = item-fits (k + length before + 1) (indexOf (cycles ticks from)) item rows prints (omega arith) (index-small (cycles ticks from)) (item-size item (all .0)) (parts .0) in
     all-append (Fits reportWidths) rows more here (rows-fit later (rw length-append (omega arith)) (all .1) (parts .1))
 
--- lines are read again, one behind the other
+-- lines are read again, one after the other
 pub lines-read : (rows : List (List ℕ)) (rest : List ℕ) → All (Fits reportWidths) rows → (i : ℕ) → i < length rows
     → readRow reportWidths (drop (lineSize * i) (lineEach rows ++ rest)) ≡ getD rows i []
 unfolding flatten

@@ -178,7 +178,7 @@ still-all s (first ∷ rest) all-pass = go (eqb first 0)
     go true = all-pass
     go false = all-pass
 
--- one more item behind others
+-- one more item after others
 tick-behind : {its : List (List ℕ)} {n : ℕ} → TickCount its n → TickCount (its ++ ((0x00 ∷ []) ∷ [])) (1 + n)
 tick-behind spec.no-items = spec.tick [] 0 spec.no-items
 tick-behind (spec.tick its n count) = spec.tick _ (1 + n) (tick-behind count)
@@ -209,7 +209,7 @@ heard-more from before s item (packet first h0 h1 payload which long) heard =
       channel = rw (ne-eqb first 0 some) (heard .channel);
     }
 
--- many items, behind others
+-- many items, after others
 record Told (k : ℕ) (from : AdvertisingChannel) (before : List (List ℕ)) (h : Hub) (its : List (List ℕ)) : Type 0 where
   rows : List (List ℕ)
   printed-rows : Rows k from before its rows

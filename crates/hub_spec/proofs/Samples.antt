@@ -68,7 +68,7 @@ cut-item : items mostItems (0x01 ∷ 0x42 ∷ []) ≡ []
 unfolding sizeOf wholeSize
 cut-item = none-whole mostItems (0x01 ∷ 0x42 ∷ []) refl
 
--- items, one behind the other
+-- items, one after the other
 each-found : (its : List (List ℕ)) (n : ℕ) (rest : List ℕ) → All IsItem its → items (length its + n) (flatten its ++ rest) ≡ its ++ items n rest
 unfolding flatten
 each-found [] n rest all = ap (λ (k : ℕ). items k rest) (omega arith)
@@ -108,7 +108,7 @@ sample =
       channels = rw ticked-items;
     }
 
--- short beacons, one behind the other
+-- short beacons, one after the other
 short-items : (k : ℕ) → All IsItem (replicate k shortBeacon)
 short-items zero = tt
 short-items (suc k) = (packet _ _ _ _ (inl refl) refl, short-items k)

@@ -3,7 +3,7 @@
 --     report       | item number 6 | channel 3 | kind 2 | six octets, 4 each | records 3 | 0A |
 --     last line    | items 6       | reports 6 | flag 2 | 0A |
 --
---   sentColumns sender records          == a report's line behind its first columns: the kind, the six octets, the records, and the octet 0A
+--   sentColumns sender records          == a report's line after its first columns: the kind, the six octets, the records, and the octet 0A
 --   reportLine number c sender records  == the line of a report that was heard on channel c
 --   bareLine number sender records      == the same without the channel, as document 01 has it
 --   line number s                       == the line of what a scanner answers, or none
@@ -55,6 +55,6 @@ shortest = 9
 abbrev pub roomFor : ℕ → ℕ
 roomFor n = lineSize * (n / shortest)
 
--- behind the item's first octet and the header
+-- after the item's first octet and the header
 abbrev pub SentIn : Scanned → List ℕ → Type 0
 SentIn s item = isReport (s .report) ≡ true → (shortest ≤ length item) × (part 6 item 3 ≡ s .sender .bytes)

@@ -93,8 +93,8 @@ lastLine h n = column 6 (h .items) ++ (column 6 (h .reports) ++ (column 2 (leftO
 abbrev pub freshHub : Hub
 freshHub = record { items = 0; reports = 0; scanner = configured (scannerOf AllowAll) start 0 .scanner }
 
--- a line for each report among the whole items, of which 999,999 count, and the last line, whose flag says whether octets are left over behind
--- these items: a broken item, or any octet behind the last that counts
+-- a line for each report among the whole items, of which 999,999 count, and the last line, whose flag says whether octets are left over after
+-- these items: a broken item, or any octet after the last that counts
 unfoldable pub logOf : List ℕ → List ℕ
 logOf s =
     printedAll freshHub (items mostItems s) ++ lastLine (afterAll freshHub (items mostItems s)) (length (afterItems (items mostItems s) s))

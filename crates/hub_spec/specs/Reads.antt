@@ -43,7 +43,7 @@ pub record BlockTaken (h : Hub) (s : List ℕ) : Type 0 where
   -- else it is refused, and both buffers keep their octets
   pub refused : (buf : List ℕ) (filled : ℕ) (out : List ℕ) → (Ready h buf filled out → ⊥)
       → (takenIn h buf filled out ≡ taken.refused) × ((restAfter h buf filled out ≡ buf) × (linesAfter h buf filled out ≡ out))
-  -- what is left over stands at the front of the one buffer then, the lines at the front of the other, and the octets behind are kept
+  -- what is left over stands at the front of the one buffer then, the lines at the front of the other, and the octets after are kept
   pub left : (buf : List ℕ) (filled : ℕ) (out : List ℕ) → Ready h buf filled out
       → (take (blockOf h (take filled buf) .kept) (restAfter h buf filled out) ≡ octetsLeft h (take filled buf))
       × (drop (blockOf h (take filled buf) .kept) (restAfter h buf filled out) ≡ drop (blockOf h (take filled buf) .kept) buf)

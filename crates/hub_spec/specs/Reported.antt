@@ -71,7 +71,7 @@ pub data TickCount : List (List ℕ) → ℕ → Type 0 where
   tick : (its : List (List ℕ)) (n : ℕ) → TickCount its n → TickCount ((0x00 ∷ []) ∷ its) (1 + n)
   packet : (first : ℕ) (rest : List ℕ) (its : List (List ℕ)) (n : ℕ) → (first ≡ 0x01) ⊎ (first ≡ 0x02) → TickCount its n → TickCount ((first ∷ rest) ∷ its) n
 
--- A hub that had counted k items and listened on channel c has heard the items `before` since. The next one has the number behind theirs, and the channel
+-- A hub that had counted k items and listened on channel c has heard the items `before` since. The next one has the number after theirs, and the channel
 -- that the cycle gives after as many steps from c as there are ticks among them, whether or not anything was heard ("Readers .. worked out the channel by
 -- counting ticks").
 pub data Rows (k : ℕ) (c : AdvertisingChannel) : List (List ℕ) → List (List ℕ) → List (List ℕ) → Type 0 where

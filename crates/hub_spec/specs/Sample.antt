@@ -1,6 +1,6 @@
 -- Document 01's sample of hublog with the channel of document 02's Note 7, an empty input, and inputs that the sample leaves open; as many items as count, and one more.
 --   beacon, badBeacon               == the sample's packet, and the same CRC-bad
---   paddedBeacon, unendedBeacon     == a beacon with zeros behind its record, and with another octet at their end
+--   paddedBeacon, unendedBeacon     == a beacon with zeros after its record, and with another octet at their end
 --   shortBeacon, longPacket         == a beacon without records, and a packet that is none
 --   sixItems, tickItems             == items with reports among them, and with ticks between reports
 --   oneItem, brokenAtOnce           == the logs of one item that is not reported, and of an input whose first item is broken
@@ -28,7 +28,7 @@ badBeacon = 0x02 ∷ 0x42 ∷ 0x09 ∷ nine
 abbrev pub longPacket : List ℕ
 longPacket = 0x01 ∷ 0x00 ∷ 0x20 ∷ replicate 32 0
 
--- the sample's packet with 28 zeros behind its record, and with another octet at their end
+-- the sample's packet with 28 zeros after its record, and with another octet at their end
 abbrev pub paddedBeacon : List ℕ
 paddedBeacon = 0x01 ∷ 0x42 ∷ 0x25 ∷ (nine ++ replicate 28 0)
 
@@ -85,7 +85,7 @@ pub record Sample : Type 0 where
   pub empty : logOf [] ≡ lines ("     0     0 0" ∷ [])
   -- a CRC-bad packet is an item and no report
   pub crc-bad : logOf badBeacon ≡ oneItem
-  -- zeros behind the record; an octet among them that is not zero: no report
+  -- zeros after the record; an octet among them that is not zero: no report
   pub zeros :
       logOf paddedBeacon
       ≡ lines

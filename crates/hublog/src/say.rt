@@ -5,7 +5,7 @@ ghost use lib.ListN.{length};
 // The columns of an item's number, which begins each line.
 const NUMBER: usize = 6;
 
-// Puts `more` behind the first `at` octets of `text`, as far as there is room, and answers how many octets stand there then.
+// Puts `more` after the first `at` octets of `text`, as far as there is room, and answers how many octets stand there then.
 fn put(text: &mut [u8], at: usize, more: &[u8]) -> usize
     requires { ⌜ at ≤ length (now text) ⌝ }
     ensures { λ r. ⌜ r ≤ length (now (text .entry)) ⌝ }

@@ -129,7 +129,7 @@ unfolding flatten
 flatten-append [] b = refl
 flatten-append (l ∷ a) b = simp (flatten-append a b, append-assoc)
 
--- what lies behind the first item and some others
+-- what lies after the first item and some others
 behind-cons : (s : List ℕ) (size : ℕ) (its : List (List ℕ)) → size ≤ length s → afterItems (take size s ∷ its) s ≡ afterItems its (drop size s)
 unfolding afterItems flatten
 behind-cons s size its inside =
@@ -148,7 +148,7 @@ items-fit (suc n) s =
     (omega (arith, length-take (wholeSize s) s, items-fit n (drop (wholeSize s) s), length-drop (wholeSize s) s)))
     (at-front s)
 
--- the items of more octets: those at the front, and those of what is behind them with what follows
+-- the items of more octets: those at the front, and those of what is after them with what follows
 abbrev More : ℕ → List ℕ → List ℕ → Type 0
 More n s more = items n (s ++ more) ≡ items n s ++ items (n - length (items n s)) (afterItems (items n s) s ++ more)
 
@@ -171,7 +171,7 @@ items-more (suc n) s more =
     (λ item. more-than-one n s more item (items-more n (drop (wholeSize s) s) more))
     (at-front s)
 
--- what is behind the items of more octets
+-- what is after the items of more octets
 pub behind-more : (n : ℕ) (s more : List ℕ) → let rest = afterItems (items n s) s ++ more in
     afterItems (items n (s ++ more)) (s ++ more) ≡ afterItems (items (n - length (items n s)) rest) rest
 unfolding afterItems
@@ -225,7 +225,7 @@ all-whole (suc n) s =
     (λ item. rw (one-whole n s item) (item-whole s item, all-whole n (drop (wholeSize s) s)))
     (at-front s)
 
--- no whole item stands behind the items, unless there are n
+-- no whole item stands after the items, unless there are n
 pub ends : (n : ℕ) (s : List ℕ) → (length (items n s) ≡ n) ⊎ (wholeSize (afterItems (items n s) s) ≡ 0)
 unfolding items afterItems flatten
 ends zero s = inl refl

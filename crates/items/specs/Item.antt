@@ -7,7 +7,7 @@
 --   sizeOf s            == how many octets the item has that begins so, 0 where none does
 --   wholeSize s         == the same where s has so many octets, else 0
 --   items n s           == the whole items at the front of s, at most n of them
---   afterItems its s    == what is left of s behind these items
+--   afterItems its s    == what is left of s after these items
 --   IsItem item         == an item, in the paper's words
 --   HasItsSize item     == an item is as long as its own octets say
 --   Falls n s, Cut n s  (Falling.falls, Items.cut)  what `items` finds is just that
@@ -57,10 +57,10 @@ abbrev pub HasItsSize : List ℕ → Type 0
 HasItsSize item = sizeOf item ≡ length item
 
 pub record Cut (n : ℕ) (s : List ℕ) : Type 0 where
-  -- the items and the octets behind them are the input, and each item is whole
+  -- the items and the octets after them are the input, and each item is whole
   pub tiles : flatten (items n s) ++ afterItems (items n s) s ≡ s
   pub whole : All HasItsSize (items n s)
-  -- reading ends at the end, at the item behind n, at another first octet, or at an item that is cut short
+  -- reading ends at the end, at the item after n, at another first octet, or at an item that is cut short
   pub ends :
       (afterItems (items n s) s ≡ [])
       ⊎ ((length (items n s) ≡ n) ⊎ ((sizeOf (afterItems (items n s) s) ≡ 0) ⊎ (length (afterItems (items n s) s) < sizeOf (afterItems (items n s) s))))

@@ -395,7 +395,7 @@ module _ (scan : List ℕ) (d : State) (sound : Sound scan d) where
     bad-asks : (is : PduType → Bool) → crcGood ≡ false → requested is own crcGood header payload ≡ false
     bad-asks is crc = requested-is own header payload is crcGood ∙ rw crc
 
-    -- what taking the settings comes to
+    -- what taking the settings answers
     settling : (t : Taken) → t ≡ takenOf (requestOf payload) → Happens scan d this (settled d end (requestOf payload) (t .settings) (t .outcome))
         → Happens scan d this (connectsTo d end (requestOf payload))
     unfolding connectsTo

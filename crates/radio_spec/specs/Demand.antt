@@ -195,7 +195,7 @@ pub record Demand3 (own : DeviceAddress) (calls : List Call) : Type 0 where
   -- document 02, Note 1: "On a good scan request to us the reply payload is now written to a lent transmit buffer", of the scan data that "outlive start and
   -- stop"
   pub replies : AtEach (RepliesAt own) (trace own calls)
-  -- "A new call sets record octets for the reply": where the table, which asksToConnect no mode of it, does not refuse them
+  -- "A new call sets record octets for the reply": where the table, which asks no mode of it, does not refuse them
   pub sets : AtEach SetsAt (trace own calls)
   -- "A connection begins exactly when an advertising board is handed a CRC-good, well-formed connect request to its own address, kind included, marking
   -- n ≥ 1 channels; that request's call gives its first event." Note 6: "exactly on a request that demand 3 names and that is within these ranges"

@@ -152,7 +152,7 @@ pub record SetsScanData (d : State) : Type 0 where
   pub hopping : callOf d event .state .«scan_response» ≡ d .«scan_response»
   pub stopping : callOf d stop .state .«scan_response» ≡ d .«scan_response»
 
--- What a packet comes to. A device that does not advertise refuses it with 5. To one that does, bad, malformed or foreign ones, and type 1 sent to us, keep
+-- What a packet is answered. A device that does not advertise refuses it with 5. To one that does, bad, malformed or foreign ones, and type 1 sent to us, keep
 -- listening; a scan request to us gets the reply with the scan data s, whichever the device has, and where the transmit buffer has no room for it is 1;
 -- a connect request to us gives event 0, at packet end + window offset + window size + 1,750 µs, with access address and CRC start, by the request's own
 -- octets, where it marks no channel is 6, and where it marks one and has a setting outside its range is 12. Only a scan request to us changes the transmit

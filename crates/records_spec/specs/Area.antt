@@ -47,7 +47,7 @@ unfoldable pub reads : List (List ℕ) → ℕ → List Read
 reads [] at = []
 reads (r ∷ rs) at = recordRead r at ∷ reads rs (at + length r)
 
--- an area whose first record reads so, before an area that reads so
+-- an area by what reading its first record found, and the area after it
 unfoldable pub withFirst : Read → Area → Area
 withFirst (Record a next) (Accepted n) = Accepted (n + 1)
 withFirst (Record a next) (Area.Refused e) = Area.Refused e
@@ -85,7 +85,7 @@ clean r = cond (eqb (getD r 1 0) 1) (set r 2 (named (getD r 2 0))) r
 unfoldable pub rewritten : List ℕ → List ℕ
 rewritten s = flatten (map clean (records s))
 
--- whether an area that reads so may be written again to `out`
+-- whether an area may be written again to `out`, by what reading it found
 unfoldable pub mayRewrite : Area → List ℕ → List ℕ → Outcome
 mayRewrite (Accepted n) s out = cond (ltb (length out) (length s)) (outcome.Refused Eof) outcome.Accepted
 mayRewrite (Area.Refused e) s out = outcome.Refused e

@@ -100,7 +100,7 @@ pub record PaddedRows : Type 0 where
       ≡ padded.Accepted 2 6 ∷ padded.Accepted 2 6 ∷ padded.Accepted 2 6 ∷ padded.Accepted 2 6 ∷ []
   -- a zero that is no length: the record's own
   pub zeros-inside : readPadded (0x03 ∷ 0x0A ∷ 0x00 ∷ 0x00 ∷ []) ≡ padded.Accepted 1 4
-  -- behind the zero: a good record, and an octet that is not zero, in the next place and in the last
+  -- after the zero: a good record, and an octet that is not zero, in the next place and in the last
   pub behind : map (λ (l : List ℕ). readPadded (flags ++ (0x00 ∷ l))) (flags ∷ (0x01 ∷ []) ∷ (blanks 26 ++ (0x01 ∷ [])) ∷ (blanks 52 ++ (0xFF ∷ [])) ∷ [])
       ≡ padded.Refused InvalidLength ∷ padded.Refused InvalidLength ∷ padded.Refused InvalidLength ∷ padded.Refused InvalidLength ∷ []
   pub behind-the-first : map readPadded ((0x00 ∷ 0x01 ∷ []) ∷ (0x00 ∷ flags) ∷ []) ≡ padded.Refused InvalidLength ∷ padded.Refused InvalidLength ∷ []

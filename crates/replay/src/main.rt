@@ -1,4 +1,4 @@
-// Reads requests from standard input, one a line, and prints what each comes to. A request is a letter and octets in hexadecimal, of either case, after a
+// Reads requests from standard input, one a line, and prints what each is answered. A request is a letter and octets in hexadecimal, of either case, after a
 // space; further spaces are for the eye, though not within an octet. Of a number's octets the least one comes first.
 //
 //     a area                             an area: how many records, or why not
@@ -393,7 +393,7 @@ fn settings(out: &mut Page, at: usize, t: Taken) -> usize {
     }
 }
 
-// Behind the sender: a receiver, and a connect request's fields; or records.
+// After the sender: a receiver, and a connect request's fields; or records.
 fn behind_sender(out: &mut Page, at: usize, p: Pdu) -> usize {
     let place = p.adv_data;
     if p.has_receiver() {
@@ -788,7 +788,7 @@ fn serve(out: &mut Page, at: usize, d: Device, letter: u8, s: &[u8]) -> Step {
 fn why(fault: Fault) -> [u8; 26] {
     match fault {
         Fault::NoRequest => *b"no such request\0\0\0\0\0\0\0\0\0\0\0",
-        Fault::NoSpace => *b"no space behind its letter",
+        Fault::NoSpace => *b"no space after its letter",
         Fault::NoNumber => *b"an octet that is no number",
         Fault::OneDigit => *b"an octet of one digit\0\0\0\0\0",
         Fault::Return => *b"a carriage return\0\0\0\0\0\0\0\0\0",

@@ -133,7 +133,7 @@ least-kept =
       win-offset-most = omega arith;
     }
 
--- what the settings of a request l come to
+-- what is answered for the settings of a request l
 module _ (l : ConnectRequestData) (s : ConnectionSettings) (are : s ≡ settingsIn l) where
   pub judged-is : judged s ≡ takenOf l
   unfolding takenOf
@@ -197,7 +197,7 @@ taking at s =
 pub settles : (p : List ℕ) → Settles p
 settles p = subst (Taking 12 p) (sym (taken-is p)) (taking 12 p)
 
--- behind twelve octets
+-- after twelve octets
 module _ (front o : List ℕ) (twelve : length front ≡ 12) where
   part-behind : (n k : ℕ) → part n (front ++ o) (12 + k) ≡ part n o k
   part-behind n k = ap (take n) (ap (λ (j : ℕ). drop (j + k) (front ++ o)) (sym twelve) ∙ drop-append-add front o k)

@@ -134,7 +134,7 @@ judged s =
 unfoldable pub takenOf : ConnectRequestData → Taken
 takenOf l = judged (settingsIn l)
 
--- behind two addresses, whichever they are (`Alone`)
+-- after two addresses, whichever they are (`Alone`)
 abbrev pub aloneOf : List ℕ → Taken
 aloneOf o = takenOf (requestOf (replicate 12 0 ++ o))
 

@@ -1,4 +1,4 @@
--- Many shifts of the CRC's register at once: what it holds afterwards is linear in what it holds and takes in. That eight and 24 shifts at once come to the
+-- Many shifts of the CRC's register at once: what it holds afterwards is linear in what it holds and takes in. That eight and 24 shifts at once give the
 -- same is a computed test each: over the 256 octets, and over the 24 single bits, which tell all of a linear function. Assumes nothing.
 use mathlib.Core.Path.{_≡_, refl, sym, ap, ap₂, subst, _∙_}
 use mathlib.Core.Bool.{Bool, true, false}
@@ -173,7 +173,7 @@ pair-small y = xor-lt 9 (y % 256) (2 * (y % 256)) (omega arith) (omega arith)
 
 -- ---- three octets
 
--- the bits that come round again, all that are fed back, and what they come to
+-- the bits that come round again, all that are fed back, and the bits that they make
 abbrev again : ℕ → ℕ
 again s = bitXor (bitXor (up 14 s) (up 15 s)) (bitXor (bitXor (up 18 s) (up 20 s)) (bitXor (up 21 s) (up 23 s)))
 

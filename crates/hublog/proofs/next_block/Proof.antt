@@ -32,7 +32,7 @@ carried-on h buf filled is counted fits =
 still : (t : Block) (h : Hub) (buf buf′ : List ℕ) {kept : ℕ} → (t .hub ≡ h) × (t .kept ≡ kept) → take kept buf′ ≡ take kept buf → Next h (take kept buf) t (take (t .kept) buf′)
 still t h buf buf′ is same = nothing-read (is .0) (ap (λ (k : ℕ). take k buf′) (is .1) ∙ same)
 
--- what was read stands behind them
+-- what was read stands after them
 read-on : (t : Block) (h : Hub) (buf buf′ buf″ : List ℕ) {kept filled : ℕ} → take kept buf′ ≡ take kept buf → kept ≤ filled
     → (t ≡ blockOf h (take filled buf′)) × (take (t .kept) buf″ ≡ octetsLeft h (take filled buf′)) → Next h (take kept buf) t (take (t .kept) buf″)
 read-on t h buf buf′ buf″ {kept} {filled} same more is =

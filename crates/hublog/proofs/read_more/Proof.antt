@@ -1,4 +1,4 @@
--- `hublog::read_more` meets its contract: the read is lent what lies behind the kept octets. Assumes nothing.
+-- `hublog::read_more` meets its contract: the read is lent what lies after the kept octets. Assumes nothing.
 use Prim.Native.Nat.{_-_}
 use native.Mathlib.Omega.{arith}
 use lib.ListN.{length}

@@ -1,4 +1,4 @@
--- `hub::line::put_item` meets its contract: the number, and the channel behind it. Assumes nothing.
+-- `hub::line::put_item` meets its contract: the number, and the channel after it. Assumes nothing.
 use mathlib.Core.Path.{_≡_, ap, _∙_}
 use mathlib.Core.List.{List, _++_}
 use Prim.Native.Nat.{ℕ, _+_, _-_, _<_, _≤_}
