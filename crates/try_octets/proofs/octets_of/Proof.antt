@@ -1,20 +1,16 @@
--- `vectors::octets_of` meets its contract: the index stays below the length. Assumes nothing.
+-- `try_octets::octets_of` meets its contract: the index stays below the length. Assumes nothing.
 use mathlib.Core.Path.{_≡_}
 use Prim.Native.Nat.{_-_}
-use native.Mathlib.Omega.{arith}
 use lib.ListN.{length}
 use borrow.Author.Needs.{needs}
-use Rattle.vectors.proofs.octets_of.Statement.{statement}
-use Rattle.vectors.proofs.octets_of.Tie as tie
+use Rattle.try_octets.proofs.octets_of.Statement.{statement}
+use Rattle.try_octets.proofs.octets_of.Tie as tie
 
 abbrev Inv-loop : tie.InvT-loop
 Inv-loop s i₀ i-end i = i-end ≡ length s
 
 abbrev μ-loop : tie.MeasureT-loop
 μ-loop s i₀ i-end i = i-end - i
-
-cast-hex : tie.Need-cast-hex Inv-loop μ-loop
-cast-hex c = omega (arith, c .shared-slice-known2 .given (c .before .before .loop .i))
 
 pub octets-of-spec : {M : Type 1} → statement M
 octets-of-spec =
@@ -24,7 +20,6 @@ octets-of-spec =
     μ-loop
     (λ c. search needs)
     (λ c. search needs)
-    cast-hex
     (λ c κs. search needs)
     (λ c. search needs)
     (λ c. search needs)

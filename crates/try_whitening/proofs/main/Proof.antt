@@ -1,8 +1,8 @@
--- `vectors::main` meets its contract: the channels are counted to 39. Assumes nothing.
+-- `try_whitening::main` meets its contract: the channels are counted to 39. Assumes nothing.
 use Prim.Native.Nat.{_-_, _≤_}
 use borrow.Author.Needs.{needs}
-use Rattle.vectors.proofs.main.Statement.{statement}
-use Rattle.vectors.proofs.main.Tie as tie
+use Rattle.try_whitening.proofs.main.Statement.{statement}
+use Rattle.try_whitening.proofs.main.Tie as tie
 
 abbrev Inv-loop : tie.InvT-loop
 Inv-loop channel₀ channel = channel ≤ 40
