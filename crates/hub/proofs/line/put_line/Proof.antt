@@ -3,11 +3,10 @@ use mathlib.Core.Path.{_≡_, sym, ap, _∙_}
 use mathlib.Core.List.{List, _++_, append-assoc}
 use Prim.Native.Nat.{ℕ, _+_, _-_, _*_, _<_, _≤_}
 use native.Mathlib.Omega.{arith}
-use lib.ListN.{length, set, take, drop, length-append}
+use lib.ListN.{length, getD, set, take, drop, length-append}
 use borrow.Author.Needs.{needs}
 use borrow.Rule.Slice.PartMut.{putMid}
 use Rattle.octets.proofs.Lists.{all-at}
-use Rattle.octets.specs.Laws.{Octets}
 use Rattle.octets.proofs.Laws.{written-keeps}
 use Rattle.octets.specs.Bytes.{written}
 use Rattle.channels.specs.Phy.{indexOf}
@@ -24,7 +23,7 @@ use Rattle.hub.proofs.line.put_line.Tie as tie
 
 -- as the calls write them
 all-columns : (sender : DeviceAddress) (number : ℕ) (c : AdvertisingChannel) (records : ℕ) (out : List ℕ) (at : ℕ) {kind n₁ : ℕ} {table octets out₁ p₂ p₃ p₄ : List ℕ}
-    → table ≡ octetColumns → at + lineSize ≤ length out → length octets ≡ 6 → octets ≡ sender .bytes → Octets octets → kind ≡ kindNumber (sender .kind) → kind < 256
+    → table ≡ octetColumns → at + lineSize ≤ length out → length octets ≡ 6 → octets ≡ sender .bytes → ((i : ℕ) → i < length octets → getD octets i 0 < 256) → kind ≡ kindNumber (sender .kind) → kind < 256
     → (n₁ ≡ at + 9) × (out₁ ≡ written (column 6 number ++ column 3 (indexOf c)) out at)
     → p₂ ≡ octetFrom table (length (take (n₁ + 2 - n₁) (drop n₁ out₁))) kind
     → let n₂ = n₁ + 2 in
@@ -39,7 +38,7 @@ all-columns sender number c records out at {kind} {octets = octets} is-table fit
     let nine : length (column 6 number ++ column 3 (indexOf c)) ≡ 9 = simp (length-append, column-length) in
     let w₁ = then-piece (nothing-yet out at) (omega arith) (column 6 number ++ column 3 (indexOf c)) nine e₁ in
     let w₂ = then-copied w₁ (omega (arith, e₁ .0)) is-table 2 kind small (omega (arith, e₁ .0)) e₂ in
-    let w₃ = then-octets w₂ (omega (arith, e₁ .0)) is-table octets all (omega (arith, e₁ .0, six)) e₃ in
+    let w₃ = then-octets w₂ (omega (arith, e₁ .0)) is-table octets (all-at (λ (x : ℕ). x < 256) octets all) (omega (arith, e₁ .0, six)) e₃ in
     let w₄ = then-number w₃ (omega (arith, e₁ .0, six)) is-table 3 records (omega (arith, e₁ .0, six)) e₄ in
     let w₅ = then-octet w₄ (omega (arith, e₁ .0, six)) 10 (omega (arith, e₁ .0, six)) in
     w₅ .contents ∙ simp (append-assoc, is-octets, is-kind)
@@ -58,7 +57,7 @@ returns c =
     let start = known .before in
     let a = start .args in
     all-columns (a .sender) (a .number) (a .channel) (a .records) (a .out .now) (a .at) (start .pre .0) (start .pre .1 .1 .1) (start .pre .1 .1 .0) (start .pre .1 .0)
-    (all-at (λ (x : ℕ). x < 256) _ (λ i inside. omega (arith, known .shared-slice-known .given i)))
+    (λ i inside. omega (arith, known .shared-slice-known .given i))
     (kind-call .kind-number .ensures) (small kind-call) (item .put-item .ensures) (kind .put-octet .ensures) (octets .put-octets .ensures) (count .put-number .ensures)
 
 same-length : tie.Need-same-length
