@@ -1,9 +1,10 @@
 -- The order of refusals: `order`; header and payload in one slice: `from-bytes`; worked values: `rows`, computed. Assumes nothing.
 use mathlib.Core.Bool.{true}
-use mathlib.Core.List.{List, [], _∷_}
-use mathlib.Core.Logic.{inl, inr}
+use mathlib.Core.List.{List, [], _∷_, List·Mem, List·Memᴰ, List·Memᴰ·head as here, List·Memᴰ·tail as there}
+use mathlib.Core.Logic.{∥∥₁-elim}
 use mathlib.Core.Path.{_≡_, refl, ap, _∙_}
 use Prim.Native.Nat.{ℕ, zero, suc, _+_, _*_, _/_, _%_, _≤_, _<_}
+use native.Mathlib.Nat.{ℕ-set}
 use native.Mathlib.Omega.{arith}
 use lib.ListN.{length, getD, drop, length-append}
 use lib.Seq.{drop-append-seam, drop-append-add}
@@ -22,7 +23,7 @@ use Rattle.flags.specs.Flags.{named}
 use Rattle.records_spec.specs.declared.area.Area.{Area}
 use Rattle.records_spec.specs.declared.area.Area.the-variants as area
 use Rattle.advertising.specs.Pdu.{requestOf, withArea, undirected, directed, connectRequest, byType, decodeBy, decodeOf}
-use Rattle.advertising.specs.Refusals.{numberFor, needed, Among, Order, FromBytes, Rows}
+use Rattle.advertising.specs.Refusals.{numberFor, needed, Order, FromBytes, Rows}
 use Rattle.advertising.specs.declared.pdu.Decoded.{Decoded}
 use Rattle.advertising.proofs.Accepting.{arm-undirected}
 
@@ -90,31 +91,29 @@ module _ (n : ℕ) (p : List ℕ) where
     named : pduType code ≡ type
     allows : allowsAdvData type ≡ true
 
-  has-records : Among (n % 16) (0 ∷ 2 ∷ 4 ∷ 6 ∷ []) → HasRecords
-  has-records (inl e) = record { code = 0; type = AdvInd; is = e; named = codes .code-0; allows = refl }
-  has-records (inr (inl e)) = record { code = 2; type = AdvNonconnInd; is = e; named = codes .code-2; allows = refl }
-  has-records (inr (inr (inl e))) = record { code = 4; type = ScanRsp; is = e; named = codes .code-4; allows = refl }
-  has-records (inr (inr (inr (inl e)))) = record { code = 6; type = AdvScanInd; is = e; named = codes .code-6; allows = refl }
-  has-records (inr (inr (inr (inr none)))) = absurd none
+  has-records : List·Memᴰ (n % 16) (0 ∷ 2 ∷ 4 ∷ 6 ∷ []) → HasRecords
+  has-records (here e) = record { code = 0; type = AdvInd; is = e; named = codes .code-0; allows = refl }
+  has-records (there (here e)) = record { code = 2; type = AdvNonconnInd; is = e; named = codes .code-2; allows = refl }
+  has-records (there (there (here e))) = record { code = 4; type = ScanRsp; is = e; named = codes .code-4; allows = refl }
+  has-records (there (there (there (here e)))) = record { code = 6; type = AdvScanInd; is = e; named = codes .code-6; allows = refl }
 
-  -- the answer for an area, by what reading it found
-  of-area : (k : ℕ) (a : Area) → n / 256 % 64 ≡ length p → Among (n % 16) (0 ∷ 2 ∷ 4 ∷ 6 ∷ []) → 6 ≤ length p → readArea (drop 6 p) ≡ a
+  -- the number, from what the area is read as
+  of-area : (k : ℕ) (a : Area) → n / 256 % 64 ≡ length p → List·Mem (n % 16) (0 ∷ 2 ∷ 4 ∷ 6 ∷ []) → 6 ≤ length p → readArea (drop 6 p) ≡ a
       → ((ty : PduType) → outcomeNumber (withArea ty h p a .outcome) ≡ k) → numberFor n p ≡ k
   unfolding undirected
-  of-area k a counts which enough reads number =
-      let of = has-records which in
+  of-area k a counts which enough reads number = ∥∥₁-elim which (ℕ-set (numberFor n p) k) (λ (at : List·Memᴰ (n % 16) (0 ∷ 2 ∷ 4 ∷ 6 ∷ [])).
+      let of = has-records at in
       by (of .code) (of .type) k counts (of .is) (of .named)
-      (ap (λ (d : Decoded). outcomeNumber (d .outcome)) (arm-undirected readArea (of .type) h p (of .allows) ∙ area-is (of .type)) ∙ number (of .type))
+      (ap (λ (d : Decoded). outcomeNumber (d .outcome)) (arm-undirected readArea (of .type) h p (of .allows) ∙ area-is (of .type)) ∙ number (of .type)))
     where
       area-is : (ty : PduType) → undirected readArea ty h p ≡ withArea ty h p a
       area-is ty = rw (le-ltb (length p) 6 enough, reads)
 
-  further : n / 256 % 64 ≡ length p → Among (n % 16) (1 ∷ 3 ∷ 5 ∷ []) → getD needed (n % 16) 0 ≤ length p → numberFor n p ≡ 0
+  further : n / 256 % 64 ≡ length p → getD needed (n % 16) 0 ≤ length p → List·Memᴰ (n % 16) (1 ∷ 3 ∷ 5 ∷ []) → numberFor n p ≡ 0
   unfolding byType directed connectRequest
-  further counts (inl e) long = by 1 AdvDirectInd 0 counts e (codes .code-1) (let size : 12 ≤ length p = rw e at long in rw (le-ltb (length p) 12 size))
-  further counts (inr (inl e)) long = by 3 ScanReq 0 counts e (codes .code-3) (let size : 12 ≤ length p = rw e at long in rw (le-ltb (length p) 12 size))
-  further counts (inr (inr (inl e))) long = by 5 ConnectReq 0 counts e (codes .code-5) (let size : 34 ≤ length p = rw e at long in rw (le-ltb (length p) 34 size))
-  further counts (inr (inr (inr none))) long = absurd none
+  further counts long (here e) = by 1 AdvDirectInd 0 counts e (codes .code-1) (let size : 12 ≤ length p = rw e at long in rw (le-ltb (length p) 12 size))
+  further counts long (there (here e)) = by 3 ScanReq 0 counts e (codes .code-3) (let size : 12 ≤ length p = rw e at long in rw (le-ltb (length p) 12 size))
+  further counts long (there (there (here e))) = by 5 ConnectReq 0 counts e (codes .code-5) (let size : 34 ≤ length p = rw e at long in rw (le-ltb (length p) 34 size))
 
   pub order : Order n p
   unfolding withArea
@@ -125,7 +124,7 @@ module _ (n : ℕ) (p : List ℕ) where
         by-fields = too-short;
         by-records = λ e counts which enough bad. of-area (numberOf e) (area.Refused e) counts which enough bad (λ ty. refl);
         with-records = λ k counts which enough good. of-area 0 (area.Accepted k) counts which enough good (λ ty. refl);
-        others = further;
+        others = λ counts which long. ∥∥₁-elim which (ℕ-set (numberFor n p) 0) (further counts long);
       }
 
 pub from-bytes : (s : List ℕ) → FromBytes s

@@ -1,15 +1,13 @@
 -- Which header and payload are refused, and with which number (document 01: "Order: length, type, fields from the front.").
 --   numberFor n p   == document 01's number for a header of the 16 bits n and the payload p, 0 where they are accepted
 --   needed          == how many octets the fields of types 0 to 6 need
---   Among c cs      == c is one of cs
 --   Order n p       (Refusals.order)       that number, by the header's bits and the payload's length
 --   pduFrom s at    == what is read of header and payload in one slice, from position `at` on
 --   FromBytes s     (Refusals.from-bytes)  that, by the octets of s
 --   zeros ty k      == the number for a header of type ty that counts k octets, all zero
 --   numberFrom s at == the number of what is read from position `at` on
 --   Rows            (Refusals.rows)        worked values beside each limit, and where two conditions hold at once
-use mathlib.Core.List.{List, [], _∷_, _++_, map}
-use mathlib.Core.Logic.{_⊎_}
+use mathlib.Core.List.{List, [], _∷_, _++_, map, List·Mem}
 use mathlib.Core.Path.{_≡_}
 use Prim.Native.Nat.{ℕ, _+_, _*_, _/_, _%_, _≤_, _<_}
 use lib.ListN.{length, getD, drop, replicate}
@@ -32,10 +30,6 @@ numberFor n p = outcomeNumber (decodeOf (headerOf n) p .outcome)
 abbrev pub needed : List ℕ
 needed = 6 ∷ 12 ∷ 6 ∷ 12 ∷ 6 ∷ 34 ∷ 6 ∷ []
 
-abbrev pub Among : ℕ → List ℕ → Type 0
-Among c [] = ⊥
-Among c (x ∷ xs) = (c ≡ x) ⊎ Among c xs
-
 -- "Header bits 0-3 type, .. 8-13 length"
 pub record Order (n : ℕ) (p : List ℕ) : Type 0 where
   -- the header does not count the payload: 2, whatever the type and the octets
@@ -45,10 +39,10 @@ pub record Order (n : ℕ) (p : List ℕ) : Type 0 where
   -- the type is 0 to 6, and its fields need more octets: 1
   pub by-fields : n / 256 % 64 ≡ length p → n % 16 ≤ 6 → length p < getD needed (n % 16) 0 → numberFor n p ≡ 1
   -- an address and records: these decide
-  pub by-records : (e : Error) → n / 256 % 64 ≡ length p → Among (n % 16) (0 ∷ 2 ∷ 4 ∷ 6 ∷ []) → 6 ≤ length p → readArea (drop 6 p) ≡ area.Refused e → numberFor n p ≡ numberOf e
-  pub with-records : (k : ℕ) → n / 256 % 64 ≡ length p → Among (n % 16) (0 ∷ 2 ∷ 4 ∷ 6 ∷ []) → 6 ≤ length p → readArea (drop 6 p) ≡ area.Accepted k → numberFor n p ≡ 0
+  pub by-records : (e : Error) → n / 256 % 64 ≡ length p → List·Mem (n % 16) (0 ∷ 2 ∷ 4 ∷ 6 ∷ []) → 6 ≤ length p → readArea (drop 6 p) ≡ area.Refused e → numberFor n p ≡ numberOf e
+  pub with-records : (k : ℕ) → n / 256 % 64 ≡ length p → List·Mem (n % 16) (0 ∷ 2 ∷ 4 ∷ 6 ∷ []) → 6 ≤ length p → readArea (drop 6 p) ≡ area.Accepted k → numberFor n p ≡ 0
   -- "for 1, 3 and 5 further octets are accepted"
-  pub others : n / 256 % 64 ≡ length p → Among (n % 16) (1 ∷ 3 ∷ 5 ∷ []) → getD needed (n % 16) 0 ≤ length p → numberFor n p ≡ 0
+  pub others : n / 256 % 64 ≡ length p → List·Mem (n % 16) (1 ∷ 3 ∷ 5 ∷ []) → getD needed (n % 16) 0 ≤ length p → numberFor n p ≡ 0
 
 abbrev pub pduFrom : List ℕ → ℕ → Decoded
 pduFrom s at = decodedAt (headerRead (u16Read s at)) s
