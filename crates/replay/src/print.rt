@@ -87,20 +87,9 @@ pub(crate) fn put(out: &mut Page, at: usize, b: u8) -> usize
     put_here(out, next, b)
 }
 
-fn put_letter(out: &mut Page, at: usize, b: u8) -> usize {
-    if b == 0 {
-        return at;
-    }
-    put(out, at, b)
-}
-
 // A text, whose end may be filled up with 0.
 pub(crate) fn text(out: &mut Page, at: usize, s: &[u8]) -> usize {
-    let mut next = at;
-    for i in 0..s.len() {
-        next = put_letter(out, next, s[i]);
-    }
-    next
+    each(out, at, s, Form::Letter)
 }
 
 // A word.
@@ -147,9 +136,33 @@ fn pair(out: &mut Page, at: usize, b: u8) -> usize {
 }
 
 pub(crate) fn octets(out: &mut Page, at: usize, s: &[u8]) -> usize {
+    each(out, at, s, Form::Digits)
+}
+
+// How an octet is printed: as a letter, where it is one, or as a space and two digits.
+enum Form {
+    Letter,
+    Digits,
+}
+
+fn letter(out: &mut Page, at: usize, b: u8) -> usize {
+    if b == 0 {
+        return at;
+    }
+    put(out, at, b)
+}
+
+fn one(out: &mut Page, at: usize, b: u8, form: Form) -> usize {
+    match form {
+        Form::Letter => letter(out, at, b),
+        Form::Digits => pair(out, at, b),
+    }
+}
+
+fn each(out: &mut Page, at: usize, s: &[u8], form: Form) -> usize {
     let mut next = at;
     for i in 0..s.len() {
-        next = pair(out, next, s[i]);
+        next = one(out, next, s[i], form);
     }
     next
 }
