@@ -736,20 +736,13 @@ fn take(out: &mut Page, at: usize, d: Device, letter: u8, s: &[u8], lent: &mut [
 }
 
 // The octets that a request is lent: as many as it says, or 320.
-fn room_of(letter: u8, s: &[u8]) -> usize
+fn room_of(said: u8) -> usize
     ensures { λ r. ⌜ r ≤ 320 ⌝ }
 {
-    let room = wide(octet(s, room_at(letter)));
-    if room == 255 {
+    if said == 255 {
         return 320;
     }
-    room
-}
-
-fn wide(b: u8) -> usize
-    ensures { λ r. ⌜ r ≤ 255 ⌝ }
-{
-    b as usize
+    said as usize
 }
 
 // The octets that were lent, where some were.
@@ -778,7 +771,7 @@ fn take_and_show(
 
 fn serve(out: &mut Page, at: usize, d: Device, letter: u8, s: &[u8]) -> Step {
     let mut lent = [0xFFu8; 320];
-    let room = room_of(letter, s);
+    let room = room_of(octet(s, room_at(letter)));
     let next = put(out, at, letter);
     take_and_show(out, next, d, letter, s, &mut lent[..room])
 }

@@ -15,6 +15,8 @@ serve-spec =
     (tie.spec
     (λ c κs. search needs)
     (λ c κs. search needs)
+    (λ c κs. search needs)
+    (λ c κs. search needs)
     (λ c. search needs)
     slice-aggregate-take-and-show
     (λ c κs. search needs)
