@@ -6,7 +6,7 @@ ghost use Rattle.beacon.specs.State.{scannerState, updateStep, scanStep};
 ghost use Rattle.beacon_spec.specs.Sending.{beaconOf};
 ghost use Rattle.beacon_spec.specs.Scanner.{timerUpdated};
 ghost use mathlib.Core.Bool.{false};
-ghost use Rattle.exports.specs.Air.{broadcastSent, notSent, beaconSent, beaconAfter, scannerWith, updatedGot, heardSaid, heardFrom, judgedBy, headlessOf, unheard};
+ghost use Rattle.exports.specs.Air.{broadcastSent, notSent, beaconSent, beaconAfter, scannerWith, updatedGot, heardSaid, heardFrom, judgedBy, headlessOf, unreported, unheard};
 use addresses::header::Header;
 use addresses::header::HeaderMade;
 use addresses::header::PduType;
@@ -129,7 +129,7 @@ pub struct Heard {
     pub channel: u8,
 }
 
-fn told(scanned: Scanned) -> Heard
+pub(crate) fn told(scanned: Scanned) -> Heard
     ensures { λ r. ⌜ r ≡ heardSaid (scanStep scanned) ⌝ }
 {
     let report = scanned.report;
@@ -150,11 +150,12 @@ fn told(scanned: Scanned) -> Heard
     }
 }
 
-fn no_header(e: Error) -> Heard
-    ensures { λ r. ⌜ r ≡ unheard e ⌝ }
+// No report: a number and a channel.
+pub(crate) fn unreported(number: u8, channel: u8) -> Heard
+    ensures { λ r. ⌜ r ≡ unreported number channel ⌝ }
 {
     Heard {
-        number: e.number(),
+        number,
         reported: false,
         random: false,
         sender: [0, 0, 0, 0, 0, 0],
@@ -162,8 +163,14 @@ fn no_header(e: Error) -> Heard
         len: 0,
         count: 0,
         taken: 0,
-        channel: 0,
+        channel,
     }
+}
+
+fn no_header(e: Error) -> Heard
+    ensures { λ r. ⌜ r ≡ unheard e ⌝ }
+{
+    unreported(e.number(), 0)
 }
 
 // Without a header the scanner judges its list alone.

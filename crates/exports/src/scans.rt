@@ -7,7 +7,10 @@ ghost use mathlib.Core.Path.{_≡_};
 ghost use Rattle.beacon.specs.State.{scannerState, updateStep, scanStep};
 ghost use Rattle.beacon_spec.specs.Scanner.{scannerOf};
 ghost use Rattle.answers.specs.Given.{filterFor};
-ghost use Rattle.exports.specs.Scans.{listenSaid, hearSaid, entryAfter, entriesAfter, entrySaid};
+ghost use Rattle.exports.specs.Scans.{withNext, listenSaid, hearSaid, entryAfter, entriesAfter, entrySaid};
+use crate::air::Heard;
+use crate::air::told;
+use crate::air::unreported;
 use crate::lists::header_of;
 use crate::lists::interval_of;
 use crate::lists::octet;
@@ -16,8 +19,6 @@ use answers::given::filter;
 use beacon::beacon::BeaconScanner;
 use beacon::beacon::Scanned;
 use beacon::beacon::Updated;
-use beacon::beacon::is_report;
-use beacon::beacon::report_number;
 use octets::bytes::part_of;
 use octets::time::Instant;
 
@@ -36,46 +37,37 @@ pub struct Listened {
     pub next: u32,
 }
 
+fn with_next(said: Heard, next: u32) -> Listened
+    ensures { λ r. ⌜ r ≡ withNext said next ⌝ }
+{
+    let sender = said.sender;
+    Listened {
+        number: said.number,
+        reported: said.reported,
+        random: said.random,
+        sender,
+        start: said.start,
+        len: said.len,
+        count: said.count,
+        taken: said.taken,
+        channel: said.channel,
+        next,
+    }
+}
+
 fn listens(updated: Updated) -> Listened
     ensures { λ r. ⌜ r ≡ listenSaid (updateStep updated) ⌝ }
 {
     let cmd = updated.cmd;
     let on = cmd.channel;
     let next = cmd.next_update;
-    Listened {
-        number: 0,
-        reported: false,
-        random: false,
-        sender: [0, 0, 0, 0, 0, 0],
-        start: 0,
-        len: 0,
-        count: 0,
-        taken: 0,
-        channel: on.channel(),
-        next: next.raw_micros(),
-    }
+    with_next(unreported(0, on.channel()), next.raw_micros())
 }
 
 fn hears(scanned: Scanned) -> Listened
     ensures { λ r. ⌜ r ≡ hearSaid (scanStep scanned) ⌝ }
 {
-    let report = scanned.report;
-    let from = scanned.sender;
-    let place = scanned.adv_data;
-    let on = scanned.channel;
-    let sender = from.raw();
-    Listened {
-        number: report_number(report),
-        reported: is_report(report),
-        random: from.is_random(),
-        sender,
-        start: place.start,
-        len: place.len,
-        count: place.count,
-        taken: scanned.taken,
-        channel: on.channel(),
-        next: 0,
-    }
+    with_next(told(scanned), 0)
 }
 
 // The scanner after an entry. A packet hands none back: it leaves the scanner as it is.

@@ -1,31 +1,13 @@
 -- `hears` meets its contract. Assumes nothing.
+use mathlib.Core.Path.{ap, _∙_}
+use Rattle.exports.specs.Scans.{withNext}
+use Rattle.exports.specs.declared.air.Heard.{Heard}
 use borrow.Author.Needs.{needs}
 use Rattle.exports.proofs.scans.hears.Statement.{statement}
 use Rattle.exports.proofs.scans.hears.Tie as tie
 
 returns : tie.Need-returns
-returns c =
-    let a = c .before .before .before .before .before .before .before .args in
-    λ i. record {
-      number = c .before .before .before .report-number .ensures i;
-      reported = c .before .before .is-report .ensures i;
-      random = c .before .is-random .ensures i;
-      sender = c .before .before .before .before .raw .ensures i;
-      start = a .scanned .«adv_data» .start;
-      len = a .scanned .«adv_data» .len;
-      count = a .scanned .«adv_data» .count;
-      taken = a .scanned .taken;
-      channel = c .channel .ensures i;
-      next = 0;
-    }
+returns c = c .with-next .ensures ∙ ap (λ (h : Heard). withNext h 0) (c .before .told .ensures)
 
 pub hears-spec : {M : Type 1} → statement M
-hears-spec =
-    tie.close
-    (tie.spec
-    (λ c κs. search needs)
-    (λ c κs. search needs)
-    (λ c κs. search needs)
-    (λ c κs. search needs)
-    (λ c κs. search needs)
-    returns)
+hears-spec = tie.close (tie.spec (λ c κs. search needs) (λ c κs. search needs) returns)
