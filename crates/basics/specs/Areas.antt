@@ -1,15 +1,14 @@
 -- Records as numbers: the kinds count from 1 in the order of `AdStructure`, and 0 is the end of an area.
 --   areaGot a, paddedGot a, uuidGot at u      == the numbers of an area, of one that the hub reads, and of a UUID in a list
---   structureIn kind complete value start len == the record of these numbers
 --   said kind complete value start len next   == these numbers, and no refusal
 --   refusedSaid e                             == the number of the refusal e, and zeros
 --   structureSaid a next                      == the numbers of a record
 --   parsedSaid p next, readSaid r             == the numbers of what was parsed, and of what was read
 --   knownSaid s r                             == those of what was read, read on
 --   flagsSaid x                               == the numbers of an octet of Flags
-use mathlib.Core.Bool.{Bool, false, cond}
+use mathlib.Core.Bool.{Bool, false}
 use mathlib.Core.List.{List}
-use Prim.Native.Nat.{ℕ, _%_}
+use Prim.Native.Nat.{ℕ}
 use lib.Dec.{eqb}
 use Rattle.octets.specs.Error.{numberOf}
 use Rattle.octets.specs.declared.error.Error.{Error}
@@ -44,18 +43,6 @@ abbrev pub uuidGot : ℕ → NextUuid16 → Got
 uuidGot at (uuid.Uuid u next) = found (u .0) next
 uuidGot at uuid.End = found 0 at
 uuidGot at (uuid.Refused e) = refusedAs e
-
-unfoldable pub structureIn : ℕ → Bool → ℕ → ℕ → ℕ → AdStructure
-structureIn kind complete value start len =
-    cond (eqb kind 1) (ad.Flags (record { bits = named (value % 256) }))
-    (cond (eqb kind 2) (ad.ServiceUuids16 complete start len)
-    (cond (eqb kind 3) (ad.ServiceUuids32 complete start len)
-    (cond (eqb kind 4) (ad.ServiceUuids128 complete start len)
-    (cond (eqb kind 5) (ad.ServiceData16 value start len)
-    (cond (eqb kind 6) (ad.CompleteLocalName start len)
-    (cond (eqb kind 7) (ad.ShortenedLocalName start len)
-    (cond (eqb kind 8) (ad.ManufacturerSpecificData (record { 0 = value }) start len)
-    (ad.Unknown (value % 256) start len))))))))
 
 abbrev pub said : ℕ → Bool → ℕ → ℕ → ℕ → ℕ → Structure
 said kind complete value start len next =

@@ -1,19 +1,19 @@
 // Records and areas, read and written.
 ghost use mathlib.Core.Path.{_≡_};
-ghost use Prim.Native.Nat.{_%_};
 ghost use Rattle.records_spec.specs.Area.{readArea, rewrittenTo, rewrittenAfter};
 ghost use Rattle.records_spec.specs.HubReading.{readPadded};
 ghost use Rattle.records_spec.specs.Record.{recordAt};
 ghost use Rattle.records_spec.specs.Uuids.{uuid16At};
 ghost use Rattle.records_spec.specs.Write.{writtenTo, writtenAfter};
+ghost use Rattle.answers.specs.Given.{structureIn};
 ghost use Rattle.answers.specs.Got.{writtenGot};
-ghost use Rattle.basics.specs.Areas.{said, structureIn, areaGot, paddedGot, uuidGot, structureSaid, refusedSaid, parsedSaid, readSaid, knownSaid, flagsSaid};
+ghost use Rattle.basics.specs.Areas.{said, areaGot, paddedGot, uuidGot, structureSaid, refusedSaid, parsedSaid, readSaid, knownSaid, flagsSaid};
+use answers::given::structure;
 use answers::got::Got;
 use answers::got::found;
 use answers::got::refused;
 use answers::got::written;
 use octets::bytes::ByteWriter;
-use octets::comp_id::CompanyId;
 use octets::error::Error;
 use records::ad_structure::AdStructure;
 use records::ad_structure::Flags;
@@ -132,7 +132,7 @@ pub extern "C" fn board_write(
 ) -> Got
     ensures { λ r. ⌜ (r ≡ writtenGot (writtenTo (structureIn kind complete value start len) (now (s .entry)) (now (out .entry)) at)) × (now (out .exit) ≡ writtenAfter (structureIn kind complete value start len) (now (s .entry)) (now (out .entry)) at) ⌝ }
 {
-    let ad = given(kind, complete, value, start, len);
+    let ad = structure(kind, complete, value, start, len);
     written(write_record(ad, s, ByteWriter { at }, out))
 }
 
@@ -148,46 +148,6 @@ pub extern "C" fn board_flags(octet: u8) -> FlagsSaid
         general: flags.le_general_discoverable(),
         controller: flags.simul_le_br_controller(),
         host: flags.simul_le_br_host(),
-    }
-}
-
-fn given(kind: u8, complete: bool, value: u16, start: usize, len: usize) -> AdStructure
-    ensures { λ r. ⌜ r ≡ structureIn kind complete value start len ⌝ }
-{
-    match kind {
-        1 => AdStructure::Flags(Flags::from_bits_truncate((value % 256) as u8)),
-        2 => AdStructure::ServiceUuids16 {
-            complete,
-            start,
-            len,
-        },
-        3 => AdStructure::ServiceUuids32 {
-            complete,
-            start,
-            len,
-        },
-        4 => AdStructure::ServiceUuids128 {
-            complete,
-            start,
-            len,
-        },
-        5 => AdStructure::ServiceData16 {
-            uuid: value,
-            start,
-            len,
-        },
-        6 => AdStructure::CompleteLocalName { start, len },
-        7 => AdStructure::ShortenedLocalName { start, len },
-        8 => AdStructure::ManufacturerSpecificData {
-            company_identifier: CompanyId::from_raw(value),
-            start,
-            len,
-        },
-        _ => AdStructure::Unknown {
-            ty: (value % 256) as u8,
-            start,
-            len,
-        },
     }
 }
 

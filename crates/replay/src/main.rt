@@ -52,6 +52,7 @@ use advertising::pdu::ConnectRequestData;
 use advertising::pdu::Pdu;
 use advertising::pdu_buf::Built;
 use advertising::pdu_buf::PduBuf;
+use answers::given::structure;
 use beacon::beacon::Beacon;
 use beacon::beacon::BeaconScanner;
 use beacon::beacon::Broadcast;
@@ -79,7 +80,6 @@ use octets::bytes::ByteWriter;
 use octets::bytes::Written;
 use octets::bytes::u16_from_le_bytes;
 use octets::bytes::u32_from_le_bytes;
-use octets::comp_id::CompanyId;
 use octets::error::Error;
 use octets::error::Outcome;
 use octets::time::Instant;
@@ -97,8 +97,6 @@ use print::text;
 use radio::link::Answer;
 use radio::link::Called;
 use radio::link::Device;
-use records::ad_structure::AdStructure;
-use records::ad_structure::Flags;
 use records::ad_structure::write_record;
 use records::area::Area;
 use records::area::PaddedArea;
@@ -301,50 +299,11 @@ fn two_areas(out: &mut Page, at: usize, size: usize, areas: &[u8]) -> usize {
 }
 
 // A record of a kind, whose data are octets 4 on of the request.
-fn structure(kind: u8, value: u16, len: usize) -> AdStructure {
-    let start = 4;
-    let complete = 16 <= kind;
-    match kind % 16 {
-        1 => AdStructure::Flags(Flags::from_bits_truncate((value % 256) as u8)),
-        2 => AdStructure::ServiceUuids16 {
-            complete,
-            start,
-            len,
-        },
-        3 => AdStructure::ServiceUuids32 {
-            complete,
-            start,
-            len,
-        },
-        4 => AdStructure::ServiceUuids128 {
-            complete,
-            start,
-            len,
-        },
-        5 => AdStructure::ServiceData16 {
-            uuid: value,
-            start,
-            len,
-        },
-        6 => AdStructure::CompleteLocalName { start, len },
-        7 => AdStructure::ShortenedLocalName { start, len },
-        8 => AdStructure::ManufacturerSpecificData {
-            company_identifier: CompanyId::from_raw(value),
-            start,
-            len,
-        },
-        _ => AdStructure::Unknown {
-            ty: (value % 256) as u8,
-            start,
-            len,
-        },
-    }
-}
-
 fn write(s: &[u8], lent: &mut [u8]) -> Written {
+    let kind = octet(s, 0);
     let value = u16_from_le_bytes(octet(s, 1), octet(s, 2));
     let data = rest(s, 4);
-    let ad = structure(octet(s, 0), value, data.len());
+    let ad = structure(kind % 16, 16 <= kind, value, 4, data.len());
     write_record(ad, s, ByteWriter::new(), lent)
 }
 

@@ -1,9 +1,9 @@
--- `given` meets its contract. Assumes nothing.
+-- `structure` meets its contract. Assumes nothing.
 use borrow.Author.Tests.{ne-eqb}
-use Rattle.basics.specs.Areas.{structureIn}
+use Rattle.answers.specs.Given.{structureIn}
 use borrow.Author.Needs.{needs}
-use Rattle.basics.proofs.areas.given.Statement.{statement}
-use Rattle.basics.proofs.areas.given.Tie as tie
+use Rattle.answers.proofs.given.structure.Statement.{statement}
+use Rattle.answers.proofs.given.structure.Tie as tie
 
 returns : tie.Need-returns
 unfolding structureIn
@@ -41,8 +41,8 @@ returns-9 : tie.Need-returns-9
 unfolding structureIn
 returns-9 c = rw (ne-eqb _ 1 (c .match .rest .0 .0 .0 .0 .0 .0 .0 .1), ne-eqb _ 2 (c .match .rest .0 .0 .0 .0 .0 .0 .1), ne-eqb _ 3 (c .match .rest .0 .0 .0 .0 .0 .1), ne-eqb _ 4 (c .match .rest .0 .0 .0 .0 .1), ne-eqb _ 5 (c .match .rest .0 .0 .0 .1), ne-eqb _ 6 (c .match .rest .0 .0 .1), ne-eqb _ 7 (c .match .rest .0 .1), ne-eqb _ 8 (c .match .rest .1))
 
-pub given-spec : {M : Type 1} → statement M
-given-spec =
+pub structure-spec : {M : Type 1} → statement M
+structure-spec =
     tie.close
     (tie.spec
     (λ c. search needs)
