@@ -740,7 +740,7 @@ fn serve(out: &mut Page, at: usize, d: Device, letter: u8, s: &[u8]) -> Step {
 fn why(fault: Fault) -> [u8; 26] {
     match fault {
         Fault::NoRequest => *b"no such request\0\0\0\0\0\0\0\0\0\0\0",
-        Fault::NoSpace => *b"no space after its letter",
+        Fault::NoSpace => *b"no space behind its letter",
         Fault::NoNumber => *b"an octet that is no number",
         Fault::OneDigit => *b"an octet of one digit\0\0\0\0\0",
         Fault::Return => *b"a carriage return\0\0\0\0\0\0\0\0\0",
