@@ -57,7 +57,7 @@ pub fn read(area: &[u8]) -> Read<'_> {
         let rest = reader.as_raw_bytes();
         let behind = match rest {
             [] => Behind::Nothing,
-            [0, zeros @ ..] if zeros.iter().all(|octet| *octet == 0) => After::Zeros,
+            [0, zeros @ ..] if zeros.iter().all(|octet| *octet == 0) => Behind::Zeros,
             [0, ..] => Behind::Another,
             _ => match AdStructure::from_bytes(&mut reader) {
                 Ok(record) => {
