@@ -29,7 +29,7 @@ use Rattle.advertising.specs.declared.pdu.AdvData.{AdvData}
 use Rattle.advertising.specs.declared.pdu.Decoded.{Decoded}
 use Rattle.octets.specs.declared.error.Outcome.{Outcome}
 use Rattle.octets.specs.declared.error.Outcome.the-variants.{Accepted, Refused}
-use Rattle.advertising.proofs.Figures.{field-is, behind, long, cut-figure}
+use Rattle.advertising.proofs.Figures.{field-is, behind, long, cut-figure, request-is}
 
 -- an outcome that passes the test
 pub is-accepted : (o : Outcome) → isAccepted o ≡ true → o ≡ Accepted
@@ -81,13 +81,13 @@ module _ (reading : Reading) (h : Header) (p : List ℕ) where
       rw enough (two-addresses ty (part 6 p 0) (part 6 p 6) (drop 12 p) is which (cut-figure directedFigure p (ltb-false (length p) 12 enough)) refl)
 
   connect-sound : typeOf h ≡ ConnectReq → connectRequest h p .outcome ≡ Accepted → ShapedBy reading h p (connectRequest h p)
-  unfolding connectRequest requestOf
+  unfolding connectRequest
   connect-sound is ok =
       let enough = not-refused (ltb (length p) 34) Eof (decodedAs Accepted ConnectReq (senderOf h p) (receiverOf h p) noData (requestOf p)) ok in
       rw enough
       (with-lldata (part 6 p 0) (part 6 p 6) (part 4 p 12) (part 3 p 16) (part 1 p 19) (part 2 p 20) (part 2 p 22) (part 2 p 24) (part 2 p 26) (part 5 p 28) (part 1 p 33) (drop 34 p) is
       (cut-figure connectFigure p (ltb-false (length p) 34 enough))
-      refl)
+      (rw (request-is p)))
 
   by-type : (ty : PduType) → typeOf h ≡ ty → byType reading ty h p .outcome ≡ Accepted → ShapedBy reading h p (byType reading ty h p)
   unfolding byType
@@ -134,10 +134,10 @@ module _ (reading : Reading) (h : Header) (p : List ℕ) where
         hop = le hopSca % 32;
         sca = accuracyOf (le hopSca / 32);
       })
-  unfolding byType connectRequest requestOf
+  unfolding byType connectRequest
   connect-is fig =
       let at = field-is fig in
-      rw (le-ltb (length p) 34 (omega (arith, long fig)), at 0, at 1, at 2, at 3, at 4, at 5, at 6, at 7, at 8, at 9, at 10)
+      rw (le-ltb (length p) 34 (omega (arith, long fig)), request-is p, at 0, at 1, at 2, at 3, at 4, at 5, at 6, at 7, at 8, at 9, at 10)
 
   complete : (d : Decoded) → lengthOf h ≡ length p → ShapedBy reading h p d → decodeBy reading h p ≡ d
   unfolding decodeBy

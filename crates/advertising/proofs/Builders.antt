@@ -22,7 +22,7 @@ use Rattle.records_spec.specs.Record.{first, flagsRead, dataRead, upTo, recordR
 use Rattle.flags.specs.Flags.{named}
 use Rattle.records_spec.specs.declared.area.Area.the-variants as area
 use Rattle.advertising.specs.Builders.{Builds, Builders, Directed, Writing, Examples}
-use Rattle.advertising.specs.Pdu.{requestOf, connectRequest, byType, decodeBy}
+use Rattle.advertising.specs.Pdu.{llDataOf, connectRequest, byType, decodeBy}
 use Rattle.octets.specs.Error.{outcomeNumber}
 use Rattle.advertising.specs.PduBuf.{headerFor, bufOf, refusedBuf, afterReading, withRecords, builtOf, flagsRecord, payloadOf}
 use Rattle.octets.specs.declared.error.Outcome.the-variants.{Accepted}
@@ -129,7 +129,7 @@ writing b out =
     }
 
 pub examples : Examples
-unfolding decodeBy byType connectRequest requestOf pduType bufOf withRecords afterReading readArea areaOf reads withFirst cut first recordRead dataRead flagsRead upTo named clean rewritten flatten
+unfolding decodeBy byType connectRequest llDataOf pduType bufOf withRecords afterReading readArea areaOf reads withFirst cut first recordRead dataRead flagsRead upTo named clean rewritten flatten
 examples =
     record {
       connectable = refl;

@@ -5,10 +5,10 @@ use native.Mathlib.Omega.{arith}
 use Rattle.addresses.specs.Header.{pduType}
 use Rattle.records_spec.specs.Area.{cut, reads, areaOf, readArea}
 use Rattle.advertising.specs.Laws.{Example, Accuracies, WindowEnd}
-use Rattle.advertising.specs.Pdu.{requestOf, withArea, undirected, connectRequest, byType, decodeBy}
+use Rattle.advertising.specs.Pdu.{llDataOf, withArea, undirected, connectRequest, byType, decodeBy}
 
 pub example : Example
-unfolding decodeBy byType undirected withArea connectRequest requestOf pduType readArea areaOf reads cut
+unfolding decodeBy byType undirected withArea connectRequest llDataOf pduType readArea areaOf reads cut
 example = record { connect-request = refl; hops = refl; clocks = refl; no-receiver = refl; no-lldata = refl; no-records = refl; refused = refl }
 
 pub accuracies : Accuracies

@@ -1,14 +1,15 @@
--- Payloads as fields of a figure's widths: each field is its part, and a payload that is long enough is its parts. Assumes nothing.
+-- Payloads as fields of a figure's widths: each field is its part, and a payload that is long enough is its parts; those of LLData, in a connect request. Assumes nothing.
 use mathlib.Core.List.{List, [], _∷_, _++_, map, flatten, append-assoc}
-use mathlib.Core.Path.{_≡_, refl, sym}
-use Prim.Native.Nat.{ℕ, zero, suc, _+_, _≤_}
+use mathlib.Core.Path.{_≡_, refl, sym, ap}
+use Prim.Native.Nat.{ℕ, zero, suc, _+_, _*_, _/_, _%_, _≤_}
 use native.Mathlib.Omega.{arith}
 use lib.ListN.{length, getD, take, drop, length-append, length-take, length-drop, take-append-drop}
 use lib.Seq.{take-append-seam, drop-append-seam, drop-append-add, drop-drop}
+use Rattle.channels.specs.Map.{fromRaw}
 use Rattle.octets.specs.Lists.{total}
-use Rattle.octets.specs.Bytes.{part}
+use Rattle.octets.specs.Bytes.{part, le}
 use Rattle.advertising.specs.Laws.{Figure}
-use Rattle.advertising.specs.Pdu.{fieldAt}
+use Rattle.advertising.specs.Pdu.{fieldAt, connectFigure, accuracyOf, llDataOf, llDataIn, requestOf}
 
 tiled : (fs : List (List ℕ)) (further : List ℕ) (k : ℕ) → fieldAt (map length fs) k (flatten fs ++ further) ≡ getD fs k []
 unfolding flatten
@@ -57,3 +58,36 @@ pub cut-figure : (widths p : List ℕ) → total widths ≤ length p → Figure 
 cut-figure widths p h =
     let none : 0 + total widths ≡ total widths = omega arith in
     record { sizes = cutting-sizes widths p 0 (omega arith); tiles = rw (← none) (cutting-tiles widths p 0) }
+
+-- the fields of LLData, by their places in a connect request
+module _ (p : List ℕ) where
+  pub part-after : (n k : ℕ) → part n (llDataIn p) k ≡ part n p (12 + k)
+  part-after n k = ap (take n) (drop-drop k 12 p)
+
+  pub request-is : requestOf p
+      ≡ record {
+        «access_address» = le (fieldAt connectFigure 2 p);
+        «crc_init» = le (fieldAt connectFigure 3 p);
+        «win_size» = le (fieldAt connectFigure 4 p) * 1250;
+        «win_offset» = le (fieldAt connectFigure 5 p) * 1250;
+        interval = le (fieldAt connectFigure 6 p) * 1250;
+        latency = le (fieldAt connectFigure 7 p);
+        timeout = le (fieldAt connectFigure 8 p) * 10000;
+        chm = fromRaw (fieldAt connectFigure 9 p);
+        hop = le (fieldAt connectFigure 10 p) % 32;
+        sca = accuracyOf (le (fieldAt connectFigure 10 p) / 32);
+      }
+  unfolding llDataOf
+  request-is = λ i.
+      record {
+        «access_address» = le (part-after 4 0 i);
+        «crc_init» = le (part-after 3 4 i);
+        «win_size» = le (part-after 1 7 i) * 1250;
+        «win_offset» = le (part-after 2 8 i) * 1250;
+        interval = le (part-after 2 10 i) * 1250;
+        latency = le (part-after 2 12 i);
+        timeout = le (part-after 2 14 i) * 10000;
+        chm = fromRaw (part-after 5 16 i);
+        hop = le (part-after 1 21 i) % 32;
+        sca = accuracyOf (le (part-after 1 21 i) / 32);
+      }

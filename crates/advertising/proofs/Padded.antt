@@ -26,7 +26,7 @@ use Rattle.addresses.specs.declared.header.PduType.{PduType}
 use Rattle.addresses.specs.declared.header.PduType.the-variants.{AdvInd, AdvDirectInd, AdvNonconnInd, AdvScanInd, ScanReq, ScanRsp, ConnectReq, Unknown}
 use Rattle.advertising.proofs.Accepting.{arm-undirected}
 use Rattle.advertising.specs.Padded.{Heard, Alike, PaddedRows}
-use Rattle.advertising.specs.Pdu.{Reading, senderOf, noAddress, noRequest, noData, dataIn, decodedAs, refusedPdu, withArea, undirected, directed, connectRequest, requestOf, byType, decodeBy, decodeOf, hasArea, asHub, heardOf, octetsTaken, paddedOf}
+use Rattle.advertising.specs.Pdu.{Reading, senderOf, noAddress, noRequest, noData, dataIn, decodedAs, refusedPdu, withArea, undirected, directed, connectRequest, byType, decodeBy, decodeOf, hasArea, asHub, heardOf, octetsTaken, paddedOf}
 use Rattle.advertising.specs.declared.pdu.AdvData.{AdvData}
 use Rattle.advertising.specs.declared.pdu.Decoded.{Decoded}
 use Rattle.octets.specs.declared.error.Outcome.the-variants.{Accepted, Refused}

@@ -22,7 +22,7 @@ use Rattle.records_spec.specs.Record.{first, flagsRead, dataRead, upTo, recordR
 use Rattle.flags.specs.Flags.{named}
 use Rattle.records_spec.specs.declared.area.Area.{Area}
 use Rattle.records_spec.specs.declared.area.Area.the-variants as area
-use Rattle.advertising.specs.Pdu.{requestOf, withArea, undirected, directed, connectRequest, byType, decodeBy, decodeOf}
+use Rattle.advertising.specs.Pdu.{llDataOf, withArea, undirected, directed, connectRequest, byType, decodeBy, decodeOf}
 use Rattle.advertising.specs.Refusals.{numberFor, needed, Order, FromBytes, Rows}
 use Rattle.advertising.specs.declared.pdu.Decoded.{Decoded}
 use Rattle.advertising.proofs.Accepting.{arm-undirected}
@@ -139,7 +139,7 @@ from-bytes s =
     }
 
 pub rows : Rows
-unfolding decodeBy byType undirected directed connectRequest withArea requestOf pduType readArea areaOf reads withFirst cut first recordRead dataRead flagsRead upTo named
+unfolding decodeBy byType undirected directed connectRequest withArea llDataOf pduType readArea areaOf reads withFirst cut first recordRead dataRead flagsRead upTo named
 rows =
     record {
       type-0 = refl;

@@ -9,9 +9,11 @@
 --
 -- TxAdd is the kind of the first address and RxAdd that of the second. Numbers stand least significant octet first.
 --   fieldAt widths k p                   == field k of a payload, where its figure has these widths in octets
---   undirectedFigure, directedFigure, connectFigure == the widths of the figures: with records, with two addresses, and of a connect request
+--   undirectedFigure, directedFigure     == the widths of the figures with records and with two addresses
+--   llDataFigure, connectFigure          == the widths of LLData, and of a connect request
 --   accuracyOf n                         == the sleep clock accuracy of a code (2.3.3.1)
---   requestOf p                          == the LLData of a connect request
+--   llDataOf o                           == what the 22 octets of LLData say
+--   llDataIn p, requestOf p              == these octets of a connect request, after its two addresses, and what they say
 --   windowEnd d                          == the end of the transmit window, from the end of a request with these data
 --   noRequest, noAddress, noData         == zeros for LLData, for an address, and for the place of records
 --   senderOf h p, receiverOf h p         == the first and the second address
@@ -32,7 +34,7 @@
 --   octetsTaken d p                      == how many octets the records take of the part d of a payload
 --   paddedOf h p                         == what is heard, and how many octets its records took
 use mathlib.Core.Bool.{Bool, true, false, cond, _&&_}
-use mathlib.Core.List.{List, [], _∷_}
+use mathlib.Core.List.{List, [], _∷_, _++_}
 use Prim.Native.Nat.{ℕ, _+_, _-_, _*_, _/_, _%_}
 use lib.Dec.{eqb, leb, ltb}
 use lib.ListN.{length, getD, take, drop}
@@ -69,15 +71,18 @@ use Rattle.advertising.specs.declared.pdu.SleepClockAccuracy.the-variant
 abbrev pub fieldAt : List ℕ → ℕ → List ℕ → List ℕ
 fieldAt widths k p = part (getD widths k 0) p (total (take k widths))
 
--- the figures' widths: of a payload with records, without, and of a connect request
+-- the figures' widths: of a payload with records, with two addresses, of LLData, and of a connect request, which is two addresses and LLData
 abbrev pub undirectedFigure : List ℕ
 undirectedFigure = 6 ∷ []
 
 abbrev pub directedFigure : List ℕ
 directedFigure = 6 ∷ 6 ∷ []
 
+abbrev pub llDataFigure : List ℕ
+llDataFigure = 4 ∷ 3 ∷ 1 ∷ 2 ∷ 2 ∷ 2 ∷ 2 ∷ 5 ∷ 1 ∷ []
+
 abbrev pub connectFigure : List ℕ
-connectFigure = 6 ∷ 6 ∷ 4 ∷ 3 ∷ 1 ∷ 2 ∷ 2 ∷ 2 ∷ 2 ∷ 5 ∷ 1 ∷ []
+connectFigure = directedFigure ++ llDataFigure
 
 abbrev pub accuracyOf : ℕ → SleepClockAccuracy
 accuracyOf n =
@@ -91,20 +96,26 @@ accuracyOf n =
     Ppm0To20))))))
 
 -- window fields and interval count 1,250 µs, the timeout 10,000 µs
-unfoldable pub requestOf : List ℕ → ConnectRequestData
-requestOf p =
+unfoldable pub llDataOf : List ℕ → ConnectRequestData
+llDataOf o =
     record {
-      «access_address» = le (fieldAt connectFigure 2 p);
-      «crc_init» = le (fieldAt connectFigure 3 p);
-      «win_size» = le (fieldAt connectFigure 4 p) * 1250;
-      «win_offset» = le (fieldAt connectFigure 5 p) * 1250;
-      interval = le (fieldAt connectFigure 6 p) * 1250;
-      latency = le (fieldAt connectFigure 7 p);
-      timeout = le (fieldAt connectFigure 8 p) * 10000;
-      chm = fromRaw (fieldAt connectFigure 9 p);
-      hop = le (fieldAt connectFigure 10 p) % 32;
-      sca = accuracyOf (le (fieldAt connectFigure 10 p) / 32);
+      «access_address» = le (fieldAt llDataFigure 0 o);
+      «crc_init» = le (fieldAt llDataFigure 1 o);
+      «win_size» = le (fieldAt llDataFigure 2 o) * 1250;
+      «win_offset» = le (fieldAt llDataFigure 3 o) * 1250;
+      interval = le (fieldAt llDataFigure 4 o) * 1250;
+      latency = le (fieldAt llDataFigure 5 o);
+      timeout = le (fieldAt llDataFigure 6 o) * 10000;
+      chm = fromRaw (fieldAt llDataFigure 7 o);
+      hop = le (fieldAt llDataFigure 8 o) % 32;
+      sca = accuracyOf (le (fieldAt llDataFigure 8 o) / 32);
     }
+
+abbrev pub llDataIn : List ℕ → List ℕ
+llDataIn p = drop (total directedFigure) p
+
+abbrev pub requestOf : List ℕ → ConnectRequestData
+requestOf p = llDataOf (llDataIn p)
 
 -- transmitWindowDelay is 1,250 µs
 abbrev pub windowEnd : ConnectRequestData → ℕ

@@ -1,14 +1,13 @@
 // Advertising channel PDUs, read. Their payloads are drawn in specs/Pdu.antt.
 ghost use mathlib.Core.Path.{_≡_};
 ghost use Prim.Native.Nat.{_+_, _*_, _≤_};
-ghost use lib.ListN.{length, replicate};
-ghost use mathlib.Core.List.{_++_};
+ghost use lib.ListN.{length};
 ghost use Rattle.octets.specs.Bytes.{part, le, u16Read};
 ghost use mathlib.Core.Bool.{true};
 ghost use Rattle.addresses.specs.Header.{headerRead};
 ghost use Rattle.records_spec.specs.Area.{readArea};
 ghost use Rattle.addresses.specs.Address.{kindOf, addressOf};
-ghost use Rattle.advertising.specs.Pdu.{accuracyOf, requestOf, noRequest, noAddress, noData, windowEnd, hasReceiver, dataIn, dataPlace, decodedAs, refusedPdu, withArea, undirected, directed, connectRequest, decodeOf, decodedAt, hasArea, paddedOf};
+ghost use Rattle.advertising.specs.Pdu.{accuracyOf, llDataOf, noRequest, noAddress, noData, windowEnd, hasReceiver, dataIn, dataPlace, decodedAs, refusedPdu, withArea, undirected, directed, connectRequest, decodeOf, decodedAt, hasArea, paddedOf};
 use addresses::device_address::AddressKind;
 use addresses::device_address::DeviceAddress;
 use addresses::header::Header;
@@ -16,7 +15,6 @@ use addresses::header::HeaderRead;
 use addresses::header::PduType;
 use channels::channel_map::ChannelMap;
 use octets::bytes::ByteReader;
-use octets::bytes::ByteWriter;
 use octets::bytes::part_of;
 use octets::bytes::u16_from_le_bytes;
 use octets::bytes::u32_from_le_bytes;
@@ -270,7 +268,7 @@ fn read_connect_request(header: Header, payload: &[u8]) -> Decoded
     }
     let sender = address_at(header.tx_add(), payload, 0);
     let receiver = address_at(header.rx_add(), payload, 6);
-    let lldata = read_request(payload);
+    let lldata = read_request(&payload[12..]);
     answered(
         Outcome::Accepted,
         PduType::ConnectReq,
@@ -352,12 +350,9 @@ pub struct ConnectRequestData {
 impl ConnectRequestData {
     // The connection parameters of the 22 octets that follow a connect request's two addresses.
     pub fn from_octets(octets: [u8; 22]) -> ConnectRequestData
-        ensures { λ r. ⌜ r ≡ requestOf (replicate 12 0 ++ octets) ⌝ }
+        ensures { λ r. ⌜ r ≡ llDataOf octets ⌝ }
     {
-        // The addresses are no part of them: zeros stand in their place.
-        let mut payload = [0u8; 34];
-        ByteWriter { at: 12 }.write_slice(&mut payload, &octets);
-        read_request(&payload)
+        read_request(&octets)
     }
 
     // AA: the address of this connection's packets.
@@ -440,22 +435,22 @@ impl ConnectRequestData {
     }
 }
 
-// The connection parameters of a whole connect request.
-fn read_request(payload: &[u8]) -> ConnectRequestData
-    requires { ⌜ 34 ≤ length (now payload) ⌝ }
-    ensures { λ r. ⌜ r ≡ requestOf (now (payload .entry)) ⌝ }
+// The connection parameters of a slice that begins with the 22 octets.
+fn read_request(lldata: &[u8]) -> ConnectRequestData
+    requires { ⌜ 22 ≤ length (now lldata) ⌝ }
+    ensures { λ r. ⌜ r ≡ llDataOf (now (lldata .entry)) ⌝ }
 {
-    let hop_and_sca = octet_at(payload, 33);
-    let raw = ByteReader { at: 28 }.read_array5(payload);
+    let hop_and_sca = octet_at(lldata, 21);
+    let raw = ByteReader { at: 16 }.read_array5(lldata);
     let octets = raw.octets;
     ConnectRequestData {
-        access_address: u32_from_le_bytes(payload[12], payload[13], payload[14], payload[15]),
-        crc_init: u32_from_le_bytes(payload[16], payload[17], payload[18], 0),
-        win_size: micros(octet_at(payload, 19) as u16),
-        win_offset: micros(u16_at(payload, 20)),
-        interval: micros(u16_at(payload, 22)),
-        latency: u16_at(payload, 24),
-        timeout: (u16_at(payload, 26) as u32) * 10_000,
+        access_address: u32_from_le_bytes(lldata[0], lldata[1], lldata[2], lldata[3]),
+        crc_init: u32_from_le_bytes(lldata[4], lldata[5], lldata[6], 0),
+        win_size: micros(octet_at(lldata, 7) as u16),
+        win_offset: micros(u16_at(lldata, 8)),
+        interval: micros(u16_at(lldata, 10)),
+        latency: u16_at(lldata, 12),
+        timeout: (u16_at(lldata, 14) as u32) * 10_000,
         chm: ChannelMap::from_raw(octets),
         hop: hop_and_sca % 32,
         sca: SleepClockAccuracy::from_u8(hop_and_sca / 32),

@@ -9,7 +9,7 @@ use Rattle.records_spec.specs.Record.{flagsRead, uuidsRead, dataRead, upTo, rec
 use Rattle.flags.specs.Flags.{named}
 use Rattle.addresses.specs.Address.{sameOctets, sameAddress}
 use Rattle.addresses.specs.Header.{pduType}
-use Rattle.advertising.specs.Pdu.{requestOf, directed, connectRequest, byType, decodeBy}
+use Rattle.advertising.specs.Pdu.{llDataOf, directed, connectRequest, byType, decodeBy}
 use Rattle.advertising.specs.PduBuf.{bufOf, afterReading, withRecords}
 use Rattle.settings.specs.Settings.{inRanges, takenOf}
 use Rattle.radio_spec.specs.Calls.{isFor, connectsTo, addressed, hops, startOf, startAfter, tickOf, tickAfter, packetOf, packetAfter, eventOf}
@@ -17,7 +17,7 @@ use Rattle.radio_spec.specs.Examples.{Example, TitleExample, Limits}
 use Rattle.radio_spec.specs.Trace.{trace}
 
 pub example : Example
-unfolding flatten count placed mapped marked marks channelAt cleared cut reads areaOf readArea rewritten sameOctets sameAddress pduType requestOf connectRequest byType decodeBy bufOf afterReading withRecords takenOf inRanges isFor connectsTo addressed hops startOf startAfter tickOf tickAfter packetOf eventOf trace named flagsRead uuidsRead dataRead upTo recordRead first withFirst clean
+unfolding flatten count placed mapped marked marks channelAt cleared cut reads areaOf readArea rewritten sameOctets sameAddress pduType llDataOf connectRequest byType decodeBy bufOf afterReading withRecords takenOf inRanges isFor connectsTo addressed hops startOf startAfter tickOf tickAfter packetOf eventOf trace named flagsRead uuidsRead dataRead upTo recordRead first withFirst clean
 example = record { answers = refl; channel-1 = refl; channel-3 = refl; octets = refl }
 
 pub title-example : TitleExample
@@ -25,5 +25,5 @@ unfolding flatten cut reads areaOf readArea rewritten sameOctets sameAddress pdu
 title-example = record { answers = refl; octets = refl }
 
 pub limits : Limits
-unfolding flatten count placed mapped marked marks channelAt cleared cut reads areaOf readArea rewritten sameOctets sameAddress pduType requestOf directed connectRequest byType decodeBy bufOf afterReading withRecords takenOf inRanges isFor connectsTo addressed hops startOf startAfter tickOf tickAfter packetOf packetAfter eventOf trace named flagsRead uuidsRead dataRead upTo recordRead first withFirst clean
+unfolding flatten count placed mapped marked marks channelAt cleared cut reads areaOf readArea rewritten sameOctets sameAddress pduType llDataOf directed connectRequest byType decodeBy bufOf afterReading withRecords takenOf inRanges isFor connectsTo addressed hops startOf startAfter tickOf tickAfter packetOf packetAfter eventOf trace named flagsRead uuidsRead dataRead upTo recordRead first withFirst clean
 limits = record { answers = refl; octets = refl; longest = refl }

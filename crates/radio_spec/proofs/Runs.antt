@@ -25,8 +25,9 @@ use Rattle.addresses.specs.Address.{isRandom}
 use Rattle.addresses.specs.declared.device_address.DeviceAddress.{DeviceAddress}
 use Rattle.addresses.specs.declared.header.Header.{Header}
 use Rattle.addresses.specs.declared.header.PduType.the-variants.{AdvInd}
+use Rattle.advertising.specs.Pdu.{llDataOf, requestOf}
 use Rattle.advertising.specs.PduBuf.{headerFor, flagsRecord, payloadOf}
-use Rattle.settings.specs.Settings.{RangesAt}
+use Rattle.settings.specs.Settings.{Within, settingsIn}
 use Rattle.advertising.specs.declared.pdu_buf.PduBuf.{PduBuf}
 use Rattle.radio_spec.specs.Calls.{instant, isAdvertising, advanced, advertised, beginning}
 use Rattle.radio_spec.specs.Demand.{numberIn, isFirstEvent, isReply, Each, Tick, Ticks, ListeningFrom, RepliesAt, Events}
@@ -250,8 +251,9 @@ listening-from {scan} {c = c} {r = r} h sound cs header x next is = hear-run x (
 clash : {m : Mode} → m ≡ Advertising → m ≡ Connected → ⊥
 clash p q = let z : _≡_ {A = ℕ} 0 1 = cc in omega arith
 
-module _ (p : List ℕ) (ranges : RangesAt 12 p) where
+module _ (p : List ℕ) (ranges : Within (settingsIn (requestOf p))) where
   some : 0 < marks (mapIn p)
+  unfolding llDataOf
   some = omega (arith, ranges .two-channels)
 
   abbrev pub channelOf : ℕ → ℕ
@@ -297,7 +299,7 @@ module _ (p : List ℕ) (ranges : RangesAt 12 p) where
   event-run = gather-each IsEvent EventAt eventRun (λ k scan d c sound at. event-moves k at (happens scan d sound c))
 
   events-of : (es : List Entry) → Each IsEvent 0 es → Events p es
-  unfolding usesIn remapped
+  unfolding usesIn remapped llDataOf
   events-of es each =
       record {
         by-hop = each;
@@ -317,7 +319,7 @@ payloadIn (setScanData records) = []
 
 pub events-from : {scan : List ℕ} {d : State} {c : Call} {r : Step} → Happens scan d c r → Sound (scanAfter scan c) (r .state) → isFirstEvent (r .answer) ≡ true
     → (cs : List Call) → Events (payloadIn c) (entryOf scan d c r ∷ gather eventRun (traced (scanAfter scan c) (r .state) cs))
-unfolding unmappedBefore
+unfolding unmappedBefore llDataOf
 events-from (starts time interval records tx pdu ok made wrote) sound a cs = absurd (false≢true a)
 events-from (ticks tx m ok wrote) sound a cs = absurd (false≢true a)
 events-from (replying end header payload crcGood tx m scanRequest k ok wrote) sound a cs = absurd (false≢true a)

@@ -32,9 +32,9 @@ use Rattle.advertising.proofs.Builders.{builders}
 use Rattle.advertising.proofs.Building.{building}
 use Rattle.settings.proofs.Ranges.{tests, settles}
 use Rattle.advertising.specs.Laws.{ReadsBack}
-use Rattle.advertising.specs.Pdu.{requestOf, decodeOf}
+use Rattle.advertising.specs.Pdu.{llDataOf, requestOf, decodeOf}
 use Rattle.advertising.specs.PduBuf.{headerFor, flagsRecord, scanResponsePdu, payloadOf, payloadTo}
-use Rattle.settings.specs.Settings.{takenOf, settingsAt, RangesAt}
+use Rattle.settings.specs.Settings.{Within, settingsIn, takenOf}
 use Rattle.settings.specs.declared.Taken.{Taken}
 use Rattle.advertising.specs.declared.pdu.Pdu.{Pdu}
 use Rattle.advertising.specs.declared.pdu_buf.PduBuf.{PduBuf}
@@ -185,9 +185,9 @@ pub data Happens (scan : List ℕ) (d : State) : Call → Step → Type 0 where
       → Happens scan d (packet end header payload crcGood tx) (record { answer = Respond (d .«scan_response» .header) (d .adv .channel); state = d })
   begins : (end : Instant) (header : Header) (payload : List ℕ) (crcGood : Bool) (tx : List ℕ) (u : ℕ) (channel : DataChannel) → d .mode ≡ Advertising
       → connects (d .«dev_addr») (packet end header payload crcGood tx) ≡ true → number scan d (packet end header payload crcGood tx) ≡ 0
-      → RangesAt 12 payload → hopped (fromRaw (mapIn payload)) 0 (hopIn payload) ≡ hop.To u channel → u ≤ 36
+      → Within (settingsIn (requestOf payload)) → hopped (fromRaw (mapIn payload)) 0 (hopIn payload) ≡ hop.To u channel → u ≤ 36
       → Quiet scan d (packet end header payload crcGood tx)
-      → Happens scan d (packet end header payload crcGood tx) (connectedAt d end (requestOf payload) (settingsAt 12 payload) u channel)
+      → Happens scan d (packet end header payload crcGood tx) (connectedAt d end (requestOf payload) (settingsIn (requestOf payload)) u channel)
   hopping : (u : ℕ) (channel : DataChannel) → d .mode ≡ Connected → hopped (d .conn .«channel_map») (d .conn .«unmapped_channel») (d .conn .hop) ≡ hop.To u channel
       → u ≤ 36 → number scan d event ≡ 0 → Happens scan d event (hoppedTo d (hop.To u channel))
   stops : Happens scan d stop (stopOf d)
@@ -404,10 +404,10 @@ module _ (scan : List ℕ) (d : State) (sound : Sound scan d) where
     -- a connect request, by the channels that it marks and the ranges of its settings
     begun : d .mode ≡ Advertising → asksToConnect own crcGood header payload ≡ true → asksToScan own crcGood header payload ≡ false → (some : Bool) → ltb 0 (marks (mapIn payload)) ≡ some
         → (within : Bool) → inRangesIn payload ≡ within → Happens scan d this (connectsTo d end (requestOf payload))
-    unfolding connects refusedBy
+    unfolding connects refusedBy llDataOf
     begun m a no-scan true s true w =
         let n : 0 < marks (mapIn payload) = ltb-true 0 (marks (mapIn payload)) s in
-        let ranges : RangesAt 12 payload = tests _ _ _ _ _ _ _ .0 w in
+        let ranges : Within (settingsIn (requestOf payload)) = tests _ _ _ _ _ _ _ .0 w in
         let there = hop-there (fromRaw (mapIn payload)) 0 (hopIn payload) (omega arith) n in
         settling _ (sym (settles payload .complete ranges))
         (begins end header payload crcGood tx _ _ m (rw (a, s, w)) (rw (m, no-scan, a, ne-eqb (marks (mapIn payload)) 0 (omega arith), w)) ranges there (next-low 0 (hopIn payload)) (unscanned no-scan))

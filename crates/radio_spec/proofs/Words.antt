@@ -37,11 +37,12 @@ use Rattle.addresses.specs.declared.header.PduType.the-variants.{AdvInd, AdvDir
 use Rattle.advertising.proofs.Accepting.{is-accepted}
 use Rattle.advertising.proofs.Builders.{writing}
 use Rattle.advertising.proofs.Building.{building}
+use Rattle.advertising.proofs.Figures.{part-after, request-is}
 use Rattle.settings.proofs.Ranges.{tests, settles}
 use Rattle.advertising.specs.Laws.{ReadsBack}
-use Rattle.advertising.specs.Pdu.{requestOf, hasReceiver, decodeOf, wellFormed}
+use Rattle.advertising.specs.Pdu.{llDataOf, requestOf, hasReceiver, decodeOf, wellFormed}
 use Rattle.advertising.specs.PduBuf.{flagsRecord, scanResponsePdu, payloadOf, payloadTo, payloadAfter}
-use Rattle.settings.specs.Settings.{takenOf, settingsAt, RangesAt}
+use Rattle.settings.specs.Settings.{Within, settingsIn, takenOf}
 use Rattle.advertising.specs.declared.pdu.ConnectRequestData.{ConnectRequestData}
 use Rattle.octets.specs.declared.error.Outcome.{Outcome}
 use Rattle.octets.specs.declared.error.Outcome.the-variants as outcome
@@ -65,6 +66,13 @@ use Rattle.radio_spec.proofs.Replies.{reply-size}
 use Rattle.radio_spec.proofs.Answers.{no-zero}
 use Rattle.radio_spec.proofs.Steps.{hop-there}
 use Rattle.radio_spec.proofs.Demand.{not-ours}
+
+-- the map and the hop of a connect request, by their octets
+map-at : (p : List ℕ) → mapIn p ≡ part 5 p 28
+map-at p = part-after p 5 16
+
+hop-at : (p : List ℕ) → hopIn p ≡ le (part 1 p 33) % 32
+hop-at p = ap (λ (o : List ℕ). le o % 32) (part-after p 1 21)
 
 -- the types with a second address, by their codes
 receiver-code : (ty : PduType) → hasReceiver ty ≡ true → (typeCode ty ≡ 1) ⊎ ((typeCode ty ≡ 3) ⊎ (typeCode ty ≡ 5))
@@ -172,13 +180,13 @@ module _ (own : DeviceAddress) (h : Header) (p : List ℕ) where
       let parts = both-true _ _ e in
       let r = scanRequest isConnectRequest 5 type-5 crcGood (parts .0) in
       let rest = both-true _ _ (parts .1) in
-      record { crc = r .crc; good = r .good; type = r .type; second = r .second; some = ltb-true 0 (marks (mapIn p)) (rest .0); ranges = tests _ _ _ _ _ _ _ .0 (rest .1) }
+      record { crc = r .crc; good = r .good; type = r .type; second = r .second; some = rw (← map-at p) (ltb-true 0 (marks (mapIn p)) (rest .0)); ranges = tests _ _ _ _ _ _ _ .0 (rest .1) }
 
   request-if : (end : Instant) (crcGood : Bool) (tx : List ℕ) → Requests own h p crcGood → connects own (packet end h p crcGood tx) ≡ true
   unfolding connects
   request-if end crcGood tx r =
       let asks-one = asked-if isConnectRequest 5 ConnectReq (codes .code-5) refl (inr (inr refl)) crcGood (record { crc = r .crc; good = r .good; type = r .type; second = r .second }) in
-      rw (asks-one, lt-ltb 0 (marks (mapIn p)) (r .some), tests _ _ _ _ _ _ _ .1 (r .ranges))
+      rw (asks-one, lt-ltb 0 (marks (mapIn p)) (rw (map-at p) (r .some)), tests _ _ _ _ _ _ _ .1 (r .ranges))
 
   pub words : Words own h p
   words =
@@ -193,8 +201,8 @@ module _ (own : DeviceAddress) (h : Header) (p : List ℕ) where
         scan-request-if = scan-request-if;
         request = request;
         request-if = request-if;
-        map = refl;
-        hop = refl;
+        map = map-at p;
+        hop = hop-at p;
       }
 
 abbrev isRefusal : Answer → Bool
@@ -447,9 +455,9 @@ module _ (d : State) (end : Instant) (h : Header) (p : List ℕ) (crcGood : Bool
     five-bits = omega arith
 
     -- the first hop of a request is event 0
-    first-hop : 1 ≤ marks (mapIn p) → begun d end (requestOf p) (settingsAt 12 p) .answer
+    first-hop : 1 ≤ marks (mapIn p) → begun d end (requestOf p) (settingsIn (requestOf p)) .answer
         ≡ FirstEvent (record { index = eventChannel (mapIn p) (hopIn p) 0 }) (firstEventAt end (requestOf p)) (requestOf p .«access_address») (requestOf p .«crc_init»)
-    unfolding unmappedBefore
+    unfolding unmappedBefore llDataOf
     first-hop some =
         let same = sym (hop-there (fromRaw (mapIn p)) 0 (hopIn p) (omega arith) some) ∙ run (mapIn p) (hopIn p) 0 some in
         let channel : DataChannel = record { index = mapped (fromRaw (mapIn p) .raw) (marks (mapIn p)) (next 0 (hopIn p)) } in
@@ -471,16 +479,18 @@ module _ (d : State) (end : Instant) (h : Header) (p : List ℕ) (crcGood : Bool
         → packetOf d end h p crcGood tx .answer
         ≡ FirstEvent (record { index = eventChannel (part 5 p 28) (le (part 1 p 33) % 32) 0 })
         (instant (later (end .0) (le (part 2 p 20) * 1250 + le (part 1 p 19) * 1250 + 1750))) (le (part 4 p 12)) (le (part 3 p 16))
-    unfolding requestOf
     requested-first r =
         let ours : ForBoard own h p = record { good = r .good; type = inr (inr (r .type)); second = r .second } in
-        ap (λ (x : Step). x .answer) (settling (r .crc) ours (r .type) _ (settles p .complete (r .ranges))) ∙ first-hop (r .some)
+        ap (λ (x : Step). x .answer) (settling (r .crc) ours (r .type) _ (settles p .complete (r .ranges))) ∙ (first-hop (rw (map-at p) (r .some))
+        ∙ (λ i. FirstEvent (record { index = eventChannel (map-at p i) (hop-at p i) 0 }) (firstEventAt end (request-is p i)) (request-is p i .«access_address») (request-is p i .«crc_init»)))
 
     requested-empty : crcGood ≡ true → ForBoard own h p → bits 0 4 h ≡ 5 → marks (part 5 p 28) ≡ 0 → packetOf d end h p crcGood tx ≡ refusal d EmptyMap
-    requested-empty crc ours five zero-marks = settling crc ours five _ (settles p .empty zero-marks)
+    unfolding llDataOf
+    requested-empty crc ours five zero-marks = settling crc ours five _ (settles p .empty (rw (map-at p) zero-marks))
 
-    requested-outside : crcGood ≡ true → ForBoard own h p → bits 0 4 h ≡ 5 → 1 ≤ marks (part 5 p 28) → (RangesAt 12 p → ⊥) → packetOf d end h p crcGood tx ≡ refusal d OutOfRange
-    requested-outside crc ours five some out = settling crc ours five _ (settles p .outside some out)
+    requested-outside : crcGood ≡ true → ForBoard own h p → bits 0 4 h ≡ 5 → 1 ≤ marks (part 5 p 28) → (Within (settingsIn (requestOf p)) → ⊥) → packetOf d end h p crcGood tx ≡ refusal d OutOfRange
+    unfolding llDataOf
+    requested-outside crc ours five some out = settling crc ours five _ (settles p .outside (rw (map-at p) some) out)
 
   off : isAdvertising (d .mode) ≡ false → packetOf d end h p crcGood tx ≡ refusal d WrongMode
   unfolding packetOf

@@ -34,9 +34,9 @@ use Rattle.addresses.specs.Header.{bits, rxAdd}
 use Rattle.addresses.specs.declared.device_address.DeviceAddress.{DeviceAddress}
 use Rattle.addresses.specs.declared.header.Header.{Header}
 use Rattle.addresses.specs.declared.header.PduType.the-variants.{ScanRsp}
-use Rattle.advertising.specs.Pdu.{decodeOf, wellFormed}
+use Rattle.advertising.specs.Pdu.{requestOf, decodeOf, wellFormed}
 use Rattle.advertising.specs.PduBuf.{flagsRecord, payloadOf}
-use Rattle.settings.specs.Settings.{RangesAt}
+use Rattle.settings.specs.Settings.{Within, settingsIn}
 use Rattle.octets.specs.declared.error.Outcome.the-variants as outcome
 use Rattle.radio_spec.specs.Calls.{isAdvertising, isConnected, instant, fresh, packetOf, packetAfter}
 use Rattle.radio_spec.specs.Demand.{numberIn, replyHeader, replyOctets, ReplyOf}
@@ -54,14 +54,14 @@ pub record ForBoard (own : DeviceAddress) (h : Header) (p : List ℕ) : Type 0 w
   pub type : (bits 0 4 h ≡ 1) ⊎ ((bits 0 4 h ≡ 3) ⊎ (bits 0 4 h ≡ 5))
   pub second : addressOf (part 6 p 6) (kindOf (rxAdd h)) ≡ own
 
--- a CRC-good, well-formed packet of type 5 whose second address is `own`, which marks a channel in octets 28 to 32, and whose settings, from octet 12 on, are in range
+-- a CRC-good, well-formed packet of type 5 whose second address is `own`, which marks a channel in octets 28 to 32, and whose settings, by octets in `Settles`, are in range
 pub record Requests (own : DeviceAddress) (h : Header) (p : List ℕ) (crcGood : Bool) : Type 0 where
   pub crc : crcGood ≡ true
   pub good : wellFormed h p ≡ true
   pub type : bits 0 4 h ≡ 5
   pub second : addressOf (part 6 p 6) (kindOf (rxAdd h)) ≡ own
   pub some : 1 ≤ marks (part 5 p 28)
-  pub ranges : RangesAt 12 p
+  pub ranges : Within (settingsIn (requestOf p))
 
 -- a CRC-good, well-formed packet of type 3 whose second address is `own`
 pub record Scans (own : DeviceAddress) (h : Header) (p : List ℕ) (crcGood : Bool) : Type 0 where
@@ -175,6 +175,6 @@ pub record HearsPacket (d : State) (end : Instant) (h : Header) (p : List ℕ) (
       (instant (later (end .0) (le (part 2 p 20) * 1250 + le (part 1 p 19) * 1250 + 1750))) (le (part 4 p 12)) (le (part 3 p 16))
   pub empty : d .mode ≡ Advertising → crcGood ≡ true → ForBoard (d .«dev_addr») h p → bits 0 4 h ≡ 5 → marks (part 5 p 28) ≡ 0
       → packetOf d end h p crcGood tx ≡ record { answer = Refused EmptyMap; state = d }
-  pub outside : d .mode ≡ Advertising → crcGood ≡ true → ForBoard (d .«dev_addr») h p → bits 0 4 h ≡ 5 → 1 ≤ marks (part 5 p 28) → (RangesAt 12 p → ⊥)
+  pub outside : d .mode ≡ Advertising → crcGood ≡ true → ForBoard (d .«dev_addr») h p → bits 0 4 h ≡ 5 → 1 ≤ marks (part 5 p 28) → (Within (settingsIn (requestOf p)) → ⊥)
       → packetOf d end h p crcGood tx ≡ record { answer = Refused OutOfRange; state = d }
   pub unwritten : (Scans (d .«dev_addr») h p crcGood → ⊥) → packetAfter d h p crcGood tx ≡ tx

@@ -31,8 +31,8 @@ use Rattle.addresses.specs.declared.device_address.DeviceAddress.{DeviceAddress
 use Rattle.addresses.specs.declared.header.Header.{Header}
 use Rattle.addresses.specs.declared.header.PduType.{PduType}
 use Rattle.addresses.specs.declared.header.PduType.the-variants.{AdvInd, AdvDirectInd, AdvNonconnInd, AdvScanInd, ScanReq, ScanRsp, ConnectReq, Unknown}
-use Rattle.advertising.specs.Pdu.{fieldAt, connectFigure, decodeOf, wellFormed}
-use Rattle.settings.specs.Settings.{isWithin, settingsAt}
+use Rattle.advertising.specs.Pdu.{fieldAt, llDataFigure, llDataIn, requestOf, decodeOf, wellFormed}
+use Rattle.settings.specs.Settings.{isWithin, settingsIn}
 use Rattle.radio_spec.specs.Calls.{isAdvertising, isConnected, isScanRequest, isFor}
 use Rattle.radio_spec.specs.declared.link.Answer.the-variants.{Refused}
 use Rattle.radio_spec.specs.declared.link.Mode.{Mode}
@@ -63,14 +63,13 @@ asksToScan own crcGood h p = requested isScanRequest own crcGood h p
 
 -- ChM, and the low 5 bits of the octet of Hop and SCA
 abbrev pub mapIn : List ℕ → List ℕ
-mapIn p = fieldAt connectFigure 9 p
+mapIn p = fieldAt llDataFigure 7 (llDataIn p)
 
 abbrev pub hopIn : List ℕ → ℕ
-hopIn p = le (fieldAt connectFigure 10 p) % 32
+hopIn p = le (fieldAt llDataFigure 8 (llDataIn p)) % 32
 
--- LLData begins after the two addresses
 abbrev pub inRangesIn : List ℕ → Bool
-inRangesIn p = isWithin (settingsAt 12 p)
+inRangesIn p = isWithin (settingsIn (requestOf p))
 
 unfoldable pub connects : DeviceAddress → Call → Bool
 connects own (start time interval records tx) = false

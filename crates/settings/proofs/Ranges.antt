@@ -1,26 +1,26 @@
 -- The ranges of a connection's settings, and what is taken, by octets: `tests`, `in-time`, `settles`, `alone`, `limits`. Assumes nothing.
 use mathlib.Core.Bool.{Bool, true, false, cond, false≢true}
-use mathlib.Core.List.{List, _++_}
-use mathlib.Core.Path.{_≡_, refl, sym, ap, subst, _∙_}
+use mathlib.Core.List.{List, [], _∷_}
+use mathlib.Core.Path.{_≡_, refl, sym, ap}
 use Prim.Native.Nat.{ℕ, _+_, _-_, _*_, _/_, _%_, _≤_}
 use native.Mathlib.Nat.{mul-assoc, min-le-left, min-le-right, le-min}
 use native.Mathlib.Omega.{arith}
 use lib.Dec.{eqb, leb}
-use lib.ListN.{length, take, drop, replicate}
-use lib.Seq.{drop-append-add}
+use lib.Seq.{drop-append-seam}
 use borrow.Author.Tests.{le-leb, leb-true, lt-ltb, ltb-true, eq-eqb, ne-eqb}
 use Rattle.channels.specs.Count.{count}
 use Rattle.channels.specs.Map.{marked, marks, cleared, fromRaw}
 use Rattle.octets.proofs.Places.{both-true}
-use Rattle.octets.specs.Bytes.{part, le}
+use Rattle.octets.specs.Bytes.{le}
 use Rattle.octets.specs.declared.error.Error.the-variants.{EmptyMap, OutOfRange}
-use Rattle.advertising.specs.Pdu.{requestOf}
+use Rattle.advertising.proofs.Figures.{field-is}
+use Rattle.advertising.specs.Laws.{Figure}
+use Rattle.advertising.specs.Pdu.{llDataFigure, llDataOf, llDataIn}
 use Rattle.octets.specs.Error.{isAccepted}
-use Rattle.settings.specs.Settings.{Ranges, Times, between, inRanges, Tests, InTime, Within, leastSettings, settingsIn, refusedSettings, isWithin, judged, takenOf, aloneOf, RangesAt, settingsAt, Taking, Settles, Alone, Limits}
+use Rattle.settings.specs.Settings.{Ranges, Times, between, inRanges, Tests, InTime, Within, leastSettings, settingsIn, refusedSettings, isWithin, judged, settingsAs, takenOf, Taking, Settles, Alone, Limits}
 use Rattle.advertising.specs.declared.pdu.ConnectRequestData.{ConnectRequestData}
 use Rattle.octets.specs.declared.error.Outcome.the-variants.{Accepted}
 use Rattle.settings.specs.declared.ConnectionSettings.{ConnectionSettings}
-use Rattle.settings.specs.declared.Taken.{Taken}
 
 pub between-true : (low x high : ℕ) → between low x high ≡ true → (low ≤ x) × (x ≤ high)
 between-true low x high e =
@@ -156,77 +156,57 @@ count-of n = omega arith
 timeout-of : (n : ℕ) → n * 10000 / 10000 ≡ n
 timeout-of n = omega arith
 
-settings-in : (p : List ℕ) → settingsIn (requestOf p) ≡ settingsAt 12 p
-unfolding requestOf
-settings-in p = λ i.
+-- the settings in octets that are the fields of LLData
+counts-of : {aa crcInit winSize winOffset interval latency timeout chM hopSca further o : List ℕ}
+    → Figure llDataFigure (aa ∷ crcInit ∷ winSize ∷ winOffset ∷ interval ∷ latency ∷ timeout ∷ chM ∷ hopSca ∷ []) further o
+    → settingsIn (llDataOf o) ≡ settingsAs (le hopSca % 32) (fromRaw chM) (le interval) (le latency) (le timeout) (le winSize) (le winOffset)
+unfolding llDataOf
+counts-of fig = λ i.
     record {
-      hop = le (part 1 p 33) % 32;
-      chm = fromRaw (part 5 p 28);
-      interval = count-of (le (part 2 p 22)) i;
-      latency = le (part 2 p 24);
-      timeout = timeout-of (le (part 2 p 26)) i;
-      «win_size» = count-of (le (part 1 p 19)) i;
-      «win_offset» = count-of (le (part 2 p 20)) i;
+      hop = le (field-is fig 8 i) % 32;
+      chm = fromRaw (field-is fig 7 i);
+      interval = count-of (le (field-is fig 4 i)) i;
+      latency = le (field-is fig 5 i);
+      timeout = timeout-of (le (field-is fig 6 i)) i;
+      «win_size» = count-of (le (field-is fig 2 i)) i;
+      «win_offset» = count-of (le (field-is fig 3 i)) i;
     }
 
-taken-is : (p : List ℕ) → takenOf (requestOf p) ≡ judged (settingsAt 12 p)
-taken-is p = sym (judged-is (requestOf p) (settingsAt 12 p) (sym (settings-in p)))
-
-taking : (at : ℕ) (s : List ℕ) → Taking at s (judged (settingsAt at s))
-taking at s =
+taking : (o : List ℕ) → Taking o (settingsIn (llDataOf o)) (takenOf (llDataOf o))
+unfolding takenOf
+taking o =
     record {
-      sound = λ e. sound (eqb n 0) (isWithin (settingsAt at s)) refl e;
+      counts = λ _ _ _ _ _ _ _ _ _ _ fig. counts-of fig;
+      sound = λ e. sound (eqb n 0) (isWithin s) refl e;
       complete = λ r. rw (ne-eqb n 0 (λ e. let two : 2 ≤ n = r .two-channels in omega (arith, e, two)), tests _ _ _ _ _ _ _ .1 r);
       empty = λ e. rw (eq-eqb n 0 e);
-      outside = λ some out. rw (ne-eqb n 0 (λ e. omega (arith, e, some)), outside (isWithin (settingsAt at s)) refl out);
+      outside = λ some out. rw (ne-eqb n 0 (λ e. omega (arith, e, some)), outside (isWithin s) refl out);
     }
   where
-    n : ℕ
-    n = marks (part 5 s (at + 16))
+    s : ConnectionSettings
+    s = settingsIn (llDataOf o)
 
-    sound : (b c : Bool) → isWithin (settingsAt at s) ≡ c
-        → cond b (refusedSettings EmptyMap) (cond c (record { outcome = Accepted; settings = settingsAt at s }) (refusedSettings OutOfRange)) .outcome ≡ Accepted → RangesAt at s
+    n : ℕ
+    n = s .chm .«num_used_channels»
+
+    sound : (b c : Bool) → isWithin s ≡ c
+        → cond b (refusedSettings EmptyMap) (cond c (record { outcome = Accepted; settings = s }) (refusedSettings OutOfRange)) .outcome ≡ Accepted → Within s
     sound true c is e = absurd (false≢true (ap isAccepted e))
     sound false true is e = tests _ _ _ _ _ _ _ .0 is
     sound false false is e = absurd (false≢true (ap isAccepted e))
 
-    outside : (c : Bool) → isWithin (settingsAt at s) ≡ c → (RangesAt at s → ⊥) → isWithin (settingsAt at s) ≡ false
+    outside : (c : Bool) → isWithin s ≡ c → (Within s → ⊥) → isWithin s ≡ false
     outside true is out = absurd (out (tests _ _ _ _ _ _ _ .0 is))
     outside false is out = is
 
 pub settles : (p : List ℕ) → Settles p
-settles p = subst (Taking 12 p) (sym (taken-is p)) (taking 12 p)
-
--- after twelve octets
-module _ (front o : List ℕ) (twelve : length front ≡ 12) where
-  part-behind : (n k : ℕ) → part n (front ++ o) (12 + k) ≡ part n o k
-  part-behind n k = ap (take n) (ap (λ (j : ℕ). drop (j + k) (front ++ o)) (sym twelve) ∙ drop-append-add front o k)
-
-  settings-behind : settingsAt 12 (front ++ o) ≡ settingsAt 0 o
-  settings-behind = λ i.
-      record {
-        hop = le (part-behind 1 21 i) % 32;
-        chm = fromRaw (part-behind 5 16 i);
-        interval = le (part-behind 2 10 i);
-        latency = le (part-behind 2 12 i);
-        timeout = le (part-behind 2 14 i);
-        «win_size» = le (part-behind 1 7 i);
-        «win_offset» = le (part-behind 2 8 i);
-      }
-
-  taken-behind : takenOf (requestOf (front ++ o)) ≡ judged (settingsAt 0 o)
-  taken-behind = taken-is (front ++ o) ∙ ap judged settings-behind
+settles p = taking (llDataIn p)
 
 pub alone : (o : List ℕ) → Alone o
-alone o =
-    let by-octets : aloneOf o ≡ judged (settingsAt 0 o) = taken-behind (replicate 12 0) o refl in
-    record {
-      octets = subst (Taking 0 o) (sym by-octets) (taking 0 o);
-      addresses = λ front twelve. taken-behind front o twelve ∙ sym by-octets;
-    }
+alone o = record { octets = taking o; addresses = λ front twelve. ap llDataOf (rw (← twelve) (drop-append-seam front o)) }
 
 pub limits : Limits
-unfolding takenOf requestOf inRanges marks marked cleared count
+unfolding takenOf llDataOf inRanges marks marked cleared count
 limits =
     record {
       hop = refl;

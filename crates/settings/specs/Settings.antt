@@ -15,9 +15,7 @@
 --   judged s                          == what is answered for settings; takenOf l: for those of a decoded request
 --   aloneOf o                         == the same for the 22 octets of LLData
 --   numberTaken t                     == its number, 0 where the settings were taken
---   settingsAt at s                   == the settings by the octets of LLData, which begin at `at`
---   RangesAt at s                     == these are within the ranges
---   Taking at s t                     == t is what is taken of these, or the refusal
+--   Taking o s t                      == s are the settings in the octets o of LLData, and t is what is taken of them, or the refusal
 --   Settles p                         (Ranges.settles)  what is taken of a connect request's payload, and what is refused
 --   Alone o                           (Ranges.alone)    the same of the 22 octets alone, and that those before them say nothing
 --   lldata ..                         == LLData of given settings, for worked values
@@ -30,12 +28,13 @@ use mathlib.Core.Path.{_≡_}
 use Prim.Native.Nat.{ℕ, _+_, _-_, _*_, _/_, _%_, _≤_, _<_, min}
 use lib.Dec.{eqb, leb, ltb}
 use lib.ListN.{length, replicate}
-use Rattle.channels.specs.Map.{marks, fromRaw, allChannels}
+use Rattle.channels.specs.Map.{fromRaw, allChannels}
 use Rattle.channels.specs.declared.channel_map.ChannelMap.{ChannelMap}
-use Rattle.octets.specs.Bytes.{part, le, leBytes}
+use Rattle.octets.specs.Bytes.{le, leBytes}
 use Rattle.octets.specs.declared.error.Error.{Error}
 use Rattle.octets.specs.declared.error.Error.the-variants.{EmptyMap, OutOfRange}
-use Rattle.advertising.specs.Pdu.{requestOf}
+use Rattle.advertising.specs.Laws.{Figure}
+use Rattle.advertising.specs.Pdu.{llDataFigure, llDataOf, llDataIn, requestOf}
 use Rattle.octets.specs.Error.{outcomeNumber}
 use Rattle.advertising.specs.declared.pdu.ConnectRequestData.{ConnectRequestData}
 use Rattle.octets.specs.declared.error.Outcome.the-variants.{Accepted, Refused}
@@ -134,37 +133,30 @@ judged s =
 unfoldable pub takenOf : ConnectRequestData → Taken
 takenOf l = judged (settingsIn l)
 
--- after two addresses, whichever they are (`Alone`)
 abbrev pub aloneOf : List ℕ → Taken
-aloneOf o = takenOf (requestOf (replicate 12 0 ++ o))
+aloneOf o = takenOf (llDataOf o)
 
 abbrev pub numberTaken : Taken → ℕ
 numberTaken t = outcomeNumber (t .outcome)
 
--- by the places of the octets alone, as the figure in specs/Pdu.antt draws LLData, which begins at `at`
-abbrev pub settingsAt : ℕ → List ℕ → ConnectionSettings
-settingsAt at s =
-    settingsAs (le (part 1 s (at + 21)) % 32) (fromRaw (part 5 s (at + 16))) (le (part 2 s (at + 10))) (le (part 2 s (at + 12))) (le (part 2 s (at + 14)))
-    (le (part 1 s (at + 7))) (le (part 2 s (at + 8)))
-
-abbrev pub RangesAt : ℕ → List ℕ → Type 0
-RangesAt at s = Within (settingsAt at s)
-
--- Settings are taken exactly where they are within the ranges, and are then the request's own counts. Where its map marks no channel, they are refused with 6,
--- and where it marks one and a setting is outside its range, with 12.
-pub record Taking (at : ℕ) (s : List ℕ) (t : Taken) : Type 0 where
-  pub sound : t .outcome ≡ Accepted → RangesAt at s
-  pub complete : RangesAt at s → t ≡ record { outcome = Accepted; settings = settingsAt at s }
-  pub empty : marks (part 5 s (at + 16)) ≡ 0 → t ≡ record { outcome = Refused EmptyMap; settings = leastSettings }
-  pub outside : 1 ≤ marks (part 5 s (at + 16)) → (RangesAt at s → ⊥) → t ≡ record { outcome = Refused OutOfRange; settings = leastSettings }
+-- Settings are taken exactly where they are within the ranges, and are then the request's own counts: the numbers of LLData's fields, as the figure in
+-- specs/Pdu.antt draws them. Where the map marks no channel, they are refused with 6, and where it marks one and a setting is outside its range, with 12.
+pub record Taking (o : List ℕ) (s : ConnectionSettings) (t : Taken) : Type 0 where
+  pub counts : (aa crcInit winSize winOffset interval latency timeout chM hopSca further : List ℕ)
+      → Figure llDataFigure (aa ∷ crcInit ∷ winSize ∷ winOffset ∷ interval ∷ latency ∷ timeout ∷ chM ∷ hopSca ∷ []) further o
+      → s ≡ settingsAs (le hopSca % 32) (fromRaw chM) (le interval) (le latency) (le timeout) (le winSize) (le winOffset)
+  pub sound : t .outcome ≡ Accepted → Within s
+  pub complete : Within s → t ≡ record { outcome = Accepted; settings = s }
+  pub empty : s .chm .«num_used_channels» ≡ 0 → t ≡ record { outcome = Refused EmptyMap; settings = leastSettings }
+  pub outside : 1 ≤ s .chm .«num_used_channels» → (Within s → ⊥) → t ≡ record { outcome = Refused OutOfRange; settings = leastSettings }
 
 abbrev pub Settles : List ℕ → Type 0
-Settles p = Taking 12 p (takenOf (requestOf p))
+Settles p = Taking (llDataIn p) (settingsIn (requestOf p)) (takenOf (requestOf p))
 
 -- The 22 octets alone, and after any two addresses.
 pub record Alone (o : List ℕ) : Type 0 where
-  pub octets : Taking 0 o (aloneOf o)
-  pub addresses : (front : List ℕ) → length front ≡ 12 → takenOf (requestOf (front ++ o)) ≡ aloneOf o
+  pub octets : Taking o (settingsIn (llDataOf o)) (aloneOf o)
+  pub addresses : (front : List ℕ) → length front ≡ 12 → requestOf (front ++ o) ≡ llDataOf o
 
 -- LLData with an access address, a CRC start, and these settings; the last octet has the hop and the clock accuracy
 abbrev pub lldata : ℕ → List ℕ → ℕ → ℕ → ℕ → ℕ → ℕ → List ℕ

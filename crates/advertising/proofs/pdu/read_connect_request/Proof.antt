@@ -1,7 +1,10 @@
 -- `pdu::read_connect_request` meets its contract. Assumes nothing.
-use mathlib.Core.Path.{_∙_}
+use mathlib.Core.List.{List}
+use mathlib.Core.Path.{_≡_, _∙_}
+use Prim.Native.Nat.{ℕ, _-_}
 use native.Mathlib.Omega.{arith}
-use lib.ListN.{length}
+use lib.ListN.{length, take, drop, length-drop}
+use lib.Seq.{take-all}
 use borrow.Author.Tests.{lt-ltb, le-ltb}
 use borrow.Author.Needs.{needs}
 use Rattle.advertising.specs.Pdu.{connectRequest}
@@ -12,11 +15,16 @@ returns : tie.Need-returns
 unfolding connectRequest
 returns c = c .refused .ensures ∙ rw (lt-ltb (length (c .before .before .before .args .payload .now)) 34 (omega arith))
 
+-- what follows the addresses, as the code takes it
+rest : (p : List ℕ) → take (length p - 12) (drop 12 p) ≡ drop 12 p
+rest p = take-all (length p - 12) (drop 12 p) (rw length-drop (omega arith))
+
 returns-2 : tie.Need-returns-2
 unfolding connectRequest
 returns-2 c =
-    let second = c .before .before .before in
+    let second = c .before .before .before .before in
     let first = second .before .before in
+    let p = first .before .before .before .before .args .payload .now in
     c .answered .ensures
     ∙ rw (
       c .before .no-data .ensures,
@@ -25,7 +33,8 @@ returns-2 c =
       second .before .rx-add .ensures,
       first .address-at .ensures,
       first .before .tx-add .ensures,
-      le-ltb (length (first .before .before .before .before .args .payload .now)) 34 (omega arith),
+      rest p,
+      le-ltb (length p) 34 (omega arith),
     )
 
 pub read-connect-request-spec : {M : Type 1} → statement M
@@ -38,6 +47,9 @@ read-connect-request-spec =
     (λ c κs. search needs)
     (λ c κs. search needs)
     (λ c κs. search needs)
+    (λ c. search needs)
+    (λ c. search needs)
+    (λ c. search needs)
     (λ c κs. search needs)
     (λ c κs. search needs)
     (λ c κs. search needs)

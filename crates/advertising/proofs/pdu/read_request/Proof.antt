@@ -3,7 +3,7 @@ use mathlib.Core.Path.{_≡_, sym, ap, _∙_}
 use Prim.Native.Nat.{ℕ, _*_, _/_, _%_}
 use native.Mathlib.Omega.{arith}
 use borrow.Author.Needs.{needs}
-use Rattle.advertising.specs.Pdu.{accuracyOf, requestOf}
+use Rattle.advertising.specs.Pdu.{accuracyOf, llDataOf}
 use Rattle.channels.specs.Map.{fromRaw}
 use Rattle.octets.specs.Bytes.{part, le}
 use Rattle.octets.proofs.Places.{enough, part-octets}
@@ -11,7 +11,7 @@ use Rattle.advertising.proofs.pdu.read_request.Statement.{statement}
 use Rattle.advertising.proofs.pdu.read_request.Tie as tie
 
 returns : tie.Need-returns
-unfolding requestOf
+unfolding llDataOf
 returns c =
     let map = c .before in
     let timeout = map .before in
@@ -22,16 +22,16 @@ returns c =
     let crc = size .before .before in
     let access = crc .before .before .before .before in
     let octets = access .before .before .before .before .before .before in
-    let p = octets .before .before .before .args .payload .now in
+    let o = octets .before .before .before .args .lldata .now in
     let last = octets .before .octet-at .ensures in
     let micros : ℕ → ℕ = λ n. n * 1250 in
-    let access-is : access .u32-from-le-bytes .result ≡ le (part 4 p 12) = access .u32-from-le-bytes .ensures ∙ ap le (sym (part-octets 3 p 12 (omega arith))) in
-    let crc-is : crc .u32-from-le-bytes2 .result ≡ le (part 3 p 16) = rw (part-octets 2 p 16 (omega arith)) (omega (arith, crc .u32-from-le-bytes2 .ensures)) in
+    let access-is : access .u32-from-le-bytes .result ≡ le (part 4 o 0) = access .u32-from-le-bytes .ensures ∙ ap le (sym (part-octets 3 o 0 (omega arith))) in
+    let crc-is : crc .u32-from-le-bytes2 .result ≡ le (part 3 o 4) = rw (part-octets 2 o 4 (omega arith)) (omega (arith, crc .u32-from-le-bytes2 .ensures)) in
     let size-is = size .micros .ensures ∙ ap micros (size .before .octet-at2 .ensures) in
     let offset-is = offset .micros2 .ensures ∙ ap micros (offset .before .u16-at .ensures) in
     let interval-is = interval .micros3 .ensures ∙ ap micros (interval .before .u16-at2 .ensures) in
     let timeout-is = ap (λ (n : ℕ). n * 10000) (timeout .u16-at4 .ensures) in
-    let five : octets .read-array5 .result .octets ≡ part 5 p 28 = octets .read-array5 .ensures .0 ∙ rw (enough 5 p 28 (omega arith)) in
+    let five : octets .read-array5 .result .octets ≡ part 5 o 16 = octets .read-array5 .ensures .0 ∙ rw (enough 5 o 16 (omega arith)) in
     let map-is = map .from-raw .ensures ∙ ap fromRaw five in
     λ i. record {
       «access_address» = access-is i;
