@@ -4,6 +4,7 @@ use mathlib.Core.List.{List, [], _∷_}
 use mathlib.Core.Path.{_≡_, refl, sym, ap, subst, _∙_}
 use Prim.Native.Nat.{ℕ}
 use native.Mathlib.Omega.{arith}
+use lib.Dec.{eqb}
 use lib.ListN.{length}
 use Rattle.octets.specs.declared.error.Error.the-variants.{WrongMode}
 use Rattle.octets.specs.declared.time.Instant.{Instant}
@@ -11,11 +12,12 @@ use Rattle.addresses.specs.declared.device_address.DeviceAddress.{DeviceAddress
 use Rattle.addresses.specs.declared.header.Header.{Header}
 use Rattle.advertising.specs.Pdu.{decodeOf}
 use Rattle.radio_spec.specs.Calls.{fresh, isAdvertising, listens, refusal, addressed, packetOf}
-use Rattle.radio_spec.specs.Demand.{RefusedAt, TicksFrom, ListeningFrom, RepliesAt, SetsAt, BeginsAt, EventsFrom, StopsAt, Events, ReplyOf, Demand3}
-use Rattle.radio_spec.specs.Call.{Call, packet, callOf}
-use Rattle.radio_spec.specs.SoFar.{forBoard, SoFar, atFirst, thenCall, thenCalls, modeAfter, scanDataAfter}
+use Rattle.radio_spec.specs.Demand.{RefusedAt, TicksFrom, ListeningFrom, RepliesAt, SetsAt, BeginsAt, EventsFrom, StopsAt, Events, ReplyOf, modeThen, ModesFrom, Demand3}
+use Rattle.radio_spec.specs.Call.{Call, start, tick, packet, event, stop, setScanData, callOf}
+use Rattle.radio_spec.specs.SoFar.{forBoard, connects, SoFar, atFirst, startNumber, scanDataNumber, refusedBy, thenCall, thenCalls, modeAfter, scanDataAfter}
 use Rattle.radio_spec.specs.Trace.{Entry, traceFrom, trace, stateFrom, stateAfter, gather, tickRun, eventRun, AtEach, none, here, Strikable, crcBad, malformed, foreign, Choice, keep, strike, remaining}
 use Rattle.radio_spec.specs.State.{State, Step}
+use Rattle.radio_spec.specs.declared.link.Mode.{Mode}
 use Rattle.radio_spec.proofs.Packets.{not-for}
 use Rattle.radio_spec.proofs.Replies.{bare}
 use Rattle.radio_spec.proofs.Runs.{entryOf, traced, TicksOf, payloadIn, ticks-from, listening-from, events-from, begins-at, replies-at, sets-at, stops-at, refused-at}
@@ -61,6 +63,31 @@ module _ (own : DeviceAddress) where
   at-each P p scan d [] ours = none
   at-each P p scan d (c ∷ cs) ours = here (p scan d c cs ours) (at-each P p (scanAfter scan c) (callOf d c .state) cs (next-ours c ours))
 
+-- The mode of the list, call by call
+
+chosen-mode : (b : Bool) (x y : SoFar) → cond b x y .mode ≡ cond b (x .mode) (y .mode)
+chosen-mode true x y = refl
+chosen-mode false x y = refl
+
+same-either-way : (b : Bool) (m : Mode) → cond b m m ≡ m
+same-either-way true m = refl
+same-either-way false m = refl
+
+module _ (own : DeviceAddress) where
+  then-mode : (l : SoFar) (c : Call) → thenCall own l c .mode ≡ modeThen own (l .mode) (eqb (refusedBy own l c) 0) c
+  unfolding thenCall refusedBy
+  then-mode l (start time interval records tx) = chosen-mode (eqb (startNumber records tx) 0) _ l
+  then-mode l (tick tx) = chosen-mode (eqb (refusedBy own l (tick tx)) 0) _ l ∙ same-either-way (eqb (refusedBy own l (tick tx)) 0) (l .mode)
+  then-mode l (packet end header payload crcGood tx) = chosen-mode (isAdvertising (l .mode) && connects own (packet end header payload crcGood tx)) _ l
+  then-mode l event = refl
+  then-mode l stop = refl
+  then-mode l (setScanData records) = chosen-mode (eqb (scanDataNumber records) 0) _ l ∙ same-either-way (eqb (scanDataNumber records) 0) (l .mode)
+
+  modes-from : (l : SoFar) (d : State) (last : Mode) (cs : List Call) → thenCalls own l cs .mode ≡ last → ModesFrom own (l .mode) last (traceFrom own l d cs)
+  modes-from l d last [] is = is
+  modes-from l d last (c ∷ cs) is =
+      (refl, subst (λ (m : Mode). ModesFrom own m last (traceFrom own (thenCall own l c) (callOf d c .state) cs)) (then-mode l c) (modes-from (thenCall own l c) (callOf d c .state) last cs is))
+
 -- Struck packets change nothing
 
 module _ (d : State) (end : Instant) (h : Header) (p tx : List ℕ) where
@@ -105,7 +132,7 @@ module _ (own : DeviceAddress) where
 -- The whole
 
 pub demand-3 : (own : DeviceAddress) → length (own .bytes) ≡ 6 → (calls : List Call) → Demand3 own calls
-unfolding stateAfter modeAfter scanDataAfter
+unfolding trace stateAfter modeAfter scanDataAfter
 demand-3 own six calls =
     let ours : Ours own [] (fresh own) = fresh-ours own six in
     let by-device = fresh-trace own six in
@@ -127,6 +154,7 @@ demand-3 own six calls =
           [] (fresh own) calls ours);
       stops = rw (by-device calls) (at-each own StopsAt (λ scan d c cs o. stops-at (happens scan d (o .sound) c)) [] (fresh own) calls ours);
       mode = same-mode own atFirst [] (fresh own) calls ours refl;
+      modes = modes-from own atFirst (fresh own) (stateAfter own calls .mode) calls (sym (same-mode own atFirst [] (fresh own) calls ours refl));
       carries = same-reply own atFirst [] (fresh own) calls ours refl;
       others-same = λ ch. by-device (remaining ch calls) ∙ (others-same own [] (fresh own) ch ours ∙ ap (remaining ch) (sym (by-device calls)));
       end-same = λ ch. end-same own [] (fresh own) ch ours;

@@ -1,4 +1,4 @@
--- Lists of calls by computation: `example`, `title-example`, `limits`. Assumes nothing.
+-- Lists of calls by computation: `example`, `title-example`, `limits`, `long`. Assumes nothing.
 use mathlib.Core.List.{flatten}
 use mathlib.Core.Path.{refl}
 use Rattle.channels.specs.Count.{count, placed}
@@ -13,7 +13,7 @@ use Rattle.advertising.specs.Pdu.{llDataOf, directed, connectRequest, byType, d
 use Rattle.advertising.specs.PduBuf.{bufOf, afterReading, withRecords}
 use Rattle.settings.specs.Settings.{inRanges, takenOf}
 use Rattle.radio_spec.specs.Calls.{isFor, connectsTo, addressed, hops, startOf, startAfter, tickOf, tickAfter, packetOf, packetAfter, eventOf}
-use Rattle.radio_spec.specs.Examples.{Example, TitleExample, Limits}
+use Rattle.radio_spec.specs.Examples.{Example, TitleExample, Limits, Long}
 use Rattle.radio_spec.specs.Trace.{trace}
 
 pub example : Example
@@ -27,3 +27,7 @@ title-example = record { answers = refl; octets = refl }
 pub limits : Limits
 unfolding flatten count placed mapped marked marks channelAt cleared cut reads areaOf readArea rewritten sameOctets sameAddress pduType llDataOf directed connectRequest byType decodeBy bufOf afterReading withRecords takenOf inRanges isFor connectsTo addressed hops startOf startAfter tickOf tickAfter packetOf packetAfter eventOf trace named flagsRead uuidsRead dataRead upTo recordRead first withFirst clean
 limits = record { answers = refl; octets = refl; longest = refl }
+
+pub long : Long
+unfolding flatten count placed mapped marked marks channelAt cleared cut reads areaOf readArea rewritten sameOctets sameAddress pduType requestOf directed connectRequest byType decodeBy bufOf afterReading withRecords takenOf inRanges isFor connectsTo addressed hops startOf startAfter tickOf tickAfter packetOf packetAfter eventOf trace named flagsRead uuidsRead dataRead upTo recordRead first withFirst clean
+long = record { before = refl; first = refl; events = refl; after = refl }

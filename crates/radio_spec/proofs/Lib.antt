@@ -1,3 +1,4 @@
+pub mod Answering
 pub mod Answers
 pub mod Demand
 pub mod Example

@@ -20,9 +20,11 @@
 --   replyHeader, replyOctets  == the header and the payload of a reply; ReplyOf: a PDU that has both
 --   repliedTo own e           == the list says that this call is a scan request to an advertising board, with room for the reply
 --   Reply                     == what such a call answers and writes
+--   modeThen own m ok c       == the mode after a call c, m being the mode before it, and ok whether the table accepts it
+--   ModesFrom own m last es   == m is the mode before the entries es, each call leads from one mode to the next, and `last` is the mode after them
 --   RefusedAt, TicksFrom, ListeningFrom, RepliesAt, BeginsAt, EventsFrom, StopsAt, SetsAt   == what holds at an entry, with the entries after it
 --   Demand3 own calls         (Demand.demand-3)   the whole of demand 3
-use mathlib.Core.Bool.{Bool, true, false, not, _&&_}
+use mathlib.Core.Bool.{Bool, true, false, cond, not, _&&_}
 use mathlib.Core.List.{List, [], _∷_, _++_}
 use mathlib.Core.Path.{_≡_}
 use Prim.Native.Nat.{ℕ, suc, _+_, _*_, _%_, _≤_, _<_}
@@ -51,6 +53,8 @@ use Rattle.radio_spec.specs.Call.{Call, start, tick, packet, event, stop
 use Rattle.radio_spec.specs.SoFar.{mapIn, hopIn, connects, asksToScanWith, replySize, modeAfter, scanDataAfter}
 use Rattle.radio_spec.specs.Trace.{Entry, accepted, trace, stateAfter, AtEach, tickOn, eventOn, channelsBy, gather, tickRun, eventRun, hearRun, ListensOn, times, Choice, remaining}
 use Rattle.radio_spec.specs.declared.link.Answer.{Answer}
+use Rattle.radio_spec.specs.declared.link.Mode.{Mode}
+use Rattle.radio_spec.specs.declared.link.Mode.the-variants.{Standby, Advertising, Connected}
 use Rattle.radio_spec.specs.declared.link.Answer.the-variants.{Refused, Sent, Listen, Respond, FirstEvent, NextEvent, Stopped, ScanDataSet}
 
 -- the number that an answer refuses with; 0 where it refuses nothing
@@ -185,6 +189,20 @@ StopsAt e after = e .call ≡ stop → e .result .answer ≡ Stopped
 abbrev pub SetsAt : Entry → List Entry → Type 0
 SetsAt e after = (records : List ℕ) → e .call ≡ setScanData records → accepted e ≡ true → e .result .answer ≡ ScanDataSet
 
+-- "The mode is read from the list: standby at first, advertising after an accepted start, connected after a request as demand 3 names it, standby after a stop."
+-- No other call changes it: by the mode before a call, the call, and whether it was accepted, whatever came earlier.
+abbrev pub modeThen : DeviceAddress → Mode → Bool → Call → Mode
+modeThen own m ok (start time interval records tx) = cond ok Advertising m
+modeThen own m ok (packet end header payload crcGood tx) = cond (isAdvertising m && connects own (packet end header payload crcGood tx)) Connected m
+modeThen own m ok stop = Standby
+modeThen own m ok (tick tx) = m
+modeThen own m ok event = m
+modeThen own m ok (setScanData records) = m
+
+abbrev pub ModesFrom : DeviceAddress → Mode → Mode → List Entry → Type 0
+ModesFrom own m last [] = m ≡ last
+ModesFrom own m last (e ∷ es) = (e .mode ≡ m) × ModesFrom own (modeThen own m (accepted e) (e .call)) last es
+
 pub record Demand3 (own : DeviceAddress) (calls : List Call) : Type 0 where
   -- "Every call .. refuses only as document 01 says"; "A start, tick or event call is accepted if no row of the table refuses it."
   pub refusals : AtEach RefusedAt (trace own calls)
@@ -207,6 +225,8 @@ pub record Demand3 (own : DeviceAddress) (calls : List Call) : Type 0 where
   pub stops : AtEach StopsAt (trace own calls)
   -- "The mode is read from the list": the device's is the same
   pub mode : stateAfter own calls .mode ≡ modeAfter own calls
+  -- and so it is at each call, and of the device after the last
+  pub modes : ModesFrom own Standby (stateAfter own calls .mode) (trace own calls)
   -- Note 1: "the device's state carries the built reply", that of the scan data which the list gives
   pub carries : ReplyOf own (scanDataAfter own calls) (stateAfter own calls .«scan_response»)
   -- "Striking out any of the list's CRC-bad or malformed packets, or of those not for this board, leaves every other call's result and octets,

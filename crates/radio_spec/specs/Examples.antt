@@ -12,13 +12,16 @@
 --   requesting mapAndHop         == the connect request with another map and hop
 --   limitsTrace                  == calls beside each limit
 --   Limits                       (Example.limits)         what these answer and leave
+--   highRequest                  == the connect request with a CRC start whose top bit is set
+--   longTrace                    == more than a cycle of ticks and of events, and calls in each other mode
+--   Long                         (Example.long)           what these answer
 use mathlib.Core.Bool.{Bool, true, false}
 use mathlib.Core.List.{List, [], _∷_, _++_, map}
 use mathlib.Core.Path.{_≡_}
 use Prim.Native.Nat.{ℕ, _+_}
 use lib.ListN.{take, drop, replicate}
 use Rattle.octets.specs.declared.error.Error.the-variants.{Eof, InvalidLength, WrongMode, EmptyMap, OutOfRange}
-use Rattle.channels.specs.declared.phy.AdvertisingChannel.the-variants.{Channel38, Channel39}
+use Rattle.channels.specs.declared.phy.AdvertisingChannel.the-variants.{Channel37, Channel38, Channel39}
 use Rattle.addresses.specs.Address.{addressOf}
 use Rattle.addresses.specs.Header.{headerOf}
 use Rattle.addresses.specs.declared.device_address.AddressKind.the-variants.{Public, Random}
@@ -246,3 +249,62 @@ pub record Limits : Type 0 where
       ∷ []
   pub longest : map (λ (e : Entry). drop 1 (e .octets)) (take 1 (drop 18 limitsTrace))
       ≡ ((0x01 ∷ 0x02 ∷ 0x03 ∷ 0x04 ∷ 0x05 ∷ 0x06 ∷ 0x1E ∷ 0xFF ∷ replicate 29 0x2A) ∷ []) ∷ []
+
+-- the connect request with the CRC start 923456
+abbrev pub highRequest : Call
+highRequest = packet (instant 1000) (headerOf 0x2205) (take 16 request ++ (0x56 ∷ 0x34 ∷ 0x92 ∷ []) ++ drop 19 request) true []
+
+abbrev pub longTrace : List Entry
+longTrace =
+    trace board (
+    -- a start and five ticks: twice round
+    start (instant 0) 100 [] (replicate 9 0)
+    ∷ (replicate 5 (tick (replicate 9 0))
+    -- while advertising: no event; a start begins anew, and one that is refused does not
+    ++ (event
+    ∷ start (instant 7) 50 [] (replicate 9 0)
+    ∷ start (instant 9) 60 [] (replicate 8 0)
+    ∷ tick (replicate 9 0)
+    -- more than the 37 events of a cycle
+    ∷ highRequest
+    ∷ (replicate 39 event
+    -- a stop while connected; then neither an event nor a tick, with room and without
+    ++ (stop
+    ∷ event
+    ∷ tick (replicate 9 0)
+    ∷ tick []
+    ∷ stop
+    -- a stop while advertising
+    ∷ start (instant 0) 100 [] (replicate 9 0)
+    ∷ stop
+    ∷ tick []
+    ∷ []))))
+    )
+
+pub record Long : Type 0 where
+  pub before : map (λ (e : Entry). e .result .answer) (take 10 longTrace)
+      ≡ Sent (headerOf 0x0900) Channel38 (instant 100)
+      ∷ Sent (headerOf 0x0900) Channel39 (instant 200)
+      ∷ Sent (headerOf 0x0900) Channel37 (instant 300)
+      ∷ Sent (headerOf 0x0900) Channel38 (instant 400)
+      ∷ Sent (headerOf 0x0900) Channel39 (instant 500)
+      ∷ Sent (headerOf 0x0900) Channel37 (instant 600)
+      ∷ Refused WrongMode
+      ∷ Sent (headerOf 0x0900) Channel38 (instant 57)
+      ∷ Refused Eof
+      ∷ Sent (headerOf 0x0900) Channel39 (instant 107)
+      ∷ []
+  pub first : map (λ (e : Entry). e .result .answer) (take 1 (drop 10 longTrace)) ≡ FirstEvent (record { index = 3 }) (instant 9000) 0x8E89BED6 0x923456 ∷ []
+  -- the channels of the 40 events; the last three begin the cycle anew
+  pub events : channelsBy eventOn (take 40 (drop 10 longTrace))
+      ≡ 3 ∷ 1 ∷ 3 ∷ 1 ∷ 3 ∷ 1 ∷ 3 ∷ 3 ∷ 1 ∷ 3 ∷ 1 ∷ 3 ∷ 1 ∷ 3 ∷ 1 ∷ 1 ∷ 3 ∷ 1 ∷ 3 ∷ 1 ∷ 3 ∷ 1 ∷ 1 ∷ 3 ∷ 1 ∷ 3 ∷ 1 ∷ 3 ∷ 1 ∷ 1 ∷ 3 ∷ 1 ∷ 3 ∷ 1 ∷ 3 ∷ 1 ∷ 1 ∷ 3 ∷ 1 ∷ 3 ∷ []
+  pub after : map (λ (e : Entry). e .result .answer) (drop 50 longTrace)
+      ≡ Stopped
+      ∷ Refused WrongMode
+      ∷ Refused WrongMode
+      ∷ Refused WrongMode
+      ∷ Stopped
+      ∷ Sent (headerOf 0x0900) Channel38 (instant 100)
+      ∷ Stopped
+      ∷ Refused WrongMode
+      ∷ []

@@ -1,3 +1,4 @@
+pub mod Answering
 pub mod Call
 pub mod Calls
 pub mod Demand
