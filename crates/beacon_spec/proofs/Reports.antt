@@ -1,5 +1,5 @@
--- A scanner reports a packet exactly if all checks pass: `reports`. Assumes nothing.
-use mathlib.Core.Bool.{Bool, true, false, cond, _&&_}
+-- A scanner reports a packet exactly if all checks pass: `reports`; what a report says: `report-says`. Assumes nothing.
+use mathlib.Core.Bool.{Bool, true, false, cond, _&&_, false≢true}
 use mathlib.Core.List.{List}
 use mathlib.Core.Logic.{inl, inr}
 use mathlib.Core.Path.{_≡_, refl, sym, ap, _∙_}
@@ -10,6 +10,7 @@ use lib.ListN.{length, getD, take, drop}
 use lib.Seq.{take-length}
 use borrow.Author.Tests.{eq-eqb, eqb-true, le-ltb}
 use Rattle.octets.proofs.Places.{both-true, enough}
+use Rattle.octets.specs.declared.error.Error.{Error}
 use Rattle.octets.specs.declared.error.Error.the-variants.{InvalidValue}
 use Rattle.records_spec.specs.HubReading.{readPadded}
 use Rattle.records_spec.specs.declared.area.PaddedArea.{PaddedArea}
@@ -36,9 +37,10 @@ use Rattle.octets.specs.declared.error.Outcome.the-variants as outcome
 use Rattle.advertising.specs.declared.pdu.Padded.{Padded}
 use Rattle.advertising.specs.declared.pdu.Pdu.{Pdu}
 use Rattle.beacon_spec.specs.Laws as laws
-use Rattle.beacon_spec.specs.Laws.{Lets, ScannerChecks, Reports, Located, BadList, Unfiltered}
-use Rattle.beacon_spec.specs.Scanner.{openScanner, isListFor, isPass, passes, isType2, isBeaconPacket, reportOf, unreported, unfiltered, scanned, reportNumber}
+use Rattle.beacon_spec.specs.Laws.{Lets, ScannerChecks, Reports, Located, BadList, Unfiltered, ReportSays}
+use Rattle.beacon_spec.specs.Scanner.{openScanner, isListFor, isPass, passes, isType2, isBeaconPacket, reportOf, unreported, unfiltered, scanned, reportNumber, isReport}
 use Rattle.beacon_spec.specs.State.{BeaconScanner, Scanned}
+use Rattle.beacon_spec.specs.declared.beacon.Report.{Report}
 use Rattle.beacon_spec.specs.declared.beacon.Report.the-variants as report
 use Rattle.beacon_spec.proofs.Filtering.{matches-is, told}
 
@@ -253,3 +255,16 @@ located s h p crcOk list =
           let allows : allowsAdvData (typeOf h) ≡ true = ap allowsAdvData (type-is (bits 0 4 h) (c .type-2)) in
           ap (λ (x : Scanned). dataPlace (x .«adv_data») p) (complete s h (now p) crcOk list c) ∙ record-area-heard h p .place allows (c .decoding);
     }
+
+pub report-says : (r : Report) → ReportSays r
+report-says r = record { reported = reported r; reported-if = ap isReport; refused = λ e is. ap reportNumber is; accepted = accepted r }
+  where
+    reported : (x : Report) → isReport x ≡ true → x ≡ report.Beacon
+    reported report.Beacon is = refl
+    reported report.Nothing is = absurd (false≢true is)
+    reported (report.Refused e) is = absurd (false≢true is)
+
+    accepted : (x : Report) → ((e : Error) → x ≡ report.Refused e → ⊥) → reportNumber x ≡ 0
+    accepted report.Beacon none-refused = refl
+    accepted report.Nothing none-refused = refl
+    accepted (report.Refused e) none-refused = absurd (none-refused e refl)

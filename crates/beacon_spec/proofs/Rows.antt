@@ -32,5 +32,8 @@ examples =
       reported = refl;
       channels = refl;
       unconfigured = refl;
+      with-list = refl;
+      list-channels = refl;
+      list-unconfigured = refl;
       instants = refl;
     }

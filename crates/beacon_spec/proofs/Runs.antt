@@ -1,8 +1,9 @@
--- A run of a scanner's calls follows the cycle from 37 on: `scanning`. Assumes nothing.
+-- A run of a scanner's calls follows the cycle from 37 on: `scanning`; and so does a new scanner: `new-scanner`. Assumes nothing.
 use mathlib.Core.Bool.{Bool, true, false, cond, _&&_}
 use mathlib.Core.List.{List}
 use mathlib.Core.Path.{_≡_, refl, ap, _∙_}
 use Prim.Native.Nat.{ℕ, zero, suc, _+_}
+use native.Mathlib.Omega.{arith}
 use lib.Dec.{eqb}
 use Rattle.octets.specs.Time.{later}
 use Rattle.octets.specs.declared.error.Error.the-variants.{InvalidValue}
@@ -12,10 +13,11 @@ use Rattle.channels.specs.Phy.{indexOf, firstChannel}
 use Rattle.channels.specs.declared.phy.AdvertisingChannel.{AdvertisingChannel}
 use Rattle.channels.proofs.Counting.{count-ext}
 use Rattle.channels.proofs.Cycles.{once-each, cycles-add}
+use Rattle.addresses.specs.declared.filter.AddressFilter.{AddressFilter}
 use Rattle.addresses.specs.declared.header.Header.{Header}
 use Rattle.advertising.specs.Pdu.{heardOf, paddedOf}
-use Rattle.beacon_spec.specs.Laws.{run, Scanning}
-use Rattle.beacon_spec.specs.Scanner.{timerUpdated, isListFor, passes, isBeaconPacket, reportOf, unreported, scanned}
+use Rattle.beacon_spec.specs.Laws.{run, NewScanner, Scanning}
+use Rattle.beacon_spec.specs.Scanner.{scannerOf, timerUpdated, isListFor, passes, isBeaconPacket, reportOf, unreported, scanned}
 use Rattle.beacon_spec.specs.State.{BeaconScanner}
 use Rattle.beacon_spec.specs.declared.beacon.Report.the-variants as report
 
@@ -30,6 +32,15 @@ channel-kept s h p crcOk list = go (isListFor (s .filter .scan) list) (isBeaconP
     go true true = refl
     go true false = refl
     go false t = refl
+
+pub new-scanner : (f : AddressFilter) → NewScanner f
+new-scanner f =
+    record {
+      filter = refl;
+      packet = λ h p crcOk list. channel-kept (scannerOf f) h p crcOk list;
+      channel = λ t. refl;
+      instant = λ t small. omega arith;
+    }
 
 module _ (s : BeaconScanner) (interval : ℕ) (times : ℕ → Instant) where
   -- the scanner after call k, and that it listens on its channel for its interval

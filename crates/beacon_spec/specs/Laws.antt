@@ -5,6 +5,8 @@
 --   Located s h p crcOk list             (Reports.located)          where a reported beacon's records lie
 --   BadList s h p crcOk list             (Reports.bad-list)         which filter lists are refused
 --   Unfiltered h p crcOk list            (Reports.without-filter)   what a scanner without a filter reports
+--   ReportSays r                         (Reports.report-says)      the number of any report, and whether it is one
+--   NewScanner f                         (Runs.new-scanner)         a scanner with any filter, before it is configured
 --   run s interval times k               == what call k of a run answers: call 0 configures the scanner, the others are timer updates
 --   Scanning s interval times k          (Runs.scanning)            the channels and instants of a run of calls
 --   Sends b tx                           (Broadcasts.sends)         what is transmitted and written
@@ -18,11 +20,12 @@
 use mathlib.Core.Bool.{Bool, true, false, cond}
 use mathlib.Core.List.{List, [], _∷_, _++_, map}
 use mathlib.Core.Path.{_≡_}
-use Prim.Native.Nat.{ℕ, zero, suc, _+_, _-_, _*_, _/_, _%_, _≤_, _<_}
+use Prim.Native.Nat.{ℕ, zero, suc, _+_, _-_, _*_, _/_, _%_, _^_, _≤_, _<_}
 use lib.Dec.{eqb}
 use lib.ListN.{length, getD, take, drop, replicate}
 use denote.Ref.{RefT, now}
 use Rattle.octets.specs.Bytes.{le, atFront}
+use Rattle.octets.specs.Error.{numberOf}
 use Rattle.octets.specs.Time.{later}
 use Rattle.octets.specs.declared.error.Error.{Error}
 use Rattle.octets.specs.declared.error.Error.the-variants.{Eof, InvalidValue}
@@ -123,6 +126,21 @@ unfoldable pub run : BeaconScanner → ℕ → (ℕ → Instant) → ℕ → Upd
 run s interval times zero = configured s (times 0) interval
 run s interval times (suc k) = timerUpdated (run s interval times k .scanner) (times (suc k))
 
+-- A beacon is reported, or there is a refusal with its number, or neither.
+pub record ReportSays (r : Report) : Type 0 where
+  pub reported : isReport r ≡ true → r ≡ report.Beacon
+  pub reported-if : r ≡ report.Beacon → isReport r ≡ true
+  pub refused : (e : Error) → r ≡ report.Refused e → reportNumber r ≡ numberOf e
+  pub accepted : ((e : Error) → r ≡ report.Refused e → ⊥) → reportNumber r ≡ 0
+
+-- "The first advertising channel is 37 for every user of the code": a new scanner listens there, whatever its filter. It has no interval before it is configured, so
+-- that an update then names the next channel and the very instant that it was given.
+pub record NewScanner (f : AddressFilter) : Type 0 where
+  pub filter : scannerOf f .filter .scan ≡ f
+  pub packet : (h : Header) (p : List ℕ) (crcOk : Bool) (list : List ℕ) → scanned (scannerOf f) h p crcOk list .channel ≡ Channel37
+  pub channel : (t : Instant) → timerUpdated (scannerOf f) t .cmd .channel ≡ Channel38
+  pub instant : (t : ℕ) → t < 2 ^ 32 → timerUpdated (scannerOf f) (record { 0 = t }) .cmd .«next_update» .0 ≡ t
+
 -- Scanning starts on 37 and follows the cycle; each call's next instant is its own time and the interval.
 pub record Scanning (s : BeaconScanner) (interval : ℕ) (times : ℕ → Instant) (k : ℕ) : Type 0 where
   pub listens : run s interval times k .cmd .channel ≡ cycles k firstChannel
@@ -222,4 +240,8 @@ pub record Examples : Type 0 where
   -- the first calls of a run, and an update before it; instants are counted modulo 2^32, here from 2^32 - 500 on
   pub channels : map (λ (k : ℕ). indexOf (run openScanner 1000 (λ j. record { 0 = 0 }) k .cmd .channel)) (0 ∷ 1 ∷ 2 ∷ 3 ∷ []) ≡ 37 ∷ 38 ∷ 39 ∷ 37 ∷ []
   pub unconfigured : timerUpdated openScanner (record { 0 = 77 }) .cmd ≡ record { channel = Channel38; «next_update» = record { 0 = 77 } }
+  -- the same with a filter list: a new scanner, a run from it, and an update before that
+  pub with-list : map (λ (f : AddressFilter). indexOf (scanned (scannerOf f) (headerOf 0x0942) nine true senderEntry .channel)) (AllowAll ∷ Whitelist ∷ []) ≡ 37 ∷ 37 ∷ []
+  pub list-channels : map (λ (k : ℕ). indexOf (run (scannerOf Whitelist) 1000 (λ j. record { 0 = 0 }) k .cmd .channel)) (0 ∷ 1 ∷ 2 ∷ 3 ∷ []) ≡ 37 ∷ 38 ∷ 39 ∷ 37 ∷ []
+  pub list-unconfigured : timerUpdated (scannerOf Whitelist) (record { 0 = 77 }) .cmd ≡ record { channel = Channel38; «next_update» = record { 0 = 77 } }
   pub instants : map (λ (k : ℕ). run openScanner 1000 (λ j. record { 0 = 4294966796 + 100 * j }) k .cmd .«next_update» .0) (0 ∷ 1 ∷ []) ≡ 500 ∷ 600 ∷ []
