@@ -8,20 +8,24 @@ use lib.Bits.{bitXor, xor-zero-l}
 use lib.ListN.{length, getD, take, drop, replicate}
 use Rattle.channels.specs.Count.{count}
 use Rattle.whitening.specs.Bits.{bits, number, octetsInBits, added}
+use Rattle.whitening.specs.Kept.{keptCycle, keptPlaces}
 use Rattle.whitening.specs.Whitening.{leaving, whitening, plus, whitened}
 use Rattle.whitening.proofs.Values.{values, values-all, values-small}
-use Rattle.whitening.proofs.Octets.{cycle, places}
+use Rattle.whitening.proofs.Octets.{cycle, cycle-is}
 
 abbrev pub placeOf : ℕ → ℕ
-placeOf channel = getD places channel 0
+placeOf channel = getD keptPlaces channel 0
 
-pub part-is : (channel : ℕ) → channel < 40 → take 42 (drop (placeOf channel) cycle) ≡ whitening channel
-unfolding cycle places values whitening leaving bits number octetsInBits added xor
-part-is = values-all (λ (c : ℕ). take 42 (drop (placeOf c) cycle)) whitening 40 refl
+code-part-is : (channel : ℕ) → channel < 40 → take 42 (drop (placeOf channel) cycle) ≡ whitening channel
+unfolding cycle keptPlaces values whitening leaving bits number octetsInBits added xor
+code-part-is = values-all (λ (c : ℕ). take 42 (drop (placeOf c) cycle)) whitening 40 refl
+
+pub part-is : (channel : ℕ) → channel < 40 → take 42 (drop (placeOf channel) keptCycle) ≡ whitening channel
+part-is channel h = rw (← cycle-is) (code-part-is channel h)
 
 -- none is cut
 pub place-small : (channel : ℕ) → channel < 40 → placeOf channel < 113
-unfolding places count
+unfolding keptPlaces count
 place-small = values-small placeOf 113 40 refl
 
 pub octetsOf-length : (n : ℕ) (bs : List Bool) → length (octetsInBits n bs) ≡ n
@@ -48,7 +52,7 @@ plus-zeros (suc n) [] e = absurd (omega arith)
 plus-zeros (suc n) (y ∷ octets) e = ap₂ _∷_ (xor-zero-l y) (plus-zeros n octets (omega arith))
 
 -- a part of the cycle is a channel's
-pub row-is : (channel : ℕ) → channel ≤ 39 → plus (replicate 42 0) (take (placeOf channel + 42 - placeOf channel) (drop (placeOf channel) cycle)) ≡ whitening channel
+pub row-is : (channel : ℕ) → channel ≤ 39 → plus (replicate 42 0) (take (placeOf channel + 42 - placeOf channel) (drop (placeOf channel) keptCycle)) ≡ whitening channel
 row-is channel h =
     let e : placeOf channel + 42 - placeOf channel ≡ 42 = omega arith in
     rw (e, part-is channel (omega arith)) (plus-zeros 42 (whitening channel) (whitening-length channel))

@@ -2,8 +2,8 @@
 use crate::crc::CRC_PRESET;
 use crate::crc::after_octets;
 use crate::crc::register_at;
-use crate::table::CYCLE;
-use crate::table::PLACES;
+use crate::table::cycle;
+use crate::table::places;
 use octets::error::Error;
 use octets::error::Outcome;
 ghost use mathlib.Core.Path.{_≡_};
@@ -51,15 +51,17 @@ fn add(packet: &mut [u8], octets: &[u8])
     }
 }
 
-// The whitening octets of a channel. The cycle is laid out wherever it is named, so it is named here alone.
+// The whitening octets of a channel.
 fn whitening_octets(channel: u8) -> [u8; 42]
     requires { ⌜ channel ≤ 39 ⌝ }
     ensures { λ r. ⌜ r ≡ whitening channel ⌝ }
 {
-    let from = PLACES[channel as usize] as usize;
+    let begin = places();
+    let from = begin[channel as usize] as usize;
     let to = from + 42;
+    let round = cycle();
     let mut octets = [0u8; 42];
-    add(&mut octets, &CYCLE[from..to]);
+    add(&mut octets, &round[from..to]);
     octets
 }
 
