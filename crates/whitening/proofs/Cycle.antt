@@ -1,8 +1,4 @@
--- All channels follow one cycle of 127 bits from different places (document 02, Note 5): `OneCycle`, proved as `one-cycle`. It speaks of the definitions alone, and knows nothing of the code. Assumes nothing.
---
---   cycle           == the 127 bits, from where channel 0 begins
---   Follows channel == a place from which the bits that leave the channel's register are the cycle's, round and round
---   OneCycle        == every channel has such a place, one only, and no two have the same
+-- All channels follow one cycle of 127 bits from different places: `one-cycle`. It speaks of the definitions alone, and knows nothing of the code. Assumes nothing.
 use mathlib.Core.Path.{_≡_, refl, sym, ap, ap₂, _∙_}
 use mathlib.Core.Bool.{Bool, true, false, xor}
 use mathlib.Core.List.{List, [], _∷_, _++_}
@@ -15,31 +11,13 @@ use lib.ListN.{length, getD, replicate}
 use lib.Seq.{ext-getD}
 use Rattle.channels.specs.Count.{bit, count}
 use Rattle.whitening.specs.Bits.{bits, number, added, shifted}
+use Rattle.whitening.specs.Kept.{period, cycleBits, Follows, OneCycle}
 use Rattle.whitening.specs.Laws.{sum}
 use Rattle.whitening.specs.Whitening.{whiteningTaps, registerOn, leaving}
 use Rattle.whitening.proofs.Values.{values, values-all, values-small}
 use Rattle.whitening.proofs.Recurring.{recurs}
 use Rattle.whitening.proofs.Starts.{starts}
 use Rattle.whitening.proofs.Twice.{leaving-on}
-
-abbrev pub period : ℕ
-period = 127
-
-abbrev pub cycle : List Bool
-cycle = leaving period (registerOn 0)
-
--- of any number of bits, the 336 of a packet among them
-pub record Follows (channel : ℕ) : Type 0 where
-  pub place : ℕ
-  pub within : place < period
-  pub bit : (n i : ℕ) → i < n → getD (leaving n (registerOn channel)) i false ≡ getD cycle ((place + i) % period) false
-
-pub record OneCycle : Type 0 where
-  pub size : length cycle ≡ 127
-  pub follows : (channel : ℕ) → channel ≤ 39 → Follows channel
-  pub different : (c d : ℕ) → c ≤ 39 → d ≤ 39 → (f : Follows c) (g : Follows d) → f .place ≡ g .place → c ≡ d
-  -- one only, so that no shorter cycle would do
-  pub alone : (c : ℕ) (f g : Follows c) → f .place ≡ g .place
 
 -- ---- the register after n shifts. What leaves is looked at in each, which makes the tests below quick.
 
@@ -144,7 +122,7 @@ different c d h l f g e = omega (arith, starts .number-is c, starts .number-is d
     leave n =
         ext-getD false (leaving n (registerOn c)) (leaving n (registerOn d)) (leaving-on n c ∙ sym (leaving-on n d)) (λ i b.
         let inside : i < n = omega (arith, leaving-on n c) in
-        f .bit n i inside ∙ ap (λ (p : ℕ). getD cycle ((p + i) % period) false) e ∙ sym (g .bit n i inside))
+        f .bit n i inside ∙ ap (λ (p : ℕ). getD cycleBits ((p + i) % period) false) e ∙ sym (g .bit n i inside))
 
     registers : registerOn c ≡ registerOn d
     registers =
@@ -155,7 +133,7 @@ different c d h l f g e = omega (arith, starts .number-is c, starts .number-is d
 -- ---- one place. Of two, the cycle would be the same as many bits later as they are apart; 127 being a prime, also one bit later, and all its bits would be alike.
 
 abbrev at : ℕ → Bool
-at i = getD cycle (i % period) false
+at i = getD cycleBits (i % period) false
 
 -- suc k bits later, suc k ^ 125 times, is one bit later
 inverse : (k : ℕ) → k < 126 → suc k ^ 125 * suc k % period ≡ 1
@@ -182,7 +160,7 @@ not-two c f g k apart =
     let one : suc k ^ 125 * suc k % period ≡ 1 = inverse k (omega (arith, g .within)) in
     let next : (x : ℕ) → f .place ≤ x → at x ≡ at (x + 1) = λ x h.
     let e : (x + suc k ^ 125 * suc k) % period ≡ (x + 1) % period = omega arith in
-    often c f g (suc k) apart (suc k ^ 125) x h ∙ ap (λ (i : ℕ). getD cycle i false) e in
+    often c f g (suc k) apart (suc k ^ 125) x h ∙ ap (λ (i : ℕ). getD cycleBits i false) e in
     let from : f .place ≤ 127 = omega (arith, f .within) in
     let alike : at 127 ≡ at 133 =
     next 127 from ∙ next 128 (omega arith) ∙ next 129 (omega arith) ∙ next 130 (omega arith) ∙ next 131 (omega arith) ∙ next 132 (omega arith) in
