@@ -6,6 +6,7 @@
 --   digit b                           == 1 where b is true, otherwise 0
 --   withBits l g n c h above          == the octet whose bits 0 to 4 are these, and `above` those above them
 --   Queries l g n c h above           (Bits.queries)     each query of it answers by its own bit, whatever the others are
+--   Holds                             (Holding.holds)    both laws, of every octet
 use mathlib.Core.Path.{_≡_}
 use mathlib.Core.Bool.{Bool, cond, not}
 use Prim.Native.Nat.{ℕ, _+_, _*_, _/_, _%_, _^_, _<_, _≤_}
@@ -60,3 +61,8 @@ pub record Queries (l g n c h : Bool) (above : ℕ) : Type 0 where
   pub controller : bothByController (withBits l g n c h above) ≡ c
   pub host : bothByHost (withBits l g n c h above) ≡ h
   pub kept : named (withBits l g n c h above) ≡ withBits l g n c h 0
+
+-- Both laws, with what they assume.
+pub record Holds : Type 0 where
+  pub named-bits : (x : ℕ) → NamedBits x
+  pub queries : (l g n c h : Bool) (above : ℕ) → Queries l g n c h above
