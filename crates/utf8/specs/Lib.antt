@@ -1,3 +1,4 @@
 pub mod Utf8
 pub mod Encoding
 pub mod Examples
+pub mod Holds
