@@ -1,2 +1,3 @@
 pub mod Item
 pub mod Examples
+pub mod Holds
