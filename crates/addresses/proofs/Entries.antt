@@ -1,6 +1,7 @@
 -- What it means that some number passes a test, that a whitelist matches, and which filter a request is held to. Assumes nothing.
 use mathlib.Core.Bool.{Bool, true, false, cond, not, _||_, or-false, or-true}
 use mathlib.Core.List.{List, _∷_}
+use mathlib.Core.Logic.{inl, inr}
 use mathlib.Core.Path.{_≡_, refl, sym, ap, _∙_}
 use Prim.Native.Nat.{ℕ, zero, suc, _+_, _*_, _/_, _%_, _≤_, _<_}
 use native.Mathlib.Omega.{arith}
@@ -11,10 +12,11 @@ use Rattle.octets.proofs.Places.{both-true, front}
 use Rattle.octets.specs.Bytes.{part}
 use Rattle.octets.specs.declared.error.Error.the-variants.{InvalidValue}
 use Rattle.addresses.specs.Address.{kindNumber, kindOf}
-use Rattle.addresses.specs.Filter.{any, entryAt, badKind, entryIs, isList, whitelisted}
-use Rattle.addresses.specs.Laws.{ListEntry, Listed, Policies}
+use Rattle.addresses.specs.Filter.{any, entryAt, badKind, entryIs, isList, whitelisted, matchesOf}
+use Rattle.addresses.specs.Laws.{ListEntry, Listed, HeldTo, Policies}
 use Rattle.addresses.specs.declared.device_address.DeviceAddress.{DeviceAddress}
 use Rattle.addresses.specs.declared.filter.AddressFilter.{AddressFilter}
+use Rattle.addresses.specs.declared.filter.AddressFilter.the-variants.{AllowAll, Whitelist}
 use Rattle.addresses.specs.declared.filter.Matches.the-variants.{Is, Refused}
 use Rattle.addresses.proofs.Addresses.{equality, one-kind}
 
@@ -133,5 +135,26 @@ listed list a =
         let z : _≡_ {A = ℕ} 0 1 = cc in
         absurd (omega arith)
 
+two-filters : AllowAll ≡ Whitelist → ⊥
+two-filters e = let z : _≡_ {A = ℕ} 0 1 = cc in omega arith
+
 pub policies : (scan connect : AddressFilter) (list : List ℕ) (a : DeviceAddress) → Policies scan connect list a
-policies scan connect list a = record { scans = refl; connects = refl; scanner = refl }
+policies scan connect list a = record { scans = held scan; scans-alone = λ other. refl; connects = held connect; connects-alone = λ other. refl; scanner = held scan }
+  where
+    held : (f : AddressFilter) → HeldTo f list a (matchesOf f list a)
+    held AllowAll =
+        record {
+          passes = λ is. inl refl;
+          all = λ f. refl;
+          entry = λ f good e. refl;
+          no-entry = λ f. absurd (two-filters f);
+          refused = λ f. absurd (two-filters f);
+        }
+    held Whitelist =
+        record {
+          passes = λ is. inr (listed list a .sound is);
+          all = λ f. absurd (two-filters (sym f));
+          entry = λ f. listed list a .complete;
+          no-entry = λ f. listed list a .other;
+          refused = λ f. listed list a .refused;
+        }

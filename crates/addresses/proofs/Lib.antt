@@ -3,3 +3,4 @@ pub mod Boxes
 pub mod Entries
 pub mod Examples
 pub mod Headers
+pub mod Holding

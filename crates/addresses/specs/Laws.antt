@@ -2,7 +2,8 @@
 --   Equality a b                    (Addresses.equality)  the test of two addresses
 --   ListEntry list a                == an entry of the list that is the address a
 --   Listed list a                   (Entries.listed)      a whitelist, and no filter
---   Policies scan connect list a    (Entries.policies)    which filter each request is held to
+--   HeldTo f list a answer          == the answer that the filter f, with its list, has for the address a: let pass exactly if f accepts all or some entry is equal
+--   Policies scan connect list a    (Entries.policies)    which filter each request is held to, and that the other has no say
 --   boxes h                         == the boxes of the figure of a header, in order
 --   OwnBits h                       (Boxes.own-bits)      the setters of a header of 16 bits
 --   figure ty low tx rx n top       == the header that has these in the boxes of the figure
@@ -10,8 +11,10 @@
 --   HeaderReading s at              (Headers.reading)     two octets as a header; 4 and 1
 --   Codes                           (Boxes.codes)         the types of document 01 by their codes
 --   Types n                         (Boxes.types)         which codes are beacons and which have records
+--   Holds                           (Holding.holds)       all of these, with what they assume, and worked values
 use mathlib.Core.Bool.{Bool, true, false, cond, _||_}
 use mathlib.Core.List.{List, [], _∷_}
+use mathlib.Core.Logic.{_⊎_}
 use mathlib.Core.Path.{_≡_}
 use Prim.Native.Nat.{ℕ, _+_, _*_, _/_, _%_, _≤_, _<_, _^_}
 use lib.Dec.{eqb}
@@ -19,11 +22,13 @@ use lib.ListN.{length, getD, set}
 use Rattle.octets.specs.Bytes.{part}
 use Rattle.octets.specs.declared.error.Error.the-variants.{Eof, InvalidValue, ShortHeader, PayloadLength}
 use Rattle.addresses.specs.Address.{kindNumber, sameAddress}
+use Rattle.addresses.specs.Examples.{Examples}
 use Rattle.addresses.specs.Filter.{isList, matchesOf, advFilterOf, mayScan, mayConnect, shouldScan}
 use Rattle.addresses.specs.Header.{headerOf, newHeader, headerOctets, typeCode, pduType, isBeacon, allowsAdvData, bits, typeOf, txAdd, rxAdd, lengthOf, setTxAdd, setRxAdd, setLength, parsed, headerAt, lengthSet}
 use Rattle.addresses.specs.declared.device_address.DeviceAddress.{DeviceAddress}
 use Rattle.addresses.specs.declared.filter.AddressFilter.{AddressFilter}
 use Rattle.addresses.specs.declared.filter.AddressFilter.the-variants.{AllowAll, Whitelist}
+use Rattle.addresses.specs.declared.filter.Matches.{Matches}
 use Rattle.addresses.specs.declared.filter.Matches.the-variants.{Is, Refused}
 use Rattle.addresses.specs.declared.header.Header.{Header}
 use Rattle.addresses.specs.declared.header.HeaderMade.the-variants as made
@@ -54,11 +59,21 @@ pub record Listed (list : List ℕ) (a : DeviceAddress) : Type 0 where
   -- "accept all", and whatever list is lent is not looked at
   pub all : matchesOf AllowAll list a ≡ Is true
 
--- Scan requests are held to the filter that was given for them, and connect requests to theirs.
+-- The answer of a filter with its list: the address is let pass exactly if the filter accepts all, or some entry of the list is equal; what is no list is 3.
+pub record HeldTo (f : AddressFilter) (list : List ℕ) (a : DeviceAddress) (answer : Matches) : Type 0 where
+  pub passes : answer ≡ Is true → (f ≡ AllowAll) ⊎ ListEntry list a
+  pub all : f ≡ AllowAll → answer ≡ Is true
+  pub entry : f ≡ Whitelist → isList list ≡ true → ListEntry list a → answer ≡ Is true
+  pub no-entry : f ≡ Whitelist → isList list ≡ true → (ListEntry list a → ⊥) → answer ≡ Is false
+  pub refused : f ≡ Whitelist → isList list ≡ false → answer ≡ Refused InvalidValue
+
+-- Scan requests are held to the filter that was given for them, and connect requests to theirs; neither to the other's, whichever that is.
 pub record Policies (scan connect : AddressFilter) (list : List ℕ) (a : DeviceAddress) : Type 0 where
-  pub scans : mayScan (advFilterOf scan connect) list a ≡ matchesOf scan list a
-  pub connects : mayConnect (advFilterOf scan connect) list a ≡ matchesOf connect list a
-  pub scanner : shouldScan (record { scan = scan }) list a ≡ matchesOf scan list a
+  pub scans : HeldTo scan list a (mayScan (advFilterOf scan connect) list a)
+  pub scans-alone : (other : AddressFilter) → mayScan (advFilterOf scan connect) list a ≡ mayScan (advFilterOf scan other) list a
+  pub connects : HeldTo connect list a (mayConnect (advFilterOf scan connect) list a)
+  pub connects-alone : (other : AddressFilter) → mayConnect (advFilterOf scan connect) list a ≡ mayConnect (advFilterOf other connect) list a
+  pub scanner : HeldTo scan list a (shouldScan (record { scan = scan }) list a)
 
 -- the boxes of a header's figure: type, reserved, TxAdd, RxAdd, length, reserved
 abbrev pub boxes : Header → List ℕ
@@ -118,3 +133,15 @@ pub record Types (n : ℕ) : Type 0 where
   pub has-records : allowsAdvData (pduType n) ≡ eqb n 0 || (eqb n 2 || (eqb n 4 || eqb n 6))
   pub no-name-no-beacon : isBeacon (Unknown n) ≡ false
   pub no-name-no-records : allowsAdvData (Unknown n) ≡ false
+
+-- All of these, with what they assume.
+pub record Holds : Type 0 where
+  pub equality : (a b : DeviceAddress) → Equality a b
+  pub listed : (list : List ℕ) (a : DeviceAddress) → Listed list a
+  pub policies : (scan connect : AddressFilter) (list : List ℕ) (a : DeviceAddress) → Policies scan connect list a
+  pub own-bits : (h : Header) → h .0 < 2 ^ 16 → OwnBits h
+  pub figures : (ty low n top : ℕ) (tx rx : Bool) → ty < 16 → low < 4 → n < 64 → HeaderFigure ty low tx rx n top
+  pub reading : (s : List ℕ) (at : ℕ) → HeaderReading s at
+  pub codes : Codes
+  pub types : (n : ℕ) → Types n
+  pub examples : Examples
