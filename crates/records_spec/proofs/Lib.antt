@@ -18,3 +18,4 @@ pub mod Outlines
 pub mod Examples
 pub mod Uuids
 pub mod Search
+pub mod Holding

@@ -14,3 +14,4 @@ pub mod RoundTrip
 pub mod ReadBack
 pub mod Examples
 pub mod Search
+pub mod Holds
