@@ -7,3 +7,4 @@ pub mod Figures
 pub mod Padded
 pub mod Refusals
 pub mod Table
+pub mod Holding

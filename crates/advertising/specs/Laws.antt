@@ -1,4 +1,5 @@
--- The laws of PDUs, each with the theorem of proofs/ that proves it; refusals are in specs/Refusals.antt, what each builder builds in specs/Builders.antt.
+-- The laws of PDUs, each with the theorem of proofs/ that proves it; refusals are in specs/Refusals.antt, what each builder builds in specs/Builders.antt. Holds: all
+-- of these, with what they assume, in specs/Holds.antt.
 --   Figure widths fields further p  == the payload p is these fields, of the widths of a figure, and further octets
 --   ShapedBy reading h p d          == the payload p has the figure of the type of the header h, and both say what d says; records are read by `reading`
 --   AcceptingBy reading decoder h p == a decoder accepts exactly what its header counts and is shaped by this reading, and answers what the shape says

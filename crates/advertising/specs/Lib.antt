@@ -5,3 +5,4 @@ pub mod Pdu
 pub mod PduBuf
 pub mod Refusals
 pub mod Table
+pub mod Holds

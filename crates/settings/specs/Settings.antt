@@ -1,5 +1,5 @@
 -- The settings of a connection and their ranges (document 02, Note 6; the Core, Vol 6 Part B), as the counts that a connect request has: window fields and
--- interval of 1,250 µs, the latency of events, the timeout of 10 ms. The theorems are those of proofs/Ranges.antt.
+-- interval of 1,250 µs, the latency of events, the timeout of 10 ms. The theorems are those of proofs/Ranges.antt and, of all, proofs/Holding.antt.
 --   Ranges ..                         == the ranges, as facts about hop, marked channels, interval, latency, timeout, window size and window offset
 --   between low x high                == x is from `low` to `high`
 --   timesInRange .., windowInRange .. == whether the ranges hold of interval, latency and timeout; of window size and window offset
@@ -22,6 +22,7 @@
 --   twoMarked, oneMarked, noneMarked  == maps of two channels, of one, and of none
 --   numberWith ..                     == the number that taking such LLData answers
 --   Limits                            (Ranges.limits)   worked values on both sides of each limit
+--   Holds                             (Holding.holds)   all of these, with what they assume
 use mathlib.Core.Bool.{Bool, true, cond, _&&_}
 use mathlib.Core.List.{List, [], _∷_, _++_, map}
 use mathlib.Core.Path.{_≡_}
@@ -208,3 +209,11 @@ pub record Limits : Type 0 where
       }
   pub not-taken : aloneOf (lldata 0x31 twoMarked 300 4 800 7 200) .settings
       ≡ record { hop = 5; chm = fromRaw (replicate 5 0xFF); interval = 6; latency = 0; timeout = 10; «win_size» = 1; «win_offset» = 0 }
+
+-- All of these, with what they assume.
+pub record Holds : Type 0 where
+  pub tests : Tests
+  pub in-time : InTime
+  pub settles : (p : List ℕ) → Settles p
+  pub alone : (o : List ℕ) → Alone o
+  pub limits : Limits
