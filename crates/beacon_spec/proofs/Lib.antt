@@ -3,3 +3,4 @@ pub mod Filtering
 pub mod Reports
 pub mod Rows
 pub mod Runs
+pub mod Holding

@@ -17,6 +17,7 @@
 --   listAnswer list                      == what a scanner with a filter answers to that row, with this list
 --   senderEntry, publicEntry, kind2Entry == entries of a list: the row's sender, it as a public address, and one of kind 2
 --   Examples                             (Rows.examples)            worked values
+--   Holds                                (Holding.holds)            all of these, with what they assume
 use mathlib.Core.Bool.{Bool, true, false, cond}
 use mathlib.Core.List.{List, [], _∷_, _++_, map}
 use mathlib.Core.Path.{_≡_}
@@ -245,3 +246,19 @@ pub record Examples : Type 0 where
   pub list-channels : map (λ (k : ℕ). indexOf (run (scannerOf Whitelist) 1000 (λ j. record { 0 = 0 }) k .cmd .channel)) (0 ∷ 1 ∷ 2 ∷ 3 ∷ []) ≡ 37 ∷ 38 ∷ 39 ∷ 37 ∷ []
   pub list-unconfigured : timerUpdated (scannerOf Whitelist) (record { 0 = 77 }) .cmd ≡ record { channel = Channel38; «next_update» = record { 0 = 77 } }
   pub instants : map (λ (k : ℕ). run openScanner 1000 (λ j. record { 0 = 4294966796 + 100 * j }) k .cmd .«next_update» .0) (0 ∷ 1 ∷ []) ≡ 500 ∷ 600 ∷ []
+
+-- All of these, with what they assume. An address has six octets: every `DeviceAddress` of the code has.
+pub record Holds : Type 0 where
+  pub reports : (s : BeaconScanner) (h : Header) (p : List ℕ) (crcOk : Bool) (list : List ℕ) → Reports s h p crcOk list
+  pub located : (s : BeaconScanner) (h : Header) (p : RefT (List ℕ)) (crcOk : Bool) (list : List ℕ) → Located s h p crcOk list
+  pub bad-list : (s : BeaconScanner) (h : Header) (p : List ℕ) (crcOk : Bool) (list : List ℕ) → BadList s h p crcOk list
+  pub without-filter : (h : Header) (p : List ℕ) (crcOk : Bool) (list : List ℕ) → Unfiltered h p crcOk list
+  pub report-says : (r : Report) → ReportSays r
+  pub new-scanner : (f : AddressFilter) → NewScanner f
+  pub scanning : (s : BeaconScanner) (interval : ℕ) (times : ℕ → Instant) (k : ℕ) → Scanning s interval times k
+  pub sends : (b : Beacon) (tx : List ℕ) → Sends b tx
+  pub no-beacon : (a : DeviceAddress) (s : List ℕ) → NoBeacon a s
+  pub broadcasting : (a : DeviceAddress) (s : List ℕ) (n : ℕ) → length (a .bytes) ≡ 6 → readArea s ≡ area.Accepted n → length s ≤ 31 → Broadcasting a s n
+  pub sendable : (a : DeviceAddress) (s : List ℕ) → Sendable a s
+  pub row : Row
+  pub examples : Examples

@@ -11,6 +11,7 @@
 --   RestPlaced s at      (Through.rest-placed)   the rest lies in the area, and ends where the area ends
 --   twoRows r            == document 01's rows `02 01 86` and `01 03`, one after the other, as an area
 --   Rows r               (Rows.rows)             what the iterator finds there
+--   Holds                (Holding.holds)         all of these, with what they assume
 use mathlib.Core.Path.{_≡_}
 use mathlib.Core.Bool.{true}
 use Prim.Native.Nat.{ℕ, zero, suc, _+_, _<_}
@@ -89,3 +90,9 @@ pub record Rows (r : RefT (List ℕ)) : Type 0 where
   pub list : nextAfter (twoRows r) 1 ≡ Record (ServiceUuids16 true 5 0) 5
   pub end : nextAfter (twoRows r) 2 ≡ End
   pub stays : nextAfter (twoRows r) 3 ≡ End
+
+-- All of these, with what they assume.
+pub record Holds : Type 0 where
+  pub goes-through : (area : RefT (List ℕ)) → GoesThrough area
+  pub rest-placed : (s : RefT (List ℕ)) (at : ℕ) → RestPlaced s at
+  pub rows : (r : RefT (List ℕ)) → Rows r
