@@ -2,7 +2,9 @@
 use Rattle.whitening.specs.Laws.{Holds}
 use Rattle.whitening.proofs.Dividing.{divides}
 use Rattle.whitening.proofs.Errors.{checks}
+use Rattle.whitening.proofs.Examples.{examples}
 use Rattle.whitening.proofs.Heard.{hears}
+use Rattle.whitening.proofs.Kept.{kept}
 use Rattle.whitening.proofs.Limits.{refusing, starting}
 use Rattle.whitening.proofs.Numbers.{numbers}
 use Rattle.whitening.proofs.Polynomials.{polynomials}
@@ -22,4 +24,6 @@ holds = record {
   refusing = refusing;
   starting = starting;
   hears = hears;
+  kept = kept;
+  examples = examples;
 }
