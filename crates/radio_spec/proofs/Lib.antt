@@ -7,3 +7,4 @@ pub mod Replies
 pub mod Runs
 pub mod Steps
 pub mod Words
+pub mod Holding

@@ -17,8 +17,12 @@ use Rattle.records_spec.proofs.RoundTrip.{round-trip}
 use Rattle.records_spec.specs.Area.{cut, reads, areaOf, readArea, rewritten}
 use Rattle.records_spec.specs.declared.area.Area.{Area}
 use Rattle.records_spec.specs.declared.area.Area.the-variants as area
-use Rattle.addresses.specs.Address.{kindNumber}
-use Rattle.addresses.specs.Header.{headerOf}
+use Rattle.addresses.proofs.Boxes.{bit-small, figures}
+use Rattle.addresses.specs.Address.{kindNumber, isRandom}
+use Rattle.addresses.specs.Header.{headerOf, txAdd, rxAdd, lengthOf}
+use Rattle.addresses.specs.Laws.{figure, HeaderFigure}
+use Rattle.addresses.specs.declared.device_address.AddressKind.{AddressKind}
+use Rattle.addresses.specs.declared.device_address.AddressKind.the-variants.{Public, Random}
 use Rattle.addresses.specs.declared.device_address.DeviceAddress.{DeviceAddress}
 use Rattle.addresses.specs.declared.header.PduType.{PduType}
 use Rattle.addresses.specs.declared.header.PduType.the-variants.{AdvInd, AdvDirectInd, AdvNonconnInd, AdvScanInd, ScanReq, ScanRsp, ConnectReq, Unknown}
@@ -59,13 +63,29 @@ module _ (own : DeviceAddress) (s : List ℕ) (six : length (own .bytes) ≡ 6) 
         payload = ap (λ (b : Built). payloadOf (b .pdu)) (back .built) ∙ (back .payload ∙ ap (λ (l : List ℕ). l ++ rewritten s) (append-nil (own .bytes)));
       }
 
+-- the header of a reply by the boxes of its figure
+kind-bit : (k : AddressKind) → kindNumber k ≡ cond (isRandom k) 1 0
+kind-bit Public = refl
+kind-bit Random = refl
+
+reply-figure : (own : DeviceAddress) (s : List ℕ) → replyHeader own s ≡ figure 4 0 (isRandom (own .kind)) false (6 + length s) 0
+reply-figure own s = ap headerOf (omega (arith, kind-bit (own .kind)))
+
 pub reply-decodes : (own : DeviceAddress) (s : List ℕ) (n : ℕ) → length (own .bytes) ≡ 6 → readArea s ≡ area.Accepted n → length s ≤ 31 → ReplyDecodes own s n
 reply-decodes own s n six good few =
     let back : ReadsBack ScanRsp own [] s n = building .adv ScanRsp own s n refl six good few in
     let made : ReplyOf own s (back .pdu) = rw (← ap (λ (b : Built). b .pdu) (back .built)) (built-reply own s six n good few) in
     let read : decodeOf (replyHeader own s) (replyOctets own s) ≡ decodeOf (back .pdu .header) (payloadOf (back .pdu)) = sym (λ i. decodeOf (made .header i) (made .payload i)) in
+    let boxes : HeaderFigure 4 0 (isRandom (own .kind)) false (6 + length s) 0 = figures 4 0 (6 + length s) 0 (isRandom (own .kind)) false (omega arith) (omega arith) (omega arith) in
+    let is = reply-figure own s in
+    let small : kindNumber (own .kind) ≤ 1 = omega (arith, kind-bit (own .kind), bit-small (isRandom (own .kind))) in
     record {
-      header = refl;
+      type-4 = omega arith;
+      tx-add = ap txAdd is ∙ boxes .tx-add;
+      rx-add = ap rxAdd is ∙ boxes .rx-add;
+      counted = ap lengthOf is ∙ boxes .payload-length;
+      reserved = (omega arith, omega arith);
+      of-16-bits = omega arith;
       decoded = ap (λ (x : Decoded). x .outcome) (read ∙ back .reads);
       type = ap (λ (x : Decoded). x .pdu .ty) (read ∙ back .reads);
       sender = ap (λ (x : Decoded). x .pdu .sender) (read ∙ back .reads);

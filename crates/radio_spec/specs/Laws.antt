@@ -8,16 +8,17 @@
 --   lentBy c                            == the octets of a call's lent buffers, as they were lent
 --   CallRefused d c e                   (Words.refusing)          a refused call changes nothing
 --   Transmits d tx                      (Words.transmits)         what an accepted start and tick write
---   ReplyDecodes own s n                (Replies.reply-decodes)   a reply by the Core: its header by numbers, and what it is read as
+--   ReplyDecodes own s n                (Replies.reply-decodes)   a reply by the Core: its header field by field, and what it is read as
 --   Bare own                            (Replies.bare)            a fresh device's reply has no scan data
 --   BadStart d time interval records tx (Words.bad-start)         a start with a bad area
 --   SetsScanData d                      (Replies.sets-scan-data)  which scan data are set, what that changes, and that no other call changes the reply
 --   HearsPacket d end h p crcGood tx    (Words.hears-packet)      what a packet call answers and writes
+--   Holds                               (Holding.holds)           all of these, with what they assume: demand 3, specs/Answering and specs/Examples too
 use mathlib.Core.Bool.{Bool, true, false}
 use mathlib.Core.List.{List, [], _∷_, _++_, map}
 use mathlib.Core.Logic.{_⊎_}
 use mathlib.Core.Path.{_≡_}
-use Prim.Native.Nat.{ℕ, _+_, _*_, _%_, _≤_, _<_}
+use Prim.Native.Nat.{ℕ, _+_, _*_, _%_, _≤_, _<_, _^_}
 use lib.ListN.{length, drop}
 use Rattle.octets.specs.Bytes.{part, le, atFront}
 use Rattle.octets.specs.Time.{later}
@@ -29,8 +30,8 @@ use Rattle.channels.specs.Map.{marks}
 use Rattle.records_spec.specs.Area.{readArea, rewritten}
 use Rattle.records_spec.specs.HubReads.{ZeroLength}
 use Rattle.records_spec.specs.declared.area.Area.the-variants as area
-use Rattle.addresses.specs.Address.{kindNumber, kindOf, addressOf}
-use Rattle.addresses.specs.Header.{bits, rxAdd}
+use Rattle.addresses.specs.Address.{isRandom, kindOf, addressOf}
+use Rattle.addresses.specs.Header.{bits, txAdd, rxAdd, lengthOf}
 use Rattle.addresses.specs.declared.device_address.DeviceAddress.{DeviceAddress}
 use Rattle.addresses.specs.declared.header.Header.{Header}
 use Rattle.addresses.specs.declared.header.PduType.the-variants.{ScanRsp}
@@ -38,8 +39,10 @@ use Rattle.advertising.specs.Pdu.{requestOf, decodeOf, wellFormed}
 use Rattle.advertising.specs.PduBuf.{flagsRecord, payloadOf}
 use Rattle.settings.specs.Settings.{Within, settingsIn}
 use Rattle.octets.specs.declared.error.Outcome.the-variants as outcome
+use Rattle.radio_spec.specs.Answering.{StartSends, TickSends, EventHops, ModeMoves}
+use Rattle.radio_spec.specs.Examples.{Example, TitleExample, Limits, Long}
 use Rattle.radio_spec.specs.Calls.{isAdvertising, isConnected, instant, fresh, packetOf, packetAfter}
-use Rattle.radio_spec.specs.Demand.{numberIn, replyHeader, replyOctets, ReplyOf}
+use Rattle.radio_spec.specs.Demand.{numberIn, replyHeader, replyOctets, ReplyOf, Demand3}
 use Rattle.radio_spec.specs.Call.{Call, start, tick, packet, event, stop, setScanData, callOf, octetsOf}
 use Rattle.radio_spec.specs.SoFar.{forBoard, asksToScan, mapIn, hopIn, connects, replySize}
 use Rattle.radio_spec.specs.Trace.{Strikable}
@@ -119,8 +122,13 @@ pub record Transmits (d : State) (tx : List ℕ) : Type 0 where
 
 -- What is answered and written is, by the Core, a SCAN_RSP of the address `own`, kind included, with the records of s, of which there are n.
 pub record ReplyDecodes (own : DeviceAddress) (s : List ℕ) (n : ℕ) : Type 0 where
-  -- the 16 bits of the header: type 4, TxAdd the kind, no RxAdd, no reserved bit, the length
-  pub header : replyHeader own s .0 ≡ 4 + 64 * kindNumber (own .kind) + 256 * (6 + length s)
+  -- the header, field by field: type 4, TxAdd the kind, no RxAdd, the length, no reserved bit; and it is of 16 bits
+  pub type-4 : bits 0 4 (replyHeader own s) ≡ 4
+  pub tx-add : txAdd (replyHeader own s) ≡ isRandom (own .kind)
+  pub rx-add : rxAdd (replyHeader own s) ≡ false
+  pub counted : lengthOf (replyHeader own s) ≡ 6 + length s
+  pub reserved : (bits 4 2 (replyHeader own s) ≡ 0) × (bits 14 2 (replyHeader own s) ≡ 0)
+  pub of-16-bits : replyHeader own s .0 < 2 ^ 16
   pub decoded : decodeOf (replyHeader own s) (replyOctets own s) .outcome ≡ outcome.Accepted
   pub type : decodeOf (replyHeader own s) (replyOctets own s) .pdu .ty ≡ ScanRsp
   pub sender : decodeOf (replyHeader own s) (replyOctets own s) .pdu .sender ≡ own
@@ -178,3 +186,24 @@ pub record HearsPacket (d : State) (end : Instant) (h : Header) (p : List ℕ) (
   pub outside : d .mode ≡ Advertising → crcGood ≡ true → ForBoard (d .«dev_addr») h p → bits 0 4 h ≡ 5 → 1 ≤ marks (part 5 p 28) → (Within (settingsIn (requestOf p)) → ⊥)
       → packetOf d end h p crcGood tx ≡ record { answer = Refused OutOfRange; state = d }
   pub unwritten : (Scans (d .«dev_addr») h p crcGood → ⊥) → packetAfter d h p crcGood tx ≡ tx
+
+-- All of these, with what they assume. An address has six octets: every `DeviceAddress` of the code has.
+pub record Holds : Type 0 where
+  pub demand-3 : (own : DeviceAddress) → length (own .bytes) ≡ 6 → (calls : List Call) → Demand3 own calls
+  pub words : (own : DeviceAddress) (h : Header) (p : List ℕ) → Words own h p
+  pub modes : (m : Mode) → Modes m
+  pub refusing : (d : State) (c : Call) (e : Error) → CallRefused d c e
+  pub transmits : (d : State) (tx : List ℕ) → Transmits d tx
+  pub reply-decodes : (own : DeviceAddress) (s : List ℕ) (n : ℕ) → length (own .bytes) ≡ 6 → readArea s ≡ area.Accepted n → length s ≤ 31 → ReplyDecodes own s n
+  pub bare : (own : DeviceAddress) → length (own .bytes) ≡ 6 → Bare own
+  pub bad-start : (d : State) (tx : List ℕ) (time : Instant) (interval : ℕ) (records : List ℕ) → BadStart d time interval records tx
+  pub sets-scan-data : (d : State) → SetsScanData d
+  pub hears-packet : (d : State) (end : Instant) (h : Header) (p : List ℕ) (crcGood : Bool) (tx : List ℕ) → HearsPacket d end h p crcGood tx
+  pub start-sends : (d : State) (time : Instant) (interval : ℕ) (records tx : List ℕ) (n : ℕ) → StartSends d time interval records tx n
+  pub tick-sends : (d : State) (tx : List ℕ) → TickSends d tx
+  pub event-hops : (d : State) → EventHops d
+  pub mode-moves : (d : State) (c : Call) → ModeMoves d c
+  pub example : Example
+  pub title-example : TitleExample
+  pub limits : Limits
+  pub long : Long
