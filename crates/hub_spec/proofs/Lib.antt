@@ -6,3 +6,4 @@ pub mod Reported
 pub mod Samples
 pub mod Ticks
 pub mod Examples
+pub mod Holding

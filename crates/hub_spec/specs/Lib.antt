@@ -5,3 +5,4 @@ pub mod Reported
 pub mod Sample
 pub mod Examples
 pub mod State
+pub mod Holds
