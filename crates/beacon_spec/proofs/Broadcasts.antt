@@ -40,7 +40,7 @@ use Rattle.beacon_spec.specs.Laws.{Sends, NoBeacon, Broadcasting, Sendab
 use Rattle.beacon_spec.specs.Scanner.{reportOf}
 use Rattle.beacon_spec.specs.Sending.{beaconOf}
 use Rattle.beacon_spec.specs.State.{Beacon, Made}
-use Rattle.beacon_spec.proofs.Reports.{Holds, same-type, holds-decoded, complete}
+use Rattle.beacon_spec.proofs.Reports.{Says, same-type, holds-decoded, complete}
 
 pub sends : (b : Beacon) (tx : List ℕ) → Sends b tx
 sends b tx =
@@ -113,7 +113,7 @@ sent a s n b =
     let p : List ℕ = payloadOf (b .beacon .pdu) in
     let type : typeOf h ≡ AdvNonconnInd = type-of h p a (b .place) (b .decoded) in
     let heard = alike h p .accepts (ap (λ (d : Decoded). d .outcome) (b .decoded)) ∙ b .decoded in
-    let its : Holds h p (heardOf h p .pdu) = holds-decoded h p type (ap (λ (d : Decoded). d .outcome) heard) in
+    let its : Says h p (heardOf h p .pdu) = holds-decoded h p type (ap (λ (d : Decoded). d .outcome) heard) in
     let is : Sent a (b .beacon) = record { type-2 = code-of h type; sender = sym (its .sender) ∙ ap (λ (d : Decoded). d .pdu .sender) heard } in
     subst (Sent a) (ap (λ (m : Made). m .beacon) (sym (b .made))) is
 

@@ -73,7 +73,7 @@ is-list : (list : List ℕ) → length list % 7 ≡ 0 → ((i : ℕ) → i < len
 is-list list size kinds = rw (eq-eqb (length list % 7) 0 size, none-bad list (length list / 7) kinds)
 
 -- what a PDU says of a payload that is an address and records
-pub record Holds (h : Header) (p : List ℕ) (d : Pdu) : Type 0 where
+pub record Says (h : Header) (p : List ℕ) (d : Pdu) : Type 0 where
   pub sender : d .sender ≡ addressOf (take 6 p) (kindOf (txAdd h))
   pub records : dataIn (d .«adv_data») p ≡ drop 6 p
   pub size : length p ≡ 6 + length (drop 6 p)
@@ -85,7 +85,7 @@ module _ (h : Header) (p : List ℕ) where
   same-type d (two-addresses ty first second further is which fig e) = is ∙ ap (λ (x : Decoded). x .pdu .ty) (sym e)
   same-type d (with-lldata initA advA aa crcInit winSize winOffset interval latency timeout chM hopSca further is fig e) = is ∙ ap (λ (x : Decoded). x .pdu .ty) (sym e)
 
-  holds : (d : Decoded) → typeOf h ≡ AdvNonconnInd → ShapedBy asHub h p d → Holds h p (d .pdu)
+  holds : (d : Decoded) → typeOf h ≡ AdvNonconnInd → ShapedBy asHub h p d → Says h p (d .pdu)
   holds d type-2 (with-records ty advA records n is allows fig good e) =
       let first : take 6 p ≡ advA = field-is fig 0 in
       let rest : drop 6 p ≡ records = behind fig in
@@ -99,7 +99,7 @@ module _ (h : Header) (p : List ℕ) where
   holds d type-2 (with-lldata initA advA aa crcInit winSize winOffset interval latency timeout chM hopSca further is fig e) =
       let z : _≡_ {A = ℕ} 0 1 = cc in absurd (omega arith)
 
-  pub holds-decoded : typeOf h ≡ AdvNonconnInd → heardOf h p .outcome ≡ outcome.Accepted → Holds h p (heardOf h p .pdu)
+  pub holds-decoded : typeOf h ≡ AdvNonconnInd → heardOf h p .outcome ≡ outcome.Accepted → Says h p (heardOf h p .pdu)
   holds-decoded type-2 ok = holds (heardOf h p) type-2 (accepting-heard h p .sound ok .1)
 
   -- what is heard of a beacon is what the hub reads after the address
@@ -175,7 +175,7 @@ module _ (s : BeaconScanner) (h : Header) (p : List ℕ) (crcOk : Bool) (list : 
 
   -- what is said of a reported packet
   module _ (e : scanned s h p crcOk list .report ≡ report.Beacon) where
-    its : Holds h p (heardOf h p .pdu)
+    its : Says h p (heardOf h p .pdu)
     its = holds-decoded h p (type-is (bits 0 4 h) (sound e .type-2)) (sound e .decoding)
 
     is : scanned s h p crcOk list ≡ reportOf (s .channel) (paddedOf h p)
