@@ -4,6 +4,7 @@ use Rattle.whitening.proofs.Dividing.{divides}
 use Rattle.whitening.proofs.Errors.{checks}
 use Rattle.whitening.proofs.Examples.{examples}
 use Rattle.whitening.proofs.Heard.{hears}
+use Rattle.whitening.proofs.Cycle.{one-cycle}
 use Rattle.whitening.proofs.Kept.{kept}
 use Rattle.whitening.proofs.Limits.{refusing, starting}
 use Rattle.whitening.proofs.Numbers.{numbers}
@@ -24,6 +25,7 @@ holds = record {
   refusing = refusing;
   starting = starting;
   hears = hears;
+  one-cycle = one-cycle;
   kept = kept;
   examples = examples;
 }

@@ -14,7 +14,7 @@
 --   WhiteningRefuses channel packet (Limits.refusing)  which calls are refused, in which order, and what they leave
 --   CrcStartOn channel start (Limits.starting)          where the CRC starts on each channel
 --   Hears channel start     (Heard.hears)              what the flag tells of packets that are heard on a channel: a packet's own CRC, any other, and one bit
---   Holds                   (Holding.holds)            all of these, with what they assume; what the code keeps (specs/Kept), and worked values (specs/Examples)
+--   Holds                   (Holding.holds)            all of these, with what they assume; the cycle and what the code keeps of it (specs/Kept), and worked values (specs/Examples)
 use mathlib.Core.Path.{_≡_}
 use mathlib.Core.Bool.{Bool, true, false, xor, _&&_, _||_}
 use mathlib.Core.List.{List, [], _∷_, _++_, reverse}
@@ -30,7 +30,7 @@ use Rattle.channels.specs.declared.phy.DataChannel.{DataChannel}
 use Rattle.whitening.specs.Bits.{bits, number, bitsOf}
 use Rattle.whitening.specs.Whitening.{whiteningTaps, registerOn, leaving, whitened}
 use Rattle.whitening.specs.Examples.{Examples}
-use Rattle.whitening.specs.Kept.{Kept}
+use Rattle.whitening.specs.Kept.{OneCycle, Kept}
 use Rattle.whitening.specs.Crc.{crcTaps, crcOf, crcOctets, crcGood}
 use Rattle.whitening.specs.Packet.{whitenOf, whitenAfter, startOn, flagOf}
 use Rattle.octets.specs.declared.error.Outcome.the-variants as outcome
@@ -144,5 +144,6 @@ pub record Holds : Type 0 where
   pub refusing : (channel : ℕ) (packet : List ℕ) → WhiteningRefuses channel packet
   pub starting : (channel start : ℕ) → CrcStartOn channel start
   pub hears : (channel start : ℕ) → Hears channel start
+  pub one-cycle : OneCycle
   pub kept : Kept
   pub examples : Examples
