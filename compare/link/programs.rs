@@ -232,6 +232,35 @@ fn hublog_prints(t: &mut Tried, example: &[u8]) {
     }
 }
 
+/// The CRC of the Core (Vol 6 Part B, 3.1.1), a bit at a time: position 23 is the number's lowest bit.
+fn crc(octets: &[u8]) -> u32 {
+    octets.iter().flat_map(|octet| (0..8).map(move |bit| u32::from(octet >> bit & 1))).fold(0xAAAAAA, |register, bit| {
+        let shifted = register >> 1;
+        if register & 1 == bit { shifted } else { shifted ^ 0xDA6000 }
+    })
+}
+
+/// The output that the gate holds try_hublog to, from the inputs that it makes.
+fn try_hublog_is_held(t: &mut Tried, example: &[u8], repository: &str) {
+    let mut beacons = Vec::new();
+    for n in 0..15_000u32 {
+        if n % 5_000 == 4_999 {
+            beacons.push(0);
+        }
+        beacons.extend([1, 0x42, 6, n as u8, (n >> 8) as u8, 3, 4, 5, 0xC6]);
+    }
+    let of = log(&beacons);
+    let long = format!("written {0}, found {0} octets, CRC {1:06x}\n{2}{3}", of.len(), crc(&of), text(&of[..39]), text(&of[of.len() - 54..]));
+    let cut = [example, &[1, 0x42, 6, 10]].concat();
+    let another = [example, &[3], example].concat();
+    let wanted = format!(
+        "document 01's sample\n{}the sample, and an item that is cut short\n{}the sample, another first octet, and the sample again\n{}no input\n{}15000 beacons\n{long}the same, at most 66 octets a read\n{long}",
+        text(&log(example)), text(&log(&cut)), text(&log(&another)), text(&log(b""))
+    );
+    let stored = fs::read(format!("{repository}/crates/try_hublog/stdout")).unwrap();
+    t.say("try_hublog: its stored output, by a log written from documents 01 and 02", text(&stored) == wanted, &(stored, wanted));
+}
+
 fn hublog_is_asked(t: &mut Tried, example: &str) {
     for word in ["--help", "FILE"] {
         let mut input = File::open(example).unwrap();
@@ -375,6 +404,7 @@ fn main() {
         in_pieces(&mut t, "hublog", &some, &log(&some));
     }
     if !only_log {
+        try_hublog_is_held(&mut t, &example, repository);
         hublog_is_asked(&mut t, &path);
         hublog_fails(&mut t, &path);
         hublog_does_not_wait(&mut t, &example);

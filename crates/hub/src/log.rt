@@ -1,13 +1,14 @@
 // The log: what the hub has counted, and the octets that it takes in.
 ghost use mathlib.Core.Path.{_≡_};
-ghost use mathlib.Core.List.{_++_};
+ghost use mathlib.Core.Bool.{cond, _||_};
+ghost use mathlib.Core.List.{[], _++_};
 ghost use Prim.Native.Nat.{_+_, _-_, _≤_};
 ghost use lib.ListN.{length, take, drop};
-ghost use Rattle.octets.specs.Bytes.{written};
+ghost use Rattle.octets.specs.Bytes.{written, atFront};
 ghost use Rattle.columns.specs.Table.{octetColumns};
 ghost use Rattle.beacon.specs.State.{scannerState};
 ghost use Rattle.hub_spec.specs.Line.{line, reportsIn, lastSize, roomFor};
-ghost use Rattle.hub_spec.specs.Log.{start, heardIn, scannerAfter, leftOver, lastLine, freshHub, isStuck, loggedOf, blockOf, RunCounts, isReady, takenIn, restIn, linesIn, restAfter, linesAfter};
+ghost use Rattle.hub_spec.specs.Log.{start, heardIn, scannerAfter, leftOver, lastLine, freshHub, isStuck, loggedOf, blockLines, blockOf, RunCounts, isReady, takenIn, restIn, linesIn, restAfter, linesAfter};
 ghost use Rattle.hub.specs.State.{hubState, loggedStep, blockStep, takenStep};
 use crate::line::log_scanned;
 use addresses::header::Header;
@@ -44,11 +45,11 @@ struct Logged {
 // What taking in the octets that a read brought did.
 pub struct Block {
     pub hub: Hub,
-    // The octets of the lines.
+    // The octets that are to be written.
     pub written: usize,
     // The octets that are left over, at the front of the buffer.
     pub kept: usize,
-    // No octets that may follow change the log.
+    // Reading stops: the last line is among what is to be written.
     pub is_stopped: bool,
 }
 
@@ -156,6 +157,16 @@ fn is_stuck(items: usize, rest: &[u8]) -> bool
     items::CRC_BAD < rest[0]
 }
 
+// Reading stops: the input has ended, or nothing that may follow makes an item of what is left over.
+fn is_last(is_end: bool, items: usize, rest: &[u8]) -> bool
+    ensures { λ r. ⌜ r ≡ «is_end» || isStuck items (now (rest .entry)) ⌝ }
+{
+    if is_end {
+        return true;
+    }
+    is_stuck(items, rest)
+}
+
 // Moves the octets from `from` to `end` to the front.
 fn keep(buf: &mut [u8], from: usize, end: usize)
     requires { ⌜ (from ≤ end) × (end ≤ length (now buf)) ⌝ }
@@ -169,22 +180,37 @@ fn keep(buf: &mut [u8], from: usize, end: usize)
 }
 
 // `take_in` where all is ready.
-fn take_block(hub: Hub, buf: &mut [u8], filled: usize, out: &mut [u8]) -> Block
-    requires { ⌜ RunCounts (hubState hub) × ((filled ≤ length (now buf)) × (roomFor filled ≤ length (now out))) ⌝ }
-    ensures { λ r. ⌜ (blockStep r ≡ blockOf (hubState hub) (take filled (now (buf .entry)))) × ((now (buf .exit) ≡ restIn (hubState hub) (now (buf .entry)) filled) × (now (out .exit) ≡ linesIn (hubState hub) (take filled (now (buf .entry))) (now (out .entry)))) ⌝ }
+fn take_block(hub: Hub, buf: &mut [u8], filled: usize, is_end: bool, out: &mut [u8]) -> Block
+    requires { ⌜ RunCounts (hubState hub) × ((filled ≤ length (now buf)) × (roomFor filled + lastSize ≤ length (now out))) ⌝ }
+    ensures { λ r. ⌜ (blockStep r ≡ blockOf (hubState hub) (take filled (now (buf .entry))) «is_end») × ((now (buf .exit) ≡ restIn (hubState hub) (now (buf .entry)) filled) × (now (out .exit) ≡ atFront (blockLines (hubState hub) (take filled (now (buf .entry))) «is_end») (now (out .entry)))) ⌝ }
 {
     let table = columns::octets();
     let logged = log_items(&table, hub, &buf[..filled], out);
     let after = logged.hub;
     let taken = logged.taken;
-    let is_stopped = is_stuck(after.items, &buf[taken..filled]);
+    let is_stopped = is_last(is_end, after.items, &buf[taken..filled]);
     keep(buf, taken, filled);
+    let kept = filled - taken;
+    let written = put_end(is_stopped, after, kept, out, logged.written);
     Block {
         hub: after,
-        written: logged.written,
-        kept: filled - taken,
+        written,
+        kept,
         is_stopped,
     }
+}
+
+// Writes the last line from `at` on where reading stops, and answers up to where lines are written then.
+fn put_end(is_stopped: bool, hub: Hub, kept: usize, out: &mut [u8], at: usize) -> usize
+    requires { ⌜ at + lastSize ≤ length (now out) ⌝ }
+    ensures { λ r. ⌜ (r ≡ at + length (cond «is_stopped» (lastLine (hubState hub) kept) [])) × (now (out .exit) ≡ written (cond «is_stopped» (lastLine (hubState hub) kept) []) (now (out .entry)) at) ⌝ }
+{
+    if is_stopped {
+        let end = at + LAST;
+        put_last_line(hub, kept, &mut out[at..end]);
+        return end;
+    }
+    at
 }
 
 // Writes the last line to all of `out`.
@@ -222,7 +248,7 @@ impl Hub {
         }
     }
 
-    // Whether the hub counts as a run does, `filled` octets are there and so is room for their lines.
+    // Whether the hub counts as a run does, `filled` octets are there and so is room for their lines and the last line.
     fn is_ready(self, filled: usize, size: usize, space: usize) -> bool
         ensures { λ r. ⌜ r ≡ isReady (hubState self) filled size space ⌝ }
     {
@@ -235,16 +261,19 @@ impl Hub {
         if size < filled {
             return false;
         }
-        filled / SHORTEST <= space / LINE
+        if space < LAST {
+            return false;
+        }
+        filled / SHORTEST <= (space - LAST) / LINE
     }
 
-    // Takes in the first `filled` octets of `buf`: writes the lines of the whole items among them to the front of `out`, and moves the octets
-    // after these items to the front of `buf`.
-    pub fn take_in(self, buf: &mut [u8], filled: usize, out: &mut [u8]) -> TakenIn
-        ensures { λ r. ⌜ (takenStep r ≡ takenIn (hubState self) (now (buf .entry)) filled (now (out .entry))) × ((now (buf .exit) ≡ restAfter (hubState self) (now (buf .entry)) filled (now (out .entry))) × (now (out .exit) ≡ linesAfter (hubState self) (now (buf .entry)) filled (now (out .entry)))) ⌝ }
+    // Takes in the first `filled` octets of `buf`, with which the input ends or not: writes all that is to be written for them to the front of `out`, the
+    // lines of the whole items among them and, where reading stops, the last line; and moves the octets after these items to the front of `buf`.
+    pub fn take_in(self, buf: &mut [u8], filled: usize, is_end: bool, out: &mut [u8]) -> TakenIn
+        ensures { λ r. ⌜ (takenStep r ≡ takenIn (hubState self) (now (buf .entry)) filled «is_end» (now (out .entry))) × ((now (buf .exit) ≡ restAfter (hubState self) (now (buf .entry)) filled (now (out .entry))) × (now (out .exit) ≡ linesAfter (hubState self) (now (buf .entry)) filled «is_end» (now (out .entry)))) ⌝ }
     {
         if self.is_ready(filled, buf.len(), out.len()) {
-            return TakenIn::Block(take_block(self, buf, filled, out));
+            return TakenIn::Block(take_block(self, buf, filled, is_end, out));
         }
         TakenIn::Refused
     }

@@ -1,7 +1,7 @@
 -- However an input is cut into reads, the log of the input is written: `any-reads`; and what a block leaves for the next: `block-taken`. Assumes nothing.
 use mathlib.Core.Path.{_≡_, refl, sym, ap, _∙_}
 use mathlib.Core.Logic.{⊎-elim}
-use mathlib.Core.Bool.{Bool, true, false, cond, true≢false, _&&_}
+use mathlib.Core.Bool.{Bool, true, false, cond, true≢false, _&&_, _||_}
 use mathlib.Core.List.{List, [], _∷_, _++_, append-assoc, append-nil, append-cancel-left, flatten}
 use Prim.Native.Nat.{ℕ, zero, suc, _+_, _-_, _*_, _<_, _≤_}
 use native.Mathlib.Omega.{arith}
@@ -10,12 +10,13 @@ use lib.Seq.{take-append-seam, drop-at}
 use lib.Dec.{leb, ltb, eqb·suc-zero}
 use borrow.Author.Tests.{le-leb, leb-true, leb-false, ltb-true, ltb-false}
 use Rattle.hub_spec.specs.State.{Hub}
-use Rattle.hub_spec.specs.Line.{lineSize, reportsIn, roomFor}
+use Rattle.hub_spec.specs.Line.{lineSize, lastSize, reportsIn, roomFor}
 use Rattle.octets.proofs.Places.{both-true}
 use Rattle.items.specs.Item.{sizeOf, wholeSize, items, afterItems}
-use Rattle.hub_spec.specs.Log.{mostItems, heardIn, afterItem, afterAll, printed, printedAll, itemsFor, linesOf, hubOf, octetsLeft, isStuck, freshHub, lastLine, logOf, isReady}
+use Rattle.hub_spec.specs.Log.{mostItems, heardIn, afterItem, afterAll, printed, printedAll, itemsFor, linesOf, hubOf, octetsLeft, isStuck, freshHub, lastLine, logOf, isLast, blockLines, isReady}
 use Rattle.hub_spec.specs.Reads.{writtenFor, AnyReads, Ready, BlockTaken}
 use Rattle.items.proofs.Items.{none-whole, one-whole, none-left, none-more, no-size, begun, at-front, items-fit, items-more, behind-more}
+use Rattle.hub_spec.proofs.Pieces.{last-length}
 use Rattle.hub_spec.proofs.Reports.{line-size, line-room, one-report}
 
 -- what many items do, in two parts
@@ -52,16 +53,18 @@ module _ (h : Hub) (s : List ℕ) where
       append-cancel-left (itemsFor h s) (itemsFor (hubOf h s) (octetsLeft h s)) []
       (ap (λ (l : List ℕ). itemsFor h s ++ itemsFor (hubOf h s) l) (sym (append-nil (octetsLeft h s))) ∙ sym (itemsFor-more []) ∙ ap (itemsFor h) (append-nil s) ∙ sym (append-nil (itemsFor h s)))
 
+  pub lines-more : (more : List ℕ) → linesOf h (s ++ more) ≡ linesOf h s ++ linesOf (hubOf h s) (octetsLeft h s ++ more)
+  lines-more more = ap (printedAll h) (itemsFor-more more) ∙ printedAll-append h (itemsFor h s) (itemsFor (hubOf h s) (octetsLeft h s ++ more))
+
+  pub hub-more : (more : List ℕ) → hubOf h (s ++ more) ≡ hubOf (hubOf h s) (octetsLeft h s ++ more)
+  hub-more more = ap (afterAll h) (itemsFor-more more) ∙ afterAll-append h (itemsFor h s) (itemsFor (hubOf h s) (octetsLeft h s ++ more))
+
+  pub rest-more : (more : List ℕ) → octetsLeft h (s ++ more) ≡ octetsLeft (hubOf h s) (octetsLeft h s ++ more)
+  rest-more more = behind-more (mostItems - h .items) s more ∙ ap (λ (n : ℕ). afterItems (items n (octetsLeft h s ++ more)) (octetsLeft h s ++ more)) left
+
   log-more : (more : List ℕ) → logFrom h (s ++ more) ≡ linesOf h s ++ logFrom (hubOf h s) (octetsLeft h s ++ more)
   unfolding logFrom
-  log-more more =
-      let lines : linesOf h (s ++ more) ≡ linesOf h s ++ linesOf (hubOf h s) (octetsLeft h s ++ more) =
-      ap (printedAll h) (itemsFor-more more) ∙ printedAll-append h (itemsFor h s) (itemsFor (hubOf h s) (octetsLeft h s ++ more)) in
-      let hubs : hubOf h (s ++ more) ≡ hubOf (hubOf h s) (octetsLeft h s ++ more) =
-      ap (afterAll h) (itemsFor-more more) ∙ afterAll-append h (itemsFor h s) (itemsFor (hubOf h s) (octetsLeft h s ++ more)) in
-      let rests : octetsLeft h (s ++ more) ≡ octetsLeft (hubOf h s) (octetsLeft h s ++ more) =
-      behind-more (mostItems - h .items) s more ∙ ap (λ (n : ℕ). afterItems (items n (octetsLeft h s ++ more)) (octetsLeft h s ++ more)) left in
-      simp (lines, hubs, rests, append-assoc)
+  log-more more = simp (lines-more more, hub-more more, rest-more more, append-assoc)
 
 -- where nothing is a whole item, only the last line is left
 log-none : (h : Hub) (s : List ℕ) → itemsFor h s ≡ [] → logFrom h s ≡ lastLine h (length s)
@@ -84,11 +87,11 @@ unfolding isStuck lastLine
 stuck-last h [] more e = absurd (true≢false (sym e))
 stuck-last h (first ∷ rest) more e = simp (eqb·suc-zero (length rest), eqb·suc-zero (length (rest ++ more)))
 
-reads-log : (reads : List (List ℕ)) (h : Hub) (kept : List ℕ) → itemsFor h kept ≡ [] → writtenFor h kept reads ≡ logFrom h (kept ++ flatten reads)
-unfolding writtenFor flatten
-reads-log [] h kept none-yet = sym (ap (logFrom h) (append-nil kept) ∙ log-none h kept none-yet)
-reads-log (read ∷ reads) h kept none-yet =
-    ap (λ (l : List ℕ). linesOf h (kept ++ read) ++ l) (go (isStuck (heard .items) rest) refl (reads-log reads heard rest (nothing-more h (kept ++ read))))
+reads-log : (reads : List (List ℕ)) (h : Hub) (kept : List ℕ) → writtenFor h kept reads ≡ logFrom h (kept ++ flatten reads)
+unfolding writtenFor flatten logFrom
+reads-log [] h kept = sym (ap (logFrom h) (append-nil kept))
+reads-log (read ∷ reads) h kept =
+    go (isStuck (heard .items) rest) refl (reads-log reads heard rest)
     ∙ sym (ap (logFrom h) (sym (append-assoc kept read (flatten reads))) ∙ log-more h (kept ++ read) (flatten reads))
   where
     heard : Hub
@@ -97,15 +100,19 @@ reads-log (read ∷ reads) h kept none-yet =
     rest : List ℕ
     rest = octetsLeft h (kept ++ read)
 
+    lines : List ℕ
+    lines = linesOf h (kept ++ read)
+
     go : (stop : Bool) → isStuck (heard .items) rest ≡ stop → writtenFor heard rest reads ≡ logFrom heard (rest ++ flatten reads)
-        → cond stop (lastLine heard (length rest)) (writtenFor heard rest reads) ≡ logFrom heard (rest ++ flatten reads)
+        → (lines ++ cond stop (lastLine heard (length rest)) []) ++ cond stop [] (writtenFor heard rest reads) ≡ lines ++ logFrom heard (rest ++ flatten reads)
     go true e later =
-        stuck-last heard rest (flatten reads) e ∙ sym (log-none heard (rest ++ flatten reads) (stuck-none heard rest (flatten reads) e))
-    go false e later = later
+        append-nil (lines ++ lastLine heard (length rest))
+        ∙ ap (λ (l : List ℕ). lines ++ l) (stuck-last heard rest (flatten reads) e ∙ sym (log-none heard (rest ++ flatten reads) (stuck-none heard rest (flatten reads) e)))
+    go false e later = ap (λ (l : List ℕ). l ++ writtenFor heard rest reads) (append-nil lines) ∙ ap (λ (l : List ℕ). lines ++ l) later
 
 pub any-reads : AnyReads
-unfolding logFrom logOf wholeSize sizeOf
-any-reads reads = reads-log reads freshHub [] (none-whole mostItems [] refl)
+unfolding logFrom logOf
+any-reads reads = reads-log reads freshHub []
 
 -- octets of which an item may still come, and none has
 short : (count first : ℕ) (rest : List ℕ) → isStuck count (first ∷ rest) ≡ false → items (mostItems - count) (first ∷ rest) ≡ [] → length (first ∷ rest) < 66
@@ -120,7 +127,7 @@ short count first rest = go (leb mostItems count) (ltb 2 first) refl refl
         let left : mostItems - count ≡ suc (mostItems - count - 1) = omega (arith, leb-false mostItems count m) in
         begun first rest (ltb-false 2 first e) (none-left (mostItems - count - 1) (first ∷ rest) (rw left at no-items))
 
-kept-short : (h : Hub) (s : List ℕ) → isStuck (hubOf h s .items) (octetsLeft h s) ≡ false → length (octetsLeft h s) < 66
+pub kept-short : (h : Hub) (s : List ℕ) → isStuck (hubOf h s .items) (octetsLeft h s) ≡ false → length (octetsLeft h s) < 66
 kept-short h s = go (octetsLeft h s) (nothing-more h s)
   where
     go : (rest : List ℕ) → itemsFor (hubOf h s) rest ≡ [] → isStuck (hubOf h s .items) rest ≡ false → length rest < 66
@@ -142,11 +149,11 @@ unfolding afterAll afterItem
 fewer-reports h [] fewer = fewer
 fewer-reports h (item ∷ its) fewer = fewer-reports (afterItem h item) its (omega (arith, one-report (heardIn (h .scanner) item)))
 
-printed-size : (h : Hub) (item : List ℕ) → length (printed h item) ≡ lineSize * reportsIn (heardIn (h .scanner) item)
+pub printed-size : (h : Hub) (item : List ℕ) → length (printed h item) ≡ lineSize * reportsIn (heardIn (h .scanner) item)
 unfolding printed
 printed-size h item = line-size _ (h .scanner) item
 
-lines-room : (h : Hub) (its : List (List ℕ)) → length (printedAll h its) ≤ roomFor (length (flatten its))
+pub lines-room : (h : Hub) (its : List (List ℕ)) → length (printedAll h its) ≤ roomFor (length (flatten its))
 unfolding printedAll flatten
 lines-room h [] = omega arith
 lines-room h (item ∷ its) = simp length-append (omega (arith, printed-size h item, line-room (h .scanner) item, lines-room (afterItem h item) its))
@@ -158,14 +165,14 @@ rest-fits h s = rw length-drop (omega arith)
 module _ (h : Hub) (buf : List ℕ) (filled : ℕ) (out : List ℕ) where
   ready : Ready h buf filled out → isReady h filled (length buf) (length out) ≡ true
   ready all =
-      simp (le-leb (h .items) mostItems (all .0 .0), le-leb (h .reports) (h .items) (all .0 .1), le-leb filled (length buf) (all .1 .0), le-leb (roomFor filled) (length out) (all .1 .1))
+      simp (le-leb (h .items) mostItems (all .0 .0), le-leb (h .reports) (h .items) (all .0 .1), le-leb filled (length buf) (all .1 .0), le-leb (roomFor filled + lastSize) (length out) (all .1 .1))
 
   pub all-ready : isReady h filled (length buf) (length out) ≡ true → Ready h buf filled out
   all-ready e =
-      let items = both-true (leb (h .items) mostItems) (leb (h .reports) (h .items) && (leb filled (length buf) && leb (roomFor filled) (length out))) e in
-      let reports = both-true (leb (h .reports) (h .items)) (leb filled (length buf) && leb (roomFor filled) (length out)) (items .1) in
-      let size = both-true (leb filled (length buf)) (leb (roomFor filled) (length out)) (reports .1) in
-      ((leb-true (h .items) mostItems (items .0), leb-true (h .reports) (h .items) (reports .0)), (leb-true filled (length buf) (size .0), leb-true (roomFor filled) (length out) (size .1)))
+      let items = both-true (leb (h .items) mostItems) (leb (h .reports) (h .items) && (leb filled (length buf) && leb (roomFor filled + lastSize) (length out))) e in
+      let reports = both-true (leb (h .reports) (h .items)) (leb filled (length buf) && leb (roomFor filled + lastSize) (length out)) (items .1) in
+      let size = both-true (leb filled (length buf)) (leb (roomFor filled + lastSize) (length out)) (reports .1) in
+      ((leb-true (h .items) mostItems (items .0), leb-true (h .reports) (h .items) (reports .0)), (leb-true filled (length buf) (size .0), leb-true (roomFor filled + lastSize) (length out) (size .1)))
 
   unready : (Ready h buf filled out → ⊥) → isReady h filled (length buf) (length out) ≡ false
   unready not-all = go (isReady h filled (length buf) (length out)) refl
@@ -174,12 +181,31 @@ module _ (h : Hub) (buf : List ℕ) (filled : ℕ) (out : List ℕ) where
       go true e = absurd (not-all (all-ready e))
       go false e = refl
 
-rest-all : (h : Hub) (s : List ℕ) → length (flatten (itemsFor h s)) + length (octetsLeft h s) ≡ length s
+pub rest-all : (h : Hub) (s : List ℕ) → length (flatten (itemsFor h s)) + length (octetsLeft h s) ≡ length s
 unfolding afterItems
 rest-all h s = rw length-drop (omega (arith, items-fit (mostItems - h .items) s))
 
-pub block-taken : (h : Hub) (s : List ℕ) → BlockTaken h s
-block-taken h s =
+-- the lines of a block, and the last line after them where reading stops
+module _ (h : Hub) (s : List ℕ) (isEnd : Bool) where
+  pub lines-go-on : isLast h s isEnd ≡ false → blockLines h s isEnd ≡ linesOf h s
+  lines-go-on e = ap (λ (b : Bool). linesOf h s ++ cond b (lastLine (hubOf h s) (length (octetsLeft h s))) []) e ∙ append-nil (linesOf h s)
+
+  pub lines-end : isLast h s isEnd ≡ true → blockLines h s isEnd ≡ linesOf h s ++ lastLine (hubOf h s) (length (octetsLeft h s))
+  lines-end e = ap (λ (b : Bool). linesOf h s ++ cond b (lastLine (hubOf h s) (length (octetsLeft h s))) []) e
+
+  block-room : length (blockLines h s isEnd) ≤ roomFor (length s) + lastSize
+  block-room = rw length-append (omega (arith, lines-room h (itemsFor h s), items-fit (mostItems - h .items) s, end (isLast h s isEnd)))
+    where
+      end : (b : Bool) → length (cond b (lastLine (hubOf h s) (length (octetsLeft h s))) []) ≤ lastSize
+      end true = omega (arith, last-length (hubOf h s) (length (octetsLeft h s)))
+      end false = omega arith
+
+not-stuck : (isEnd b : Bool) → isEnd || b ≡ false → b ≡ false
+not-stuck true b e = absurd (true≢false e)
+not-stuck false b e = e
+
+pub block-taken : (h : Hub) (s : List ℕ) (isEnd : Bool) → BlockTaken h s isEnd
+block-taken h s isEnd =
     record {
       accepted = λ buf filled out all. simp (ready h buf filled out all);
       refused = λ buf filled out not-all. let is = unready h buf filled out not-all in (simp is, (simp is, simp is));
@@ -187,12 +213,15 @@ block-taken h s =
           let rest : List ℕ = octetsLeft h (take filled buf) in
           rw (ready h buf filled out all) (take-append-seam rest (drop (length rest) buf), drop-at rest (drop (length rest) buf) (length rest) refl);
       lines = λ buf filled out all.
-          let these : List ℕ = linesOf h (take filled buf) in
+          let these : List ℕ = blockLines h (take filled buf) isEnd in
           rw (ready h buf filled out all) (take-append-seam these (drop (length these) out), drop-at these (drop (length these) out) (length these) refl);
+      goes-on = lines-go-on h s isEnd;
+      ends = lines-end h s isEnd;
       logged = (refl, (refl, rest-all h s));
       counted = λ before. (omega (arith, before .0, counted h (itemsFor h s), items-most (mostItems - h .items) s), fewer-reports h (itemsFor h s) (before .1));
-      room = omega (arith, lines-room h (itemsFor h s), items-fit (mostItems - h .items) s);
+      room = block-room h s isEnd;
       kept = rest-fits h s;
+      at-end = refl;
       stops = refl;
-      short = kept-short h s;
+      short = λ e. kept-short h s (not-stuck isEnd (isStuck (hubOf h s .items) (octetsLeft h s)) e);
     }

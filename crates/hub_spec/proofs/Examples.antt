@@ -24,6 +24,7 @@ examples =
       ready-items = refl;
       ready-reports = refl;
       ready-octets = refl;
+      ready-last = refl;
       ready-room = refl;
       first-channel = refl;
       one-tick = refl;

@@ -1,6 +1,7 @@
 pub mod Pieces
 pub mod Reports
 pub mod AnyReads
+pub mod Runs
 pub mod Fitting
 pub mod Reported
 pub mod Samples

@@ -327,7 +327,7 @@ reported s =
     let log : logOf s ≡ lineEach (all .rows) ++ last = rw (all .lines, last-is end (length (afterItems its s)), size, sum) refl in
     let fit : Octets s → All (Fits reportWidths) (all .rows) = all .fit (omega arith, omega arith) in
     let last-fits : Fits lastWidths (length its ∷ length (all .rows) ∷ flag ∷ []) =
-    rw (size, sum) at (rowed end 0 .last-fits (block-taken freshHub s .counted (omega arith, omega arith)) flag (over-one (length (afterItems its s)))) in
+    rw (size, sum) at (rowed end 0 .last-fits (block-taken freshHub s false .counted (omega arith, omega arith)) flag (over-one (length (afterItems its s)))) in
     record {
       rows = all .rows;
       flag = flag;

@@ -35,11 +35,12 @@ pub record Examples : Type 0 where
   pub stuck : map (λ (first : ℕ). isStuck 999998 (first ∷ [])) (0x00 ∷ 0x01 ∷ 0x02 ∷ 0x03 ∷ 0xFF ∷ []) ≡ false ∷ false ∷ false ∷ true ∷ true ∷ []
   pub stuck-beyond : map (λ (count : ℕ). isStuck count (0x00 ∷ [])) (0 ∷ 999998 ∷ 999999 ∷ []) ≡ false ∷ false ∷ true ∷ []
   pub none-left : map (λ (count : ℕ). isStuck count []) (0 ∷ 999999 ∷ []) ≡ false ∷ false ∷ []
-  -- ready: counted items, reports among them, octets in the buffer and room for lines, each up to its limit and past it
-  pub ready-items : map (λ (items : ℕ). isReady (hubWith items 0) 0 0 0) (0 ∷ 999999 ∷ 1000000 ∷ []) ≡ true ∷ true ∷ false ∷ []
-  pub ready-reports : map (λ (reports : ℕ). isReady (hubWith 7 reports) 0 0 0) (0 ∷ 7 ∷ 8 ∷ []) ≡ true ∷ true ∷ false ∷ []
+  -- ready: counted items, reports among them, octets in the buffer and room for lines, the last one among them, each up to its limit and past it
+  pub ready-items : map (λ (items : ℕ). isReady (hubWith items 0) 0 0 15) (0 ∷ 999999 ∷ 1000000 ∷ []) ≡ true ∷ true ∷ false ∷ []
+  pub ready-reports : map (λ (reports : ℕ). isReady (hubWith 7 reports) 0 0 15) (0 ∷ 7 ∷ 8 ∷ []) ≡ true ∷ true ∷ false ∷ []
   pub ready-octets : map (λ (filled : ℕ). isReady freshHub filled 12 1000) (0 ∷ 12 ∷ 13 ∷ []) ≡ true ∷ true ∷ false ∷ []
-  pub ready-room : map (λ (space : ℕ). isReady freshHub 26 26 space) (0 ∷ 77 ∷ 78 ∷ 79 ∷ []) ≡ false ∷ false ∷ true ∷ true ∷ []
+  pub ready-last : map (λ (space : ℕ). isReady freshHub 8 8 space) (0 ∷ 14 ∷ 15 ∷ []) ≡ false ∷ false ∷ true ∷ []
+  pub ready-room : map (λ (space : ℕ). isReady freshHub 26 26 space) (0 ∷ 92 ∷ 93 ∷ 94 ∷ []) ≡ false ∷ false ∷ true ∷ true ∷ []
   -- "Scanning starts on 37", and a tick moves it on: 37, 38, 39, 37; a packet does not
   pub first-channel : freshHub .scanner .channel ≡ Channel37
   pub one-tick : ticked (freshHub .scanner) .channel ≡ Channel38

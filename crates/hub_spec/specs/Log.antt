@@ -12,15 +12,18 @@
 --   logOf s                     == THE LOG of the input s; specs/Reported says what is in it, in the papers' words
 --   itemsFor, linesOf, hubOf, octetsLeft h s == of octets s that a hub h takes in: the whole items, their lines, the hub after them, what is left over
 --   isStuck n s                 == after n items, no octets that follow s make an item of it
---   loggedOf, blockOf h s       == what logging the items of s answers, and what taking in s answers
+--   loggedOf h s                == what logging the items of s answers
+--   isLast h s isEnd            == reading stops with s: the input ends with it, or it is stuck
+--   blockLines h s isEnd        == WHAT IS WRITTEN for s: its lines, and the last line where reading stops
+--   blockOf h s isEnd           == what taking in s answers
 --   RunCounts h                 == a run counts so
 --   isReady h filled size space == the test for it, for `filled` octets in a buffer of `size`, and for room in `space` octets
---   restIn h buf filled, linesIn h s out    == `buf` with what is left over at its front, and `out` with the lines at its front
---   takenIn, restAfter, linesAfter h buf filled out == what `take_in` answers, and what it leaves in `buf` and `out`
+--   restIn h buf filled, linesIn h s out    == `buf` with what is left over at its front, and `out` with the lines of the items at its front
+--   takenIn, linesAfter h buf filled isEnd out, restAfter h buf filled out == what `take_in` answers, and what it leaves in `out` and `buf`
 --   Sizes                       == how long lines are (Pieces.sizes)
 use mathlib.Core.Path.{_≡_}
 use Prim.Native.Nat.{ℕ, _+_, _-_, _≤_}
-use mathlib.Core.Bool.{Bool, true, false, cond, _&&_}
+use mathlib.Core.Bool.{Bool, true, false, cond, _&&_, _||_}
 use mathlib.Core.List.{List, [], _∷_, _++_, flatten}
 use lib.ListN.{length, take, drop}
 use lib.Dec.{leb, ltb, eqb}
@@ -119,22 +122,30 @@ isStuck count (first ∷ rest) = cond (leb mostItems count) true (ltb 2 first)
 abbrev pub loggedOf : Hub → List ℕ → Logged
 loggedOf h s = record { hub = hubOf h s; taken = length (flatten (itemsFor h s)); written = length (linesOf h s) }
 
-abbrev pub blockOf : Hub → List ℕ → Block
-blockOf h s =
+-- "reading stopped at a broken item (..) or beyond 999,999", or at the end of the input
+abbrev pub isLast : Hub → List ℕ → Bool → Bool
+isLast h s isEnd = isEnd || isStuck (hubOf h s .items) (octetsLeft h s)
+
+-- the last line is written once, after the lines of the block with which reading stops
+abbrev pub blockLines : Hub → List ℕ → Bool → List ℕ
+blockLines h s isEnd = linesOf h s ++ cond (isLast h s isEnd) (lastLine (hubOf h s) (length (octetsLeft h s))) []
+
+abbrev pub blockOf : Hub → List ℕ → Bool → Block
+blockOf h s isEnd =
     record {
       hub = hubOf h s;
-      written = length (linesOf h s);
+      written = length (blockLines h s isEnd);
       kept = length (octetsLeft h s);
-      «is_stopped» = isStuck (hubOf h s .items) (octetsLeft h s);
+      «is_stopped» = isLast h s isEnd;
     }
 
 -- what a hub counts: at most 999,999 items, and no more reports than items
 abbrev pub RunCounts : Hub → Type 0
 RunCounts h = (h .items ≤ mostItems) × (h .reports ≤ h .items)
 
--- the same as a test, with that of the room: `filled` octets of a buffer of `size`, and room for their lines in `space` octets
+-- the same as a test, with that of the room: `filled` octets of a buffer of `size`, and room for their lines and the last line in `space` octets
 abbrev pub isReady : Hub → ℕ → ℕ → ℕ → Bool
-isReady h filled size space = leb (h .items) mostItems && (leb (h .reports) (h .items) && (leb filled size && leb (roomFor filled) space))
+isReady h filled size space = leb (h .items) mostItems && (leb (h .reports) (h .items) && (leb filled size && leb (roomFor filled + lastSize) space))
 
 -- the first `filled` octets of `buf` taken in: what is left over at the front of `buf`, and the lines at the front of `out`
 abbrev pub restIn : Hub → List ℕ → ℕ → List ℕ
@@ -144,14 +155,14 @@ abbrev pub linesIn : Hub → List ℕ → List ℕ → List ℕ
 linesIn h s out = atFront (linesOf h s) out
 
 -- what `take_in` answers, and what the two buffers hold then
-abbrev pub takenIn : Hub → List ℕ → ℕ → List ℕ → TakenIn
-takenIn h buf filled out = cond (isReady h filled (length buf) (length out)) (taken.block (blockOf h (take filled buf))) taken.refused
+abbrev pub takenIn : Hub → List ℕ → ℕ → Bool → List ℕ → TakenIn
+takenIn h buf filled isEnd out = cond (isReady h filled (length buf) (length out)) (taken.block (blockOf h (take filled buf) isEnd)) taken.refused
 
 abbrev pub restAfter : Hub → List ℕ → ℕ → List ℕ → List ℕ
 restAfter h buf filled out = cond (isReady h filled (length buf) (length out)) (restIn h buf filled) buf
 
-abbrev pub linesAfter : Hub → List ℕ → ℕ → List ℕ → List ℕ
-linesAfter h buf filled out = cond (isReady h filled (length buf) (length out)) (linesIn h (take filled buf) out) out
+abbrev pub linesAfter : Hub → List ℕ → ℕ → Bool → List ℕ → List ℕ
+linesAfter h buf filled isEnd out = cond (isReady h filled (length buf) (length out)) (atFront (blockLines h (take filled buf) isEnd) out) out
 
 -- Lines are as long as their columns and the octet 0A.
 pub record Sizes : Type 0 where

@@ -17,7 +17,7 @@ pub record Logged : Type 0 where
   pub taken : ℕ
   pub written : ℕ
 
--- the octets of the lines; the octets that are left over, at the front of the buffer; no octets that may follow change the log
+-- the octets that are to be written; the octets that are left over, at the front of the buffer; reading stops: the last line is among what is to be written
 pub record Block : Type 0 where
   pub hub : Hub
   pub written : ℕ

@@ -1,0 +1,16 @@
+-- `try_hublog::put_beacons` is safe and ends. Assumes nothing.
+use Prim.Native.Nat.{_-_, _≤_}
+use borrow.Author.Needs.{needs}
+use Rattle.try_hublog.proofs.put_beacons.Statement.{statement}
+use Rattle.try_hublog.proofs.put_beacons.Tie as tie
+
+abbrev Inv-loop : tie.InvT-loop
+Inv-loop input n₀ n = n ≤ 15000
+
+abbrev μ-loop : tie.MeasureT-loop
+μ-loop input n₀ n = 15000 - n
+
+pub put-beacons-spec : {M : Type 1} → statement M
+put-beacons-spec =
+    tie.close
+    (tie.spec Inv-loop μ-loop (λ c. search needs) (λ c κs. search needs) (λ c. search needs) (λ c. search needs) (λ c. search needs) (λ c. search needs))
