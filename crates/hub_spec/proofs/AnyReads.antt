@@ -221,7 +221,5 @@ block-taken h s isEnd =
       counted = λ before. (omega (arith, before .0, counted h (itemsFor h s), items-most (mostItems - h .items) s), fewer-reports h (itemsFor h s) (before .1));
       room = block-room h s isEnd;
       kept = rest-fits h s;
-      at-end = refl;
-      stops = refl;
       short = λ e. kept-short h s (not-stuck isEnd (isStuck (hubOf h s .items) (octetsLeft h s)) e);
     }

@@ -35,7 +35,7 @@ use Rattle.items.proofs.Falling.{falls}
 use Rattle.items.proofs.Items.{cut}
 use Rattle.items.specs.Item.{items, afterItems, IsItem, tick, packet}
 use Rattle.hub_spec.specs.Line.{sentColumns, reportLine, line, reportsIn, lineSize}
-use Rattle.hub_spec.specs.Log.{mostItems, start, isCrcGood, heardIn, scannerAfter, afterItem, printed, afterAll, printedAll, leftOver, lastLine, freshHub, itemsFor, logOf, isStuck}
+use Rattle.hub_spec.specs.Log.{mostItems, start, isCrcGood, heardIn, scannerAfter, afterItem, printed, afterAll, printedAll, leftOver, lastLine, freshHub, itemsFor, logOf, isStuck, hubOf, octetsLeft}
 use Rattle.hub_spec.specs.Reported as spec
 use Rattle.hub_spec.specs.Reported.{reportWidths, lastWidths, lineEach, IsReported, Prints, TickCount, Rows, Reported, Continued, Rowed, Added, Stopping}
 use Rattle.hub_spec.specs.State.{Hub}
@@ -272,16 +272,19 @@ continued h s passing =
       channel = all .heard-all .channel;
     }
 
-pub stopping : (count first : ℕ) (rest : List ℕ) → Stopping count first rest
+pub stopping : (h : Hub) (s : List ℕ) → Stopping h s
 unfolding isStuck
-stopping count first rest =
+stopping h s =
+    let count : ℕ = hubOf h s .items in
     record {
-      beyond = λ most. rw (le-leb mostItems count most);
-      another = λ no-tick not-good not-bad. rw (lt-ltb 2 first (above first no-tick not-good not-bad)) (either (leb mostItems count));
-      cut-short = λ more which.
+      at-end = refl;
+      beyond = λ first rest left most. ap (isStuck count) left ∙ rw (le-leb mostItems count most);
+      another = λ first rest left no-tick not-good not-bad.
+          ap (isStuck count) left ∙ rw (lt-ltb 2 first (above first no-tick not-good not-bad)) (either (leb mostItems count));
+      cut-short = λ first rest left more which.
           let low : first ≤ 2 = ⊎-elim (λ is. omega arith) (λ is. ⊎-elim (λ good. omega arith) (λ bad. omega arith) is) which in
-          rw (lt-leb mostItems count more, le-ltb 2 first low);
-      none-left = refl;
+          ap (isStuck count) left ∙ rw (lt-leb mostItems count more, le-ltb 2 first low);
+      none-left = λ left. ap (isStuck count) left;
     }
   where
     above : (n : ℕ) → (n ≡ 0 → ⊥) → (n ≡ 1 → ⊥) → (n ≡ 2 → ⊥) → 2 < n

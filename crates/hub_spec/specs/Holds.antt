@@ -1,4 +1,5 @@
 -- Holds (Holding.holds): all laws of this crate, with what they assume.
+use mathlib.Core.Bool.{Bool}
 use mathlib.Core.List.{List}
 use mathlib.Core.Path.{_≡_}
 use Prim.Native.Nat.{ℕ}
@@ -15,13 +16,13 @@ use Rattle.hub_spec.specs.State.{Hub}
 pub record Holds : Type 0 where
   pub sizes : Sizes
   pub any-reads : AnyReads
-  pub block-taken : (h : Hub) (s : List ℕ) → BlockTaken h s
+  pub block-taken : (h : Hub) (s : List ℕ) (isEnd : Bool) → BlockTaken h s isEnd
   pub reported : (s : List ℕ) → Reported s
   -- a hub that lets all senders pass, as the program's does
   pub continued : (h : Hub) (s : List ℕ) (passing : h .scanner .filter .scan ≡ AllowAll) → Continued h s passing
   pub rowed : (h : Hub) (n : ℕ) → Rowed h n
   pub added : (k : ℕ) (c : AdvertisingChannel) (sender : DeviceAddress) (n : ℕ) → Added k c sender n
-  pub stopping : (count first : ℕ) (rest : List ℕ) → Stopping count first rest
+  pub stopping : (h : Hub) (s : List ℕ) → Stopping h s
   pub sample : Sample
   pub just-room : (k : ℕ) → JustRoom k
   pub limit : (ticks : ℕ) → Limit ticks

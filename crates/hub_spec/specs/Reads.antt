@@ -4,7 +4,7 @@
 --   Next h kept t left out n    == a run's next block t, what is left over then, and the n octets that were written, at the front of `out`
 --   Ended h n                   == a run has ended: its hub, and how many octets were written
 --   Ready h buf filled out      == the hub counts as a run does, and there are so many octets and room for their lines
---   BlockTaken h s              (AnyReads.block-taken)  a hub that is ready is never refused; and what a block leaves for the next
+--   BlockTaken h s isEnd        (AnyReads.block-taken)  a hub that is ready is never refused; and what a block leaves for the next
 use mathlib.Core.Path.{_≡_}
 use mathlib.Core.Bool.{Bool, true, false, cond}
 use mathlib.Core.List.{List, [], _∷_, _++_, flatten}
@@ -12,7 +12,7 @@ use Prim.Native.Nat.{ℕ, _+_, _<_, _≤_}
 use lib.ListN.{length, take, drop}
 use lib.Dec.{eqb}
 use Rattle.hub_spec.specs.Line.{lastSize, roomFor}
-use Rattle.hub_spec.specs.Log.{freshHub, linesOf, hubOf, octetsLeft, loggedOf, blockLines, blockOf, lastLine, logOf, isStuck, RunCounts, takenIn, restAfter, linesAfter}
+use Rattle.hub_spec.specs.Log.{freshHub, linesOf, hubOf, octetsLeft, loggedOf, blockLines, blockOf, lastLine, logOf, RunCounts, takenIn, restAfter, linesAfter}
 use Rattle.hub_spec.specs.State.{Hub, Block}
 use Rattle.hub_spec.specs.State as taken
 
@@ -47,7 +47,7 @@ pub record Ended (h : Hub) (n : ℕ) : Type 0 where
 abbrev pub Ready : Hub → List ℕ → ℕ → List ℕ → Type 0
 Ready h buf filled out = RunCounts h × ((filled ≤ length buf) × (roomFor filled + lastSize ≤ length out))
 
--- A hub that is ready is never refused; and what a block leaves for the next.
+-- A hub that is ready is never refused; and what a block leaves for the next. With which octets left over reading stops: `Stopping` (specs/Reported).
 pub record BlockTaken (h : Hub) (s : List ℕ) (isEnd : Bool) : Type 0 where
   pub accepted : (buf : List ℕ) (filled : ℕ) (out : List ℕ) → Ready h buf filled out → takenIn h buf filled isEnd out ≡ taken.block (blockOf h (take filled buf) isEnd)
   -- else it is refused, and both buffers keep their octets
@@ -68,9 +68,5 @@ pub record BlockTaken (h : Hub) (s : List ℕ) (isEnd : Bool) : Type 0 where
   pub counted : RunCounts h → RunCounts (blockOf h s isEnd .hub)
   pub room : blockOf h s isEnd .written ≤ roomFor (length s) + lastSize
   pub kept : blockOf h s isEnd .kept ≤ length s
-  -- reading stops at the end of the input, and as soon as nothing that may follow makes an item of what is left over: `Stopping` (specs/Reported) says
-  -- when that is
-  pub at-end : blockOf h s true .«is_stopped» ≡ true
-  pub stops : blockOf h s false .«is_stopped» ≡ isStuck (blockOf h s false .hub .items) (octetsLeft h s)
   -- fewer octets than the longest item has, so that a longer buffer always has room for a read
   pub short : blockOf h s isEnd .«is_stopped» ≡ false → blockOf h s isEnd .kept < 66

@@ -9,7 +9,7 @@
 --   Continued h s passing       == the lines and counts of octets s that a hub h takes in which lets all senders pass (Reported.continued)
 --   Rowed h n                   == the lines by themselves, and that the last line's numbers fit (Reported.rowed)
 --   Added k c sender n          == where the channel stands in a report's line, and that nothing else changes (Reported.added)
---   Stopping count first rest   == which octets left over stop reading (Reported.stopping)
+--   Stopping h s                == with which octets left over a block says that reading stops (Reported.stopping)
 use mathlib.Core.Path.{_≡_}
 use mathlib.Core.Logic.{_⊎_}
 use mathlib.Core.Bool.{true, false}
@@ -36,7 +36,7 @@ use Rattle.columns.specs.Column.{column}
 use Rattle.columns.specs.Row.{rowOf, readRow, Fits}
 use Rattle.items.specs.Item.{items}
 use Rattle.hub_spec.specs.Line.{reportLine, bareLine, lineSize}
-use Rattle.hub_spec.specs.Log.{mostItems, itemsFor, linesOf, hubOf, lastLine, logOf, isStuck, RunCounts}
+use Rattle.hub_spec.specs.Log.{mostItems, itemsFor, linesOf, hubOf, octetsLeft, lastLine, blockOf, logOf, RunCounts}
 use Rattle.hub_spec.specs.State.{Hub}
 
 -- "A report prints item number (6 columns, from 1), kind (2), six octets in order (4 each), records (3)", and the channel, "3 columns right-justified,
@@ -129,8 +129,12 @@ pub record Added (k : ℕ) (c : AdvertisingChannel) (sender : DeviceAddress) (n 
   pub nothing-else : take 6 (reportLine k c sender n) ++ drop 9 (reportLine k c sender n) ≡ bareLine k sender n
 
 -- Reading stops, whatever follows, "beyond 999,999" and at "another first octet"; an item that is cut short may still be made whole.
-pub record Stopping (count first : ℕ) (rest : List ℕ) : Type 0 where
-  pub beyond : 999999 ≤ count → isStuck count (first ∷ rest) ≡ true
-  pub another : (first ≡ 0x00 → ⊥) → (first ≡ 0x01 → ⊥) → (first ≡ 0x02 → ⊥) → isStuck count (first ∷ rest) ≡ true
-  pub cut-short : count < 999999 → (first ≡ 0x00) ⊎ ((first ≡ 0x01) ⊎ (first ≡ 0x02)) → isStuck count (first ∷ rest) ≡ false
-  pub none-left : isStuck count [] ≡ false
+-- At the end of the input it stops always.
+pub record Stopping (h : Hub) (s : List ℕ) : Type 0 where
+  pub at-end : blockOf h s true .«is_stopped» ≡ true
+  pub beyond : (first : ℕ) (rest : List ℕ) → octetsLeft h s ≡ first ∷ rest → 999999 ≤ hubOf h s .items → blockOf h s false .«is_stopped» ≡ true
+  pub another : (first : ℕ) (rest : List ℕ) → octetsLeft h s ≡ first ∷ rest → (first ≡ 0x00 → ⊥) → (first ≡ 0x01 → ⊥) → (first ≡ 0x02 → ⊥)
+      → blockOf h s false .«is_stopped» ≡ true
+  pub cut-short : (first : ℕ) (rest : List ℕ) → octetsLeft h s ≡ first ∷ rest → hubOf h s .items < 999999 → (first ≡ 0x00) ⊎ ((first ≡ 0x01) ⊎ (first ≡ 0x02))
+      → blockOf h s false .«is_stopped» ≡ false
+  pub none-left : octetsLeft h s ≡ [] → blockOf h s false .«is_stopped» ≡ false
