@@ -1,3 +1,4 @@
 pub mod Got
 pub mod Given
 pub mod Packet
+pub mod Laws

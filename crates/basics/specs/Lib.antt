@@ -1,6 +1,7 @@
 pub mod Areas
 pub mod At
 pub mod Filters
+pub mod Laws
 pub mod Leaves
 pub mod Names
 pub mod Reads
