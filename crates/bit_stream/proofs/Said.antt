@@ -1,6 +1,9 @@
--- The worked values hold of the definitions. Computed. Assumes nothing.
+-- The worked values and the law hold of the definition. Computed. Assumes nothing.
 use mathlib.Core.Path.{refl}
-use Rattle.bit_stream.specs.Said.{Examples}
+use Rattle.bit_stream.specs.Said.{Examples, Says}
 
 pub examples : Examples
 examples = record { told = refl; refused = refl }
+
+pub says : Says
+says = record { is = λ good. refl; is-refused = λ e. refl }

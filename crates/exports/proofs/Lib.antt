@@ -1,2 +1,4 @@
 pub mod Replays
 pub mod Entries
+pub mod Laws
+pub mod Runs

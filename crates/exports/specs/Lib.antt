@@ -2,3 +2,4 @@ pub mod Packets
 pub mod Air
 pub mod Lists
 pub mod Scans
+pub mod Laws
