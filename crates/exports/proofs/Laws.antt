@@ -5,7 +5,7 @@ use mathlib.Core.Path.{_≡_, refl}
 use Prim.Native.Nat.{ℕ, _+_}
 use native.Mathlib.Omega.{arith}
 use borrow.Author.Tests.{le-leb, lt-leb, ne-eqb}
-use lib.ListN.{length}
+use lib.ListN.{length, getD}
 use Rattle.addresses.specs.declared.device_address.DeviceAddress.{DeviceAddress}
 use Rattle.addresses.specs.declared.header.Header.{Header}
 use Rattle.beacon_spec.specs.Scanner.{scanned}
@@ -15,7 +15,7 @@ use Rattle.exports.specs.Air.{scannerWith}
 use Rattle.exports.specs.Lists.{callIn, Board, calledBy, stepOf}
 use Rattle.exports.specs.Packets.{builtAs}
 use Rattle.exports.specs.Scans.{entryAfter, entrySaid}
-use Rattle.exports.specs.Laws.{Heads, Builds, Sends, Updates, Hears, drawn, Drawn, Calls, Entries, Buffers, Lends, Says}
+use Rattle.exports.specs.Laws.{Heads, Builds, Sends, Updates, Hears, drawn, Drawn, Calls, Entries, Short, Buffers, Lends, Says}
 
 pub heads : (h : Header) (tx rx : Bool) (n : ℕ) → Heads h tx rx n
 heads h tx rx n =
@@ -113,6 +113,22 @@ entries crc buffer n t₀ t₁ t₂ t₃ i₀ i₁ i₂ i₃ h₀ h₁ s list x 
       after-0 = refl;
       after-1 = refl;
       after-packet = λ kind more. rw (ne-eqb kind 0 (λ e. omega arith), ne-eqb kind 1 (λ e. omega arith));
+    }
+
+pub short : (tx list : List ℕ) (x : BeaconScanner) → Short tx list x
+unfolding callIn entryAfter entrySaid
+short tx list x =
+    record {
+      no-time = refl;
+      no-interval = refl;
+      no-header = λ c few. rw (lt-leb 14 (length c) few);
+      no-octets = λ c few. rw (lt-leb (14 + getD c 3 0) (length c) few);
+      no-buffer = refl;
+      no-call = refl;
+      no-packet = refl;
+      no-entry = refl;
+      after-none = refl;
+      nothing-heard = refl;
     }
 
 pub buffers : (d : State) (out : List ℕ) → Buffers d out

@@ -10,6 +10,7 @@
 --   Drawn .. s kind                    (Laws.drawn-is)       what these octets say, field by field
 --   Calls .. s tx                      (Laws.calls)          the call that they make, by its kind
 --   Entries .. s list x                (Laws.entries)        what they make of a scanner, by their kind
+--   Short tx list x                    (Laws.short)          octets that a call or an entry lacks are 0, and a header that it lacks is 0
 --   Buffers d out                      (Laws.buffers)        the transmit buffer after a call
 --   Lends c s                          (Laws.lends)          the buffer that a call is lent; the other is kept
 --   CallByCall own calls more a b n    (Runs.call-by-call)   a list of calls, one after the other, from a fresh device on
@@ -174,6 +175,18 @@ module _ (crc buffer n t₀ t₁ t₂ t₃ i₀ i₁ i₂ i₃ h₀ h₁ : ℕ) 
     pub after-0 : entryAfter (drawn 0) x ≡ configured x (record { 0 = timeIn (drawn 0) }) (intervalIn (drawn 0)) .scanner
     pub after-1 : entryAfter (drawn 1) x ≡ timerUpdated x (record { 0 = timeIn (drawn 1) }) .scanner
     pub after-packet : (kind : ℕ) → 1 < kind → entryAfter (drawn kind) x ≡ x
+
+pub record Short (tx list : List ℕ) (x : BeaconScanner) : Type 0 where
+  pub no-time : timeIn [] ≡ 0
+  pub no-interval : intervalIn [] ≡ 0
+  pub no-header : (c : List ℕ) → length c < 14 → callHeader c ≡ headerOf 0
+  pub no-octets : (c : List ℕ) → length c < 14 + getD c 3 0 → octetsIn c ≡ []
+  pub no-buffer : usesSecond [] ≡ false
+  pub no-call : callIn [] tx ≡ start (instant 0) 0 [] tx
+  pub no-packet : callIn (2 ∷ []) tx ≡ packet (instant 0) (headerOf 0) [] false tx
+  pub no-entry : entrySaid [] list x ≡ listenSaid (configured x (record { 0 = 0 }) 0)
+  pub after-none : entryAfter [] x ≡ configured x (record { 0 = 0 }) 0 .scanner
+  pub nothing-heard : entrySaid (2 ∷ []) list x ≡ hearSaid (scanned x (headerOf 0) [] false list)
 
 pub record Buffers (d : State) (out : List ℕ) : Type 0 where
   pub after-start : (t : Instant) (i : ℕ) (records tx : List ℕ) → bufferAfter d (start t i records tx) out ≡ startAfter d records tx
