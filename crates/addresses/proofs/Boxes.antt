@@ -10,7 +10,7 @@ use lib.ListN.{getD}
 use lib.Dec.{eqb}
 use borrow.Author.Tests.{eqb-true, ne-eqb, lt-ltb, le-ltb}
 use Rattle.addresses.specs.Header.{headerOf, typeCode, pduType, isBeacon, allowsAdvData}
-use Rattle.addresses.specs.Laws.{boxes, OwnBits, figure, HeaderFigure, Codes, Types}
+use Rattle.addresses.specs.Laws.{boxes, OwnBits, figure, HeaderFigure, TypeCodes, Types}
 use Rattle.addresses.specs.declared.header.Header.{Header}
 use Rattle.addresses.specs.declared.header.HeaderMade.the-variants as made
 use Rattle.addresses.specs.declared.header.PduType.{PduType}
@@ -78,7 +78,7 @@ line n k ty rest is later = go (eqb n k) refl
     go true e = is ∙ sym (eqb-true n k e)
     go false e = later
 
-pub codes : Codes
+pub codes : TypeCodes
 unfolding pduType
 codes =
     record {

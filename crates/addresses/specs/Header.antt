@@ -1,13 +1,13 @@
 -- The header of an advertising channel PDU (the Core, Vol 6 Part B, 2.3; document 01, advertising.rs), least significant bit first.
 --
 --     | PDU type | reserved | TxAdd   | RxAdd   | length   | reserved  |
---     | bits 0-3 | bits 4-5 | bit 6   | bit 7   | bits 8-13| bits 14-15|
+--     | headerBits 0-3 | headerBits 4-5 | bit 6   | bit 7   | headerBits 8-13| headerBits 14-15|
 --
 --   headerOf n                                == the header of the 16 bits n
 --   typeCode ty, pduType n                    == the code of a type (the Core's table of PDU types), and the type of a code
 --   newHeader ty                              == the header of a type alone
 --   isBeacon ty, allowsAdvData ty             == the type is that of a beacon; it is one with records
---   bits b w h                                == the w bits of a header from bit b on
+--   headerBits b w h                          == the w bits of a header from bit b on
 --   setBits b w v h                           == the header with v in their place
 --   typeOf h, txAdd h, rxAdd h, lengthOf h    == what the header says: its type, TxAdd, RxAdd and length
 --   setTxAdd v h, setRxAdd v h, setLength n h == the header with another TxAdd, RxAdd or length, and nothing else changed
@@ -82,23 +82,23 @@ allowsAdvData ScanReq = false
 allowsAdvData ConnectReq = false
 allowsAdvData (Unknown n) = false
 
-abbrev pub bits : ℕ → ℕ → Header → ℕ
-bits b w h = h .0 / 2 ^ b % 2 ^ w
+abbrev pub headerBits : ℕ → ℕ → Header → ℕ
+headerBits b w h = h .0 / 2 ^ b % 2 ^ w
 
 abbrev pub setBits : ℕ → ℕ → ℕ → Header → Header
-setBits b w v h = headerOf (h .0 - 2 ^ b * bits b w h + 2 ^ b * v)
+setBits b w v h = headerOf (h .0 - 2 ^ b * headerBits b w h + 2 ^ b * v)
 
 abbrev pub typeOf : Header → PduType
-typeOf h = pduType (bits 0 4 h)
+typeOf h = pduType (headerBits 0 4 h)
 
 abbrev pub txAdd : Header → Bool
-txAdd h = eqb (bits 6 1 h) 1
+txAdd h = eqb (headerBits 6 1 h) 1
 
 abbrev pub rxAdd : Header → Bool
-rxAdd h = eqb (bits 7 1 h) 1
+rxAdd h = eqb (headerBits 7 1 h) 1
 
 abbrev pub lengthOf : Header → ℕ
-lengthOf h = bits 8 6 h
+lengthOf h = headerBits 8 6 h
 
 abbrev pub setTxAdd : Bool → Header → Header
 setTxAdd v h = setBits 6 1 (cond v 1 0) h

@@ -5,11 +5,11 @@
 --   HeldTo f list a answer          == the answer that the filter f, with its list, has for the address a: let pass exactly if f accepts all or some entry is equal
 --   Policies scan connect list a    (Entries.policies)    which filter each request is held to, and that the other has no say
 --   boxes h                         == the boxes of the figure of a header, in order
---   OwnBits h                       (Boxes.own-bits)      the setters of a header of 16 bits
+--   OwnBits h                       (Boxes.own-bits)      the setters of a header of 16 headerBits
 --   figure ty low tx rx n top       == the header that has these in the boxes of the figure
 --   HeaderFigure ty low tx rx n top (Boxes.figures)       the figure of a header, read and set box by box
 --   HeaderReading s at              (Headers.reading)     two octets as a header; 4 and 1
---   Codes                           (Boxes.codes)         the types of document 01 by their codes
+--   TypeCodes                       (Boxes.codes)         the types of document 01 by their codes
 --   Types n                         (Boxes.types)         which codes are beacons and which have records
 --   Holds                           (Holding.holds)       all of these, with what they assume, and worked values
 use mathlib.Core.Bool.{Bool, true, false, cond, _||_}
@@ -24,7 +24,7 @@ use Rattle.octets.specs.declared.error.Error.the-variants.{Eof, InvalidValue, S
 use Rattle.addresses.specs.Address.{kindNumber, sameAddress}
 use Rattle.addresses.specs.Examples.{Examples}
 use Rattle.addresses.specs.Filter.{isList, matchesOf, advFilterOf, mayScan, mayConnect, shouldScan}
-use Rattle.addresses.specs.Header.{headerOf, newHeader, headerOctets, typeCode, pduType, isBeacon, allowsAdvData, bits, typeOf, txAdd, rxAdd, lengthOf, setTxAdd, setRxAdd, setLength, parsed, headerAt, lengthSet}
+use Rattle.addresses.specs.Header.{headerOf, newHeader, headerOctets, typeCode, pduType, isBeacon, allowsAdvData, headerBits, typeOf, txAdd, rxAdd, lengthOf, setTxAdd, setRxAdd, setLength, parsed, headerAt, lengthSet}
 use Rattle.addresses.specs.declared.device_address.DeviceAddress.{DeviceAddress}
 use Rattle.addresses.specs.declared.filter.AddressFilter.{AddressFilter}
 use Rattle.addresses.specs.declared.filter.AddressFilter.the-variants.{AllowAll, Whitelist}
@@ -77,7 +77,7 @@ pub record Policies (scan connect : AddressFilter) (list : List ℕ) (a : Device
 
 -- the boxes of a header's figure: type, reserved, TxAdd, RxAdd, length, reserved
 abbrev pub boxes : Header → List ℕ
-boxes h = bits 0 4 h ∷ bits 4 2 h ∷ bits 6 1 h ∷ bits 7 1 h ∷ bits 8 6 h ∷ bits 14 2 h ∷ []
+boxes h = headerBits 0 4 h ∷ headerBits 4 2 h ∷ headerBits 6 1 h ∷ headerBits 7 1 h ∷ headerBits 8 6 h ∷ headerBits 14 2 h ∷ []
 
 -- Each setter changes its own box only, and the boxes are all of a header.
 pub record OwnBits (h : Header) : Type 0 where
@@ -115,7 +115,7 @@ pub record HeaderReading (s : List ℕ) (at : ℕ) : Type 0 where
 
 -- Document 01: 0 ADV_IND, 1 ADV_DIRECT_IND, 2 ADV_NONCONN_IND, 3 SCAN_REQ, 4 SCAN_RSP, 5 CONNECT_IND, 6 ADV_SCAN_IND; other codes have no
 -- name. The code of the type of any code is that code.
-pub record Codes : Type 0 where
+pub record TypeCodes : Type 0 where
   pub code-0 : pduType 0 ≡ AdvInd
   pub code-1 : pduType 1 ≡ AdvDirectInd
   pub code-2 : pduType 2 ≡ AdvNonconnInd
@@ -142,6 +142,6 @@ pub record Holds : Type 0 where
   pub own-bits : (h : Header) → h .0 < 2 ^ 16 → OwnBits h
   pub figures : (ty low n top : ℕ) (tx rx : Bool) → ty < 16 → low < 4 → n < 64 → HeaderFigure ty low tx rx n top
   pub reading : (s : List ℕ) (at : ℕ) → HeaderReading s at
-  pub codes : Codes
+  pub codes : TypeCodes
   pub types : (n : ℕ) → Types n
   pub examples : Examples

@@ -25,7 +25,7 @@ use Rattle.addresses.specs.declared.header.Header.{Header}
 use Rattle.addresses.specs.declared.header.PduType.{PduType}
 use Rattle.addresses.specs.declared.header.PduType.the-variants.{AdvInd, AdvDirectInd, AdvNonconnInd, AdvScanInd, ScanReq, ScanRsp, ConnectReq, Unknown}
 use Rattle.advertising.proofs.Accepting.{arm-undirected}
-use Rattle.advertising.specs.Padded.{Heard, Alike, PaddedRows}
+use Rattle.advertising.specs.Padded.{Heard, Alike, DecodedRows}
 use Rattle.advertising.specs.Pdu.{Reading, senderOf, noAddress, noRequest, noData, dataIn, decodedAs, refusedPdu, withArea, undirected, directed, connectRequest, byType, decodeBy, decodeOf, hasArea, asHub, heardOf, octetsTaken, paddedOf}
 use Rattle.advertising.specs.declared.pdu.AdvData.{AdvData}
 use Rattle.advertising.specs.declared.pdu.Decoded.{Decoded}
@@ -173,6 +173,6 @@ module _ (h : Header) (p : List ℕ) where
           let z : _≡_ {A = ℕ} 0 1 = cc in absurd (omega arith)
       refuses e true there (padded.Refused k) is refusal = same-area asHub readArea (ap areaIn is ∙ sym (differs (drop 6 p) .refuses k is))
 
-pub rows : PaddedRows
+pub rows : DecodedRows
 unfolding decodeBy byType undirected directed withArea pduType readPadded endedBy isZeros unpadded beforeZero areaIn flatten readArea areaOf reads withFirst cut first recordRead dataRead flagsRead upTo named
 rows = record { strict = refl; heard = refl; types = refl; short = refl; another = refl }

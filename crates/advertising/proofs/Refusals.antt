@@ -23,7 +23,7 @@ use Rattle.flags.specs.Flags.{named}
 use Rattle.records_spec.specs.declared.area.Area.{Area}
 use Rattle.records_spec.specs.declared.area.Area.the-variants as area
 use Rattle.advertising.specs.Pdu.{llDataOf, withArea, undirected, directed, connectRequest, byType, decodeBy, decodeOf}
-use Rattle.advertising.specs.Refusals.{numberFor, needed, Order, FromBytes, Rows}
+use Rattle.advertising.specs.Refusals.{numberFor, needed, Order, FromBytes, RefusalRows}
 use Rattle.advertising.specs.declared.pdu.Decoded.{Decoded}
 use Rattle.advertising.proofs.Accepting.{arm-undirected}
 
@@ -138,7 +138,7 @@ from-bytes s =
           (ap (λ (k : ℕ). decodeOf (headerOf k) payload) value);
     }
 
-pub rows : Rows
+pub rows : RefusalRows
 unfolding decodeBy byType undirected directed connectRequest withArea llDataOf pduType readArea areaOf reads withFirst cut first recordRead dataRead flagsRead upTo named
 rows =
     record {

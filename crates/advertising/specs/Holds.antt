@@ -7,9 +7,9 @@ use denote.Ref.{RefT}
 use Rattle.addresses.specs.declared.device_address.DeviceAddress.{DeviceAddress}
 use Rattle.addresses.specs.declared.header.Header.{Header}
 use Rattle.advertising.specs.Builders.{Builders, Directed, Writing, Examples}
-use Rattle.advertising.specs.Laws.{Accepting, AcceptingHeard, Building, Example, Accuracies, WindowEnd, RecordArea, RecordAreaHeard}
-use Rattle.advertising.specs.Padded.{Heard, Alike, PaddedRows}
-use Rattle.advertising.specs.Refusals.{Order, FromBytes, Rows}
+use Rattle.advertising.specs.Laws.{Accepting, AcceptingHeard, Building, RequestExample, Accuracies, WindowEnd, RecordArea, RecordAreaHeard}
+use Rattle.advertising.specs.Padded.{Heard, Alike, DecodedRows}
+use Rattle.advertising.specs.Refusals.{Order, FromBytes, RefusalRows}
 use Rattle.advertising.specs.Table.{Table}
 use Rattle.advertising.specs.declared.pdu_buf.PduBuf.{PduBuf}
 
@@ -19,7 +19,7 @@ pub record Holds : Type 0 where
   pub record-area : (h : Header) (p : RefT (List ℕ)) → RecordArea h p
   pub record-area-heard : (h : Header) (p : RefT (List ℕ)) → RecordAreaHeard h p
   pub building : Building
-  pub example : Example
+  pub example : RequestExample
   pub accuracies : Accuracies
   pub window-end : WindowEnd
   pub builders : (a : DeviceAddress) (s : List ℕ) → length (a .bytes) ≡ 6 → Builders a s
@@ -28,8 +28,8 @@ pub record Holds : Type 0 where
   pub examples : Examples
   pub order : (n : ℕ) (p : List ℕ) → Order n p
   pub from-bytes : (s : List ℕ) → FromBytes s
-  pub rows : Rows
+  pub rows : RefusalRows
   pub heard : (h : Header) (p : List ℕ) → Heard h p
   pub alike : (h : Header) (p : List ℕ) → Alike h p
-  pub padded-rows : PaddedRows
+  pub padded-rows : DecodedRows
   pub table : Table

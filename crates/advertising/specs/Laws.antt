@@ -10,7 +10,7 @@
 --   row h0 h1 p                     == what the two octets of a header and a payload decode to
 --   nine                            == the nine octets of document 01's first rows
 --   counted                         == the payload of a connect request: the octets 00 to 21, counted in hexadecimal
---   Example                         (Examples.example)             a connect request, field by field, and what a type lacks
+--   RequestExample                  (Examples.example)             a connect request, field by field, and what a type lacks
 --   worstOf a                       == the worst clock of an accuracy, in ppm
 --   Accuracies                      (Examples.accuracies)          the sleep clock accuracies by their codes
 --   WindowEnd                       (Examples.window-end)          the end of the transmit window
@@ -137,7 +137,7 @@ counted =
     0x00 ∷ 0x01 ∷ 0x02 ∷ 0x03 ∷ 0x04 ∷ 0x05 ∷ 0x06 ∷ 0x07 ∷ 0x08 ∷ 0x09 ∷ 0x0A ∷ 0x0B ∷ 0x0C ∷ 0x0D ∷ 0x0E ∷ 0x0F ∷ 0x10 ∷ 0x11 ∷ 0x12 ∷ 0x13 ∷ 0x14 ∷ 0x15
     ∷ 0x16 ∷ 0x17 ∷ 0x18 ∷ 0x19 ∷ 0x1A ∷ 0x1B ∷ 0x1C ∷ 0x1D ∷ 0x1E ∷ 0x1F ∷ 0x20 ∷ 0x21 ∷ []
 
-pub record Example : Type 0 where
+pub record RequestExample : Type 0 where
   pub connect-request : row 0x85 0x22 counted
       ≡ decodedAs Accepted ConnectReq
       (addressOf (0x00 ∷ 0x01 ∷ 0x02 ∷ 0x03 ∷ 0x04 ∷ 0x05 ∷ []) Public)

@@ -4,7 +4,7 @@
 --   Alike h p         (Padded.alike)  where the two decoders answer alike
 --   strictNumber ty p == the number that the general decoder answers for p and a header of type ty that counts p
 --   heardNumbers ty p == what the hub's decoder answers for them: the number, the octets of the area, the records, and the octets that these took
---   PaddedRows        (Padded.rows)   worked values
+--   DecodedRows       (Padded.rows)   worked values
 use mathlib.Core.Bool.{true, false}
 use mathlib.Core.List.{List, [], _∷_, _++_, map}
 use mathlib.Core.Path.{_≡_}
@@ -57,7 +57,7 @@ heardNumbers ty p =
     let x = paddedOf (headerOf (ty + 256 * length p)) p in
     outcomeNumber (x .decoded .outcome) ∷ x .decoded .pdu .«adv_data» .len ∷ x .decoded .pdu .«adv_data» .count ∷ x .taken ∷ []
 
-pub record PaddedRows : Type 0 where
+pub record DecodedRows : Type 0 where
   -- document 01's row and zeros after it, none, one and as many as there is room for
   pub strict : map (λ (n : ℕ). strictNumber 2 (nine ++ replicate n 0)) (0 ∷ 1 ∷ 28 ∷ []) ≡ 0 ∷ 2 ∷ 2 ∷ []
   pub heard : map (λ (n : ℕ). heardNumbers 2 (nine ++ replicate n 0)) (0 ∷ 1 ∷ 28 ∷ [])

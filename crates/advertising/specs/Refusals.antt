@@ -5,8 +5,8 @@
 --   pduFrom s at    == what is read of header and payload in one slice, from position `at` on
 --   FromBytes s     (Refusals.from-bytes)  that, by the octets of s
 --   zeros ty k      == the number for a header of type ty that counts k octets, all zero
---   numberFrom s at == the number of what is read from position `at` on
---   Rows            (Refusals.rows)        worked values beside each limit, and where two conditions hold at once
+--   refusalFrom s at == the number of what is read from position `at` on
+--   RefusalRows     (Refusals.rows)        worked values beside each limit, and where two conditions hold at once
 use mathlib.Core.List.{List, [], _∷_, _++_, map, List·Mem}
 use mathlib.Core.Path.{_≡_}
 use Prim.Native.Nat.{ℕ, _+_, _*_, _/_, _%_, _≤_, _<_}
@@ -57,11 +57,11 @@ abbrev pub zeros : ℕ → ℕ → ℕ
 zeros ty k = numberFor (ty + 256 * k) (replicate k 0)
 
 -- the number of what is read from position `at` on
-abbrev pub numberFrom : List ℕ → ℕ → ℕ
-numberFrom s at = outcomeNumber (pduFrom s at .outcome)
+abbrev pub refusalFrom : List ℕ → ℕ → ℕ
+refusalFrom s at = outcomeNumber (pduFrom s at .outcome)
 
 -- Document 01, "Refused calls" and advertising.rs. A zero octet after the address is a record of length 0, so 2.
-pub record Rows : Type 0 where
+pub record RefusalRows : Type 0 where
   pub type-0 : map (zeros 0) (5 ∷ 6 ∷ 7 ∷ []) ≡ 1 ∷ 0 ∷ 2 ∷ []
   pub type-1 : map (zeros 1) (11 ∷ 12 ∷ 13 ∷ []) ≡ 1 ∷ 0 ∷ 0 ∷ []
   pub type-2 : map (zeros 2) (5 ∷ 6 ∷ 7 ∷ []) ≡ 1 ∷ 0 ∷ 2 ∷ []
@@ -82,8 +82,8 @@ pub record Rows : Type 0 where
   -- header bits 4, 5, 14 and 15 decide nothing
   pub reserved : numberFor 0xC630 (replicate 6 0) ≡ 0
   -- header and payload in one slice: none and one octet left, a position past the end, two octets left, more
-  pub one-slice : numberFrom [] 0 ∷ numberFrom (0x42 ∷ []) 0 ∷ numberFrom (0x42 ∷ 0x09 ∷ []) 1 ∷ numberFrom (0x42 ∷ 0x09 ∷ []) 3 ∷ [] ≡ 1 ∷ 1 ∷ 1 ∷ 1 ∷ []
-  pub two-left : numberFrom (0x07 ∷ 0x00 ∷ []) 0 ∷ numberFrom (0xFF ∷ 0x07 ∷ 0x00 ∷ []) 1 ∷ [] ≡ 3 ∷ 3 ∷ []
-  pub behind : numberFrom (0xFF ∷ 0x42 ∷ 0x09 ∷ nine) 1 ≡ 0
+  pub one-slice : refusalFrom [] 0 ∷ refusalFrom (0x42 ∷ []) 0 ∷ refusalFrom (0x42 ∷ 0x09 ∷ []) 1 ∷ refusalFrom (0x42 ∷ 0x09 ∷ []) 3 ∷ [] ≡ 1 ∷ 1 ∷ 1 ∷ 1 ∷ []
+  pub two-left : refusalFrom (0x07 ∷ 0x00 ∷ []) 0 ∷ refusalFrom (0xFF ∷ 0x07 ∷ 0x00 ∷ []) 1 ∷ [] ≡ 3 ∷ 3 ∷ []
+  pub behind : refusalFrom (0xFF ∷ 0x42 ∷ 0x09 ∷ nine) 1 ≡ 0
   -- the numbers of the three refusals, and of none
   pub numbers : map outcomeNumber (Accepted ∷ Refused Eof ∷ Refused InvalidLength ∷ Refused InvalidValue ∷ []) ≡ 0 ∷ 1 ∷ 2 ∷ 3 ∷ []

@@ -9,9 +9,9 @@ use Rattle.records_spec.specs.declared.ad_structure.AdStructure.the-variants as
 use Rattle.advertising.specs.declared.pdu.Decoded.{Decoded}
 use Rattle.answers.specs.Given.{structureIn}
 use Rattle.answers.specs.Packet.{packetSaid}
-use Rattle.answers.specs.Laws.{Numbers, Kinds, Passing, Packets, Accuracies}
+use Rattle.answers.specs.Laws.{NumbersGot, Kinds, Passing, Packets, AccuracyCodes}
 
-pub numbers : Numbers
+pub numbers : NumbersGot
 numbers = record { two = λ a b. refl; not-found = λ e. refl; wrote = λ to. refl; not-written = λ e. refl; passed = λ to. refl; not-passed = λ e. refl }
 
 pub kinds : (complete : Bool) (value start len : ℕ) → Kinds complete value start len
@@ -72,5 +72,5 @@ packets d =
       sca-is = refl;
     }
 
-pub accuracies : Accuracies
+pub accuracies : AccuracyCodes
 accuracies = record { in-order = refl }

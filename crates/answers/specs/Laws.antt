@@ -1,9 +1,9 @@
 -- What becomes of each number, written out over all values: no number is dropped, cut or put in the place of another.
---   Numbers                        (Laws.numbers)   up to two numbers, and a refusal's
+--   NumbersGot                     (Laws.numbers)   up to two numbers, and a refusal's
 --   Kinds complete value start len (Laws.kinds)     the record of each kind, and of any other
 --   Passing                        (Laws.passing)   a list that is in use, and one that is not
 --   Packets d                      (Laws.packets)   each field of a PDU that was read
---   Accuracies                     (Laws.accuracies) the Core's codes of the accuracies
+--   AccuracyCodes                  (Laws.accuracies) the Core's codes of the accuracies
 use mathlib.Core.Bool.{Bool, true, false}
 use mathlib.Core.List.{[], _∷_, map}
 use mathlib.Core.Path.{_≡_}
@@ -25,7 +25,7 @@ use Rattle.answers.specs.Got.{found, refusedAs, writtenGot, passedGot}
 use Rattle.answers.specs.Given.{filterFor, structureIn}
 use Rattle.answers.specs.Packet.{accuracyNumber, packetSaid}
 
-pub record Numbers : Type 0 where
+pub record NumbersGot : Type 0 where
   pub two : (a b : ℕ) → found a b ≡ record { number = 0; first = a; second = b }
   pub not-found : (e : Error) → refusedAs e ≡ record { number = numberOf e; first = 0; second = 0 }
   pub wrote : (to : ByteWriter) → writtenGot (written.To to) ≡ record { number = 0; first = to .at; second = 0 }
@@ -75,5 +75,5 @@ pub record Packets (d : Decoded) : Type 0 where
   pub sca-is : packetSaid d .sca ≡ accuracyNumber (d .pdu .lldata .sca)
 
 -- the Core, Vol 6 Part B, 2.3.3.1: 0 for 251 to 500 ppm, up to 7 for 0 to 20
-pub record Accuracies : Type 0 where
+pub record AccuracyCodes : Type 0 where
   pub in-order : map accuracyNumber (Ppm251To500 ∷ Ppm151To250 ∷ Ppm101To150 ∷ Ppm76To100 ∷ Ppm51To75 ∷ Ppm31To50 ∷ Ppm21To30 ∷ Ppm0To20 ∷ []) ≡ 0 ∷ 1 ∷ 2 ∷ 3 ∷ 4 ∷ 5 ∷ 6 ∷ 7 ∷ []

@@ -10,7 +10,7 @@ use Rattle.flags.specs.Flags.{named}
 use Rattle.settings.specs.declared.ConnectionSettings.{ConnectionSettings}
 use Rattle.answers.specs.declared.got.Got.{Got}
 use Rattle.basics.specs.Areas.{structureSaid}
-use Rattle.basics.specs.Laws.{Areas, Structures, Readings, FlagsSay, Names, Taking, Parts, Reads, Headers, Channels, Turns, Filters}
+use Rattle.basics.specs.Laws.{Areas, Structures, Readings, FlagsSay, Names, SettingsSay, PartsGot, Reads, Headers, Channels, CyclesGot, Filters}
 
 pub areas : (at : ℕ) → Areas at
 areas at =
@@ -73,14 +73,14 @@ names =
       name-refused = λ e. refl;
     }
 
-pub taking : (s : ConnectionSettings) → Taking s
+pub taking : (s : ConnectionSettings) → SettingsSay s
 taking s =
     record {
       taken = refl;
       not-taken = λ e. refl;
     }
 
-pub parts : (octets : List ℕ) (g : Got) → Parts octets g
+pub parts : (octets : List ℕ) (g : Got) → PartsGot octets g
 parts octets g =
     record {
       five = refl;
@@ -138,7 +138,7 @@ channels =
       hop-refused = λ e. refl;
     }
 
-pub turns : Turns
+pub turns : CyclesGot
 turns =
     record {
       none-yet = refl;

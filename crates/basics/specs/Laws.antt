@@ -4,12 +4,12 @@
 --   Readings s               (Laws.readings)   those of what was read, and read on
 --   FlagsSay x               (Laws.flags-say)  each answer by its own bit of the octet
 --   Names                    (Laws.names)      a name's place
---   Taking s                 (Laws.taking)     each setting
---   Parts octets g           (Laws.parts)      octets that were read, and the position after them
+--   SettingsSay s            (Laws.taking)     each setting
+--   PartsGot octets g        (Laws.parts)      octets that were read, and the position after them
 --   Reads                    (Laws.reads)      numbers, UUIDs and headers that were read, with the position after them; octets that were written
 --   Headers h out at         (Laws.headers)    a header that is written, or not
 --   Channels                 (Laws.channels)   what there is to say of a channel; the answers of a map
---   Turns                    (Laws.turns)      the advertising channel after so many cycles
+--   CyclesGot                (Laws.turns)      the advertising channel after so many cycles
 --   Filters                  (Laws.filters)    what a filter says
 use mathlib.Core.Bool.{Bool, true, false}
 use mathlib.Core.List.{List, [], _∷_}
@@ -107,7 +107,7 @@ pub record Names : Type 0 where
   pub in-advertisement : (start len : ℕ) → nameSaid (place.InAdvertisement start len) ≡ record { number = 0; in_reply = false; start = start; len = len }
   pub name-refused : (e : Error) → nameSaid (place.Refused e) ≡ record { number = numberOf e; in_reply = false; start = 0; len = 0 }
 
-pub record Taking (s : ConnectionSettings) : Type 0 where
+pub record SettingsSay (s : ConnectionSettings) : Type 0 where
   pub taken : settingsSaid (record { outcome = Accepted; settings = s }) ≡ record {
     number = 0;
     hop = s .hop;
@@ -131,7 +131,7 @@ pub record Taking (s : ConnectionSettings) : Type 0 where
     «win_offset» = 0;
   }
 
-pub record Parts (octets : List ℕ) (g : Got) : Type 0 where
+pub record PartsGot (octets : List ℕ) (g : Got) : Type 0 where
   pub five : fiveSaid octets g ≡ record { number = g .number; octets = octets; next = g .first }
   pub six : sixSaid octets g ≡ record { number = g .number; octets = octets; next = g .first }
   pub sixteen : uuidSaid octets g ≡ record { number = g .number; octets = octets; next = g .first }
@@ -179,7 +179,7 @@ pub record Channels : Type 0 where
   pub hops-to : (unmapped : ℕ) (c : DataChannel) → hopGot (hop.To unmapped c) ≡ record { number = 0; first = unmapped; second = c .index }
   pub hop-refused : (e : Error) → hopGot (hop.Refused e) ≡ record { number = numberOf e; first = 0; second = 0 }
 
-pub record Turns : Type 0 where
+pub record CyclesGot : Type 0 where
   pub none-yet : channelAfter 0 ≡ Channel37
   pub once : channelAfter 1 ≡ Channel38
   pub twice : channelAfter 2 ≡ Channel39

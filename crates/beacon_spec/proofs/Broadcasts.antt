@@ -21,7 +21,7 @@ use Rattle.records_spec.specs.declared.area.Area.the-variants as area
 use Rattle.records_spec.specs.declared.area.PaddedArea.the-variants as padded
 use Rattle.addresses.proofs.Boxes.{codes}
 use Rattle.addresses.specs.Address.{kindOf, isRandom, addressOf}
-use Rattle.addresses.specs.Header.{typeCode, typeOf, txAdd, bits}
+use Rattle.addresses.specs.Header.{typeCode, typeOf, txAdd, headerBits}
 use Rattle.addresses.specs.declared.device_address.DeviceAddress.{DeviceAddress}
 use Rattle.addresses.specs.declared.header.Header.{Header}
 use Rattle.addresses.specs.declared.header.PduType.the-variants.{AdvNonconnInd}
@@ -62,8 +62,8 @@ no-beacon a s =
     }
 
 -- a type that has its name has its code
-code-of : (h : Header) → typeOf h ≡ AdvNonconnInd → bits 0 4 h ≡ 2
-code-of h is = sym (codes .back (bits 0 4 h)) ∙ ap typeCode is
+code-of : (h : Header) → typeOf h ≡ AdvNonconnInd → headerBits 0 4 h ≡ 2
+code-of h is = sym (codes .back (headerBits 0 4 h)) ∙ ap typeCode is
 
 -- what decodes to a beacon's PDU has its type
 type-of : (h : Header) (p : List ℕ) (a : DeviceAddress) (place : AdvData)
@@ -104,7 +104,7 @@ broadcasting a s n six good fits =
 
 -- what can be sent of a beacon: type 2, from the address
 record Sent (a : DeviceAddress) (b : Beacon) : Type 0 where
-  type-2 : bits 0 4 (b .pdu .header) ≡ 2
+  type-2 : headerBits 0 4 (b .pdu .header) ≡ 2
   sender : addressOf (take 6 (payloadOf (b .pdu))) (kindOf (txAdd (b .pdu .header))) ≡ a
 
 sent : (a : DeviceAddress) (s : List ℕ) (n : ℕ) → Broadcasting a s n → Sent a (beaconOf a s .beacon)

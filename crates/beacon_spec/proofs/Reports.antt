@@ -18,7 +18,7 @@ use Rattle.records_spec.specs.declared.area.PaddedArea.the-variants as padded
 use Rattle.addresses.proofs.Entries.{listed}
 use Rattle.addresses.specs.Address.{kindOf, addressOf}
 use Rattle.addresses.specs.Filter.{any, badKind, isList, matchesOf}
-use Rattle.addresses.specs.Header.{bits, pduType, typeOf, txAdd, lengthOf, allowsAdvData}
+use Rattle.addresses.specs.Header.{headerBits, pduType, typeOf, txAdd, lengthOf, allowsAdvData}
 use Rattle.addresses.specs.declared.device_address.DeviceAddress.{DeviceAddress}
 use Rattle.addresses.specs.declared.filter.AddressFilter.{AddressFilter}
 use Rattle.addresses.specs.declared.filter.AddressFilter.the-variants.{AllowAll, Whitelist}
@@ -150,13 +150,13 @@ module _ (s : BeaconScanner) (h : Header) (p : List ℕ) (crcOk : Bool) (list : 
       let type = both-true (isType2 h) (isAccepted (heardOf h p .outcome)) (crc .1) in
       record {
         crc = crc .0;
-        type-2 = eqb-true (bits 0 4 h) 2 (type .0);
+        type-2 = eqb-true (headerBits 0 4 h) 2 (type .0);
         decoding = is-accepted (heardOf h p .outcome) (type .1);
         filter = lets f list (heardOf h p .pdu .sender) (filter .1);
       }
 
   passed : ScannerChecks f h p crcOk list → checked ≡ true
-  passed c = rw (c .crc, eq-eqb (bits 0 4 h) 2 (c .type-2), c .decoding) (lets-passes (c .filter))
+  passed c = rw (c .crc, eq-eqb (headerBits 0 4 h) 2 (c .type-2), c .decoding) (lets-passes (c .filter))
 
   sound : scanned s h p crcOk list .report ≡ report.Beacon → ScannerChecks f h p crcOk list
   sound e = checks (reported (isListFor f list) checked (ap (λ (x : Scanned). x .report) (sym by-cases) ∙ e))
@@ -176,7 +176,7 @@ module _ (s : BeaconScanner) (h : Header) (p : List ℕ) (crcOk : Bool) (list : 
   -- what is said of a reported packet
   module _ (e : scanned s h p crcOk list .report ≡ report.Beacon) where
     its : Says h p (heardOf h p .pdu)
-    its = holds-decoded h p (type-is (bits 0 4 h) (sound e .type-2)) (sound e .decoding)
+    its = holds-decoded h p (type-is (headerBits 0 4 h) (sound e .type-2)) (sound e .decoding)
 
     is : scanned s h p crcOk list ≡ reportOf (s .channel) (paddedOf h p)
     is = complete (sound e)
@@ -217,10 +217,10 @@ module _ (s : BeaconScanner) (h : Header) (p : List ℕ) (crcOk : Bool) (list : 
         sender = λ e. ap (λ (x : Scanned). x .sender) (is e) ∙ its e .sender;
         records = λ e. ap (λ (x : Scanned). dataIn (x .«adv_data») p) (is e) ∙ its e .records;
         number-of-records = λ e.
-            read-heard h p (type-is (bits 0 4 h) (sound e .type-2)) (sound e .decoding)
+            read-heard h p (type-is (headerBits 0 4 h) (sound e .type-2)) (sound e .decoding)
             ∙ ap (λ (x : Scanned). padded.Accepted (x .«adv_data» .count) (x .taken)) (sym (is e));
         heard = λ n taken crc type counts long is passes.
-            let e = heard h p .accepted n taken (ap allowsAdvData (type-is (bits 0 4 h) type)) counts long is in
+            let e = heard h p .accepted n taken (ap allowsAdvData (type-is (headerBits 0 4 h) type)) counts long is in
             let sender = ap (λ (x : Padded). x .decoded .pdu .sender) e in
             complete (record { crc = crc; type-2 = type; decoding = ap (λ (x : Padded). x .decoded .outcome) e; filter = rw sender passes })
             ∙ ap (reportOf (s .channel)) e;
@@ -244,7 +244,7 @@ module _ (h : Header) (p : List ℕ) (crcOk : Bool) (list : List ℕ) where
       record {
         all-pass = λ type ok. ap (λ (x : Scanned). x .report) (complete openScanner h p true list (record { crc = refl; type-2 = type; decoding = ok; filter = laws.all }));
         checked = open-same;
-        decoded = λ c type. rw (eq-eqb (bits 0 4 h) 2 type);
+        decoded = λ c type. rw (eq-eqb (headerBits 0 4 h) 2 type);
       }
 
 pub located : (s : BeaconScanner) (h : Header) (p : RefT (List ℕ)) (crcOk : Bool) (list : List ℕ) → Located s h p crcOk list
@@ -252,7 +252,7 @@ located s h p crcOk list =
     record {
       place = λ e.
           let c = reports s h (now p) crcOk list .sound e in
-          let allows : allowsAdvData (typeOf h) ≡ true = ap allowsAdvData (type-is (bits 0 4 h) (c .type-2)) in
+          let allows : allowsAdvData (typeOf h) ≡ true = ap allowsAdvData (type-is (headerBits 0 4 h) (c .type-2)) in
           ap (λ (x : Scanned). dataPlace (x .«adv_data») p) (complete s h (now p) crcOk list c) ∙ record-area-heard h p .place allows (c .decoding);
     }
 

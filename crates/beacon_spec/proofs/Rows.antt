@@ -9,10 +9,10 @@ use Rattle.records_spec.specs.Area.{cut, reads, withFirst, areaOf, readArea}
 use Rattle.records_spec.specs.HubReading.{beforeZero, unpadded, isZeros, endedBy, readPadded, areaIn}
 use Rattle.records_spec.specs.Record.{first, flagsRead, dataRead, upTo, recordRead}
 use Rattle.flags.specs.Flags.{named}
-use Rattle.beacon_spec.specs.Laws.{run, Row, Examples}
+use Rattle.beacon_spec.specs.Laws.{run, BeaconRow, Examples}
 use Rattle.beacon_spec.specs.Scanner.{scanned}
 
-pub row : Row
+pub row : BeaconRow
 unfolding scanned decodeBy byType undirected withArea pduType readPadded endedBy isZeros unpadded beforeZero areaIn flatten readArea areaOf reads withFirst cut first recordRead dataRead flagsRead upTo named
 row = record { row-42-09 = λ list. refl; records = refl }
 

@@ -13,7 +13,7 @@
 --   NoBeacon a s                         (Broadcasts.no-beacon)     which records make no beacon
 --   Broadcasting a s n                   (Broadcasts.broadcasting)  what is heard of a beacon that was made
 --   Sendable a s                         (Broadcasts.sendable)      what can be sent whatever the records, after a refusal too
---   Row                                  (Rows.row)                 document 01's row
+--   BeaconRow                            (Rows.row)                 document 01's row
 --   listAnswer list                      == what a scanner with a filter answers to that row, with this list
 --   senderEntry, publicEntry, kind2Entry == entries of a list: the row's sender, it as a public address, and one of kind 2
 --   Examples                             (Rows.examples)            worked values
@@ -42,7 +42,7 @@ use Rattle.records_spec.specs.declared.area.Area.the-variants as area
 use Rattle.records_spec.specs.declared.area.PaddedArea.the-variants as padded
 use Rattle.addresses.specs.Address.{kindOf, isRandom, addressOf}
 use Rattle.addresses.specs.Filter.{isList}
-use Rattle.addresses.specs.Header.{headerOf, bits, txAdd, lengthOf}
+use Rattle.addresses.specs.Header.{headerOf, headerBits, txAdd, lengthOf}
 use Rattle.addresses.specs.Laws.{ListEntry}
 use Rattle.addresses.specs.declared.device_address.AddressKind.the-variants.{Random}
 use Rattle.addresses.specs.declared.device_address.DeviceAddress.{DeviceAddress}
@@ -70,7 +70,7 @@ pub data Lets : AddressFilter → List ℕ → DeviceAddress → Type 0 where
 -- Document 01's checks of the scanner: CRC, type 2, decoding, filter. Decoding is the hub's: zeros may follow the records (document 02, Note 3).
 pub record ScannerChecks (f : AddressFilter) (h : Header) (p : List ℕ) (crcOk : Bool) (list : List ℕ) : Type 0 where
   pub crc : crcOk ≡ true
-  pub type-2 : bits 0 4 h ≡ 2
+  pub type-2 : headerBits 0 4 h ≡ 2
   pub decoding : heardOf h p .outcome ≡ outcome.Accepted
   pub filter : Lets f list (heardOf h p .pdu .sender)
 
@@ -92,7 +92,7 @@ pub record Reports (s : BeaconScanner) (h : Header) (p : List ℕ) (crcOk : Bool
   pub number-of-records : scanned s h p crcOk list .report ≡ report.Beacon
       → readPadded (drop 6 p) ≡ padded.Accepted (scanned s h p crcOk list .«adv_data» .count) (scanned s h p crcOk list .taken)
   -- by the octets alone: CRC-good, of type 2, counted by its header, and after an address an area that the hub reads
-  pub heard : (n taken : ℕ) → crcOk ≡ true → bits 0 4 h ≡ 2 → lengthOf h ≡ length p → 6 ≤ length p → readPadded (drop 6 p) ≡ padded.Accepted n taken
+  pub heard : (n taken : ℕ) → crcOk ≡ true → headerBits 0 4 h ≡ 2 → lengthOf h ≡ length p → 6 ≤ length p → readPadded (drop 6 p) ≡ padded.Accepted n taken
       → Lets (s .filter .scan) list (addressOf (take 6 p) (kindOf (txAdd h)))
       → scanned s h p crcOk list
       ≡ record {
@@ -116,11 +116,11 @@ pub record BadList (s : BeaconScanner) (h : Header) (p : List ℕ) (crcOk : Bool
 
 -- A scanner without a filter: "All senders pass", whatever list is lent.
 pub record Unfiltered (h : Header) (p : List ℕ) (crcOk : Bool) (list : List ℕ) : Type 0 where
-  pub all-pass : bits 0 4 h ≡ 2 → heardOf h p .outcome ≡ outcome.Accepted → scanned openScanner h p true list .report ≡ report.Beacon
+  pub all-pass : headerBits 0 4 h ≡ 2 → heardOf h p .outcome ≡ outcome.Accepted → scanned openScanner h p true list .report ≡ report.Beacon
   -- what all checks save the filter find is what any scanner finds that accepts all
   pub checked : (s : BeaconScanner) → s .filter .scan ≡ AllowAll → unfiltered (s .channel) h p crcOk ≡ scanned s h p crcOk list
   -- and of a CRC-good packet of type 2 it is what its decoding says
-  pub decoded : (c : AdvertisingChannel) → bits 0 4 h ≡ 2 → unfiltered c h p true ≡ ofPadded c (paddedOf h p)
+  pub decoded : (c : AdvertisingChannel) → headerBits 0 4 h ≡ 2 → unfiltered c h p true ≡ ofPadded c (paddedOf h p)
 
 -- what call k of a run answers: call 0 configures the scanner, the others are timer updates, each at its time
 unfoldable pub run : BeaconScanner → ℕ → (ℕ → Instant) → ℕ → Updated
@@ -185,12 +185,12 @@ pub record Broadcasting (a : DeviceAddress) (s : List ℕ) (n : ℕ) : Type 0 wh
 pub record Sendable (a : DeviceAddress) (s : List ℕ) : Type 0 where
   -- after a refusal it is the beacon without records
   pub refused : (e : Error) → beaconOf a s .outcome ≡ outcome.Refused e → beaconOf a s .beacon ≡ beaconOf a [] .beacon
-  pub type-2 : length (a .bytes) ≡ 6 → bits 0 4 (beaconOf a s .beacon .pdu .header) ≡ 2
+  pub type-2 : length (a .bytes) ≡ 6 → headerBits 0 4 (beaconOf a s .beacon .pdu .header) ≡ 2
   pub sender : length (a .bytes) ≡ 6
       → addressOf (take 6 (payloadOf (beaconOf a s .beacon .pdu))) (kindOf (txAdd (beaconOf a s .beacon .pdu .header))) ≡ a
 
 -- Document 01's row 42 09, `nine` being its nine octets: CRC-good, it is reported with a random sender and one record.
-pub record Row : Type 0 where
+pub record BeaconRow : Type 0 where
   pub row-42-09 : (list : List ℕ)
       → scanned (scannerOf AllowAll) (headerOf (le (0x42 ∷ 0x09 ∷ []))) nine true list
       ≡ record {
@@ -260,5 +260,5 @@ pub record Holds : Type 0 where
   pub no-beacon : (a : DeviceAddress) (s : List ℕ) → NoBeacon a s
   pub broadcasting : (a : DeviceAddress) (s : List ℕ) (n : ℕ) → length (a .bytes) ≡ 6 → readArea s ≡ area.Accepted n → length s ≤ 31 → Broadcasting a s n
   pub sendable : (a : DeviceAddress) (s : List ℕ) → Sendable a s
-  pub row : Row
+  pub row : BeaconRow
   pub examples : Examples

@@ -24,7 +24,7 @@ use Rattle.octets.specs.declared.time.Instant.{Instant}
 use Rattle.channels.specs.Phy.{firstChannel, cycled}
 use Rattle.channels.specs.declared.phy.AdvertisingChannel.{AdvertisingChannel}
 use Rattle.addresses.specs.Filter.{isList, matchesOf}
-use Rattle.addresses.specs.Header.{bits}
+use Rattle.addresses.specs.Header.{headerBits}
 use Rattle.addresses.specs.declared.device_address.DeviceAddress.{DeviceAddress}
 use Rattle.addresses.specs.declared.filter.AddressFilter.{AddressFilter}
 use Rattle.addresses.specs.declared.filter.AddressFilter.the-variants.{AllowAll, Whitelist}
@@ -69,7 +69,7 @@ abbrev pub passes : AddressFilter → List ℕ → DeviceAddress → Bool
 passes f list a = isPass (matchesOf f list a)
 
 abbrev pub isType2 : Header → Bool
-isType2 h = eqb (bits 0 4 h) 2
+isType2 h = eqb (headerBits 0 4 h) 2
 
 -- "Checks of the scanner: CRC, type 2, decoding, filter."
 abbrev pub isBeaconPacket : Header → List ℕ → Bool → Bool

@@ -1,7 +1,7 @@
 -- The flag as numbers.
 --   flagSaid answer  == the number of a refusal, or 0, and whether the CRC is right
 --   Examples         == worked values, proved as Said.examples
---   Says             (Said.says)  each answer, over all values
+--   FlagSays         (Said.says)  each answer, over all values
 use mathlib.Core.Bool.{Bool, true, false}
 use mathlib.Core.List.{[], _∷_, map}
 use mathlib.Core.Path.{_≡_}
@@ -21,6 +21,6 @@ pub record Examples : Type 0 where
   pub refused : map flagSaid (flag.Refused NoSuchIndex ∷ flag.Refused InvalidLength ∷ flag.Refused Eof ∷ [])
       ≡ (record { number = 10; good = false }) ∷ (record { number = 2; good = false }) ∷ (record { number = 1; good = false }) ∷ []
 
-pub record Says : Type 0 where
+pub record FlagSays : Type 0 where
   pub is : (good : Bool) → flagSaid (flag.Is good) ≡ record { number = 0; good = good }
   pub is-refused : (e : Error) → flagSaid (flag.Refused e) ≡ record { number = numberOf e; good = false }

@@ -15,7 +15,7 @@ use Rattle.exports.specs.Air.{scannerWith}
 use Rattle.exports.specs.Lists.{callIn, Board, calledBy, stepOf}
 use Rattle.exports.specs.Packets.{builtAs}
 use Rattle.exports.specs.Scans.{entryAfter, entrySaid}
-use Rattle.exports.specs.Laws.{Heads, Builds, Sends, Updates, Hears, drawn, Drawn, Calls, Entries, Short, Buffers, Lends, Says}
+use Rattle.exports.specs.Laws.{Heads, BuiltSays, SentSays, Updates, HeardSays, drawn, Drawn, Calls, Entries, Short, Buffers, LentBuffers, CalledSays}
 
 pub heads : (h : Header) (tx rx : Bool) (n : ℕ) → Heads h tx rx n
 heads h tx rx n =
@@ -29,7 +29,7 @@ heads h tx rx n =
       not-parsed = λ e. refl;
     }
 
-pub builds : (a : DeviceAddress) (s : List ℕ) → Builds a s
+pub builds : (a : DeviceAddress) (s : List ℕ) → BuiltSays a s
 unfolding builtAs
 builds a s =
     record {
@@ -43,7 +43,7 @@ builds a s =
       built-is = λ b. refl;
     }
 
-pub sends : (b : Beacon) (tx : List ℕ) → Sends b tx
+pub sends : (b : Beacon) (tx : List ℕ) → SentSays b tx
 sends b tx =
     record {
       transmits = λ h x y z. refl;
@@ -65,7 +65,7 @@ updates filtered t interval =
       got = λ u. refl;
     }
 
-pub hears : (s : BeaconScanner) (h : Header) (p list : List ℕ) (crcOk : Bool) → Hears s h p list crcOk
+pub hears : (s : BeaconScanner) (h : Header) (p list : List ℕ) (crcOk : Bool) → HeardSays s h p list crcOk
 unfolding scanned
 hears s h p list crcOk =
     record {
@@ -142,7 +142,7 @@ buffers d out =
       after-set = λ records. refl;
     }
 
-pub lends : (c : List ℕ) (s : Board) → Lends c s
+pub lends : (c : List ℕ) (s : Board) → LentBuffers c s
 unfolding calledBy stepOf
 lends c s =
     record {
@@ -152,7 +152,7 @@ lends c s =
       first-written = λ e. rw e;
     }
 
-pub says : (adv conn : Bool) → Says adv conn
+pub says : (adv conn : Bool) → CalledSays adv conn
 says adv conn =
     record {
       refused = λ e. refl;

@@ -11,7 +11,7 @@ use Rattle.addresses.specs.declared.header.Header.{Header}
 use Rattle.radio_spec.specs.Calls.{instant}
 use Rattle.radio_spec.specs.Call.{start, tick, packet, event, stop, setScanData}
 use Rattle.radio_spec.specs.State.{State, Step}
-use Rattle.exports.specs.Lists.{timeIn, intervalIn, callHeader, octetsIn, callIn, Board, board, calledBy, stepOf, ran}
+use Rattle.exports.specs.Lists.{timeIn, intervalIn, callHeader, octetsIn, callIn, Board, boardOf, calledBy, stepOf, ran}
 
 module _ (c tx : List ℕ) where
   pub as-start : {t i : ℕ} {o : List ℕ} → getD c 0 0 ≡ 0 → t ≡ timeIn c → i ≡ intervalIn c → o ≡ octetsIn c → start (instant t) i o tx ≡ callIn c tx
@@ -43,12 +43,12 @@ module _ (c tx : List ℕ) where
 pub record Replayed (s : Board) (calls : List ℕ) (n : ℕ) (first second : List ℕ) (device : State) (i : ℕ) : Type 0 where
   pub below : i ≤ n
   pub small : n < 2 ^ 64
-  pub reached : board device first second ≡ ran s calls i
+  pub reached : boardOf device first second ≡ ran s calls i
   pub long-first : length first ≡ length (s .first)
   pub long-second : length second ≡ length (s .second)
 
-pub replays-on : (s : Board) (calls : List ℕ) (i : ℕ) {d : State} {a b : List ℕ} {p : List ℕ} {r : Step} {a′ b′ : List ℕ} → board d a b ≡ ran s calls i → p ≡ partOr 272 calls (272 * i)
-    → r ≡ calledBy p (board d a b) → a′ ≡ stepOf p (board d a b) .first → b′ ≡ stepOf p (board d a b) .second → board (r .state) a′ b′ ≡ ran s calls (i + 1)
+pub replays-on : (s : Board) (calls : List ℕ) (i : ℕ) {d : State} {a b : List ℕ} {p : List ℕ} {r : Step} {a′ b′ : List ℕ} → boardOf d a b ≡ ran s calls i → p ≡ partOr 272 calls (272 * i)
+    → r ≡ calledBy p (boardOf d a b) → a′ ≡ stepOf p (boardOf d a b) .first → b′ ≡ stepOf p (boardOf d a b) .second → boardOf (r .state) a′ b′ ≡ ran s calls (i + 1)
 unfolding ran stepOf
 replays-on s calls i {d} {a} {b} {p} so part r first second =
-    (λ j. board (r j .state) (first j) (second j)) ∙ ap (stepOf p) so ∙ ap (λ (q : List ℕ). stepOf q (ran s calls i)) part ∙ ap (ran s calls) (sym (add-one i))
+    (λ j. boardOf (r j .state) (first j) (second j)) ∙ ap (stepOf p) so ∙ ap (λ (q : List ℕ). stepOf q (ran s calls i)) part ∙ ap (ran s calls) (sym (add-one i))

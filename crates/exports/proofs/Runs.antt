@@ -11,7 +11,7 @@ use Rattle.octets.specs.Bytes.{partOr}
 use Rattle.addresses.specs.declared.device_address.DeviceAddress.{DeviceAddress}
 use Rattle.beacon_spec.specs.State.{BeaconScanner}
 use Rattle.radio_spec.specs.Calls.{fresh}
-use Rattle.exports.specs.Lists.{Board, board, stepOf, ran, ranAll}
+use Rattle.exports.specs.Lists.{Board, boardOf, stepOf, ran, ranAll}
 use Rattle.exports.specs.Scans.{entryAfter, entriesUpTo, entriesAfter}
 use Rattle.exports.specs.Laws.{CallByCall, EntryByEntry}
 
@@ -49,7 +49,7 @@ of-all l n e = omega arith
 pub call-by-call : (own : DeviceAddress) (calls more a b : List ℕ) (n : ℕ) → CallByCall own calls more a b n
 unfolding ran ranAll
 call-by-call own calls more a b n =
-    let s : Board = board (fresh own) a b in
+    let s : Board = boardOf (fresh own) a b in
     record {
       none-yet = refl;
       one-more =

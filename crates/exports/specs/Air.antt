@@ -8,7 +8,7 @@
 --   scannerWith f t i n                       == a scanner with a filter or without, configured at time t with interval i, after up to 3 timer updates then
 --   updatedGot u                              == the channel on which a scanner listens, and its next instant
 --   heardSaid s                               == the numbers of what a scanner says of a packet
---   unreported number channel                 == a number and a channel, and zeros for what would be reported
+--   saysNothing number channel                == a number and a channel, and zeros for what would be reported
 --   unheard e                                 == the number of the refusal e, and zeros
 --   judgedBy r s e                            == the refusal of a filter list where the report r is one, and otherwise the refusal e of a header
 --   headlessOf s list e                       == what a scanner says of a packet whose header was refused with e: a bad filter list is told first
@@ -97,12 +97,12 @@ heardSaid s =
       channel = indexOf (s .channel);
     }
 
-abbrev pub unreported : ℕ → ℕ → Heard
-unreported number channel =
+abbrev pub saysNothing : ℕ → ℕ → Heard
+saysNothing number channel =
     record { number = number; reported = false; random = false; sender = 0 ∷ 0 ∷ 0 ∷ 0 ∷ 0 ∷ 0 ∷ []; start = 0; len = 0; count = 0; taken = 0; channel = channel }
 
 abbrev pub unheard : Error → Heard
-unheard e = unreported (numberOf e) 0
+unheard e = saysNothing (numberOf e) 0
 
 -- "a filter list or name first (3)": without a header the scanner judges its list alone
 abbrev pub judgedBy : Report → Scanned → Error → Heard

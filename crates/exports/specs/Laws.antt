@@ -1,21 +1,21 @@
 -- What becomes of each number and each octet, written out over all values: no number is dropped, cut or put in the place of another.
 --   Heads h tx rx n                    (Laws.heads)          what a header says, and a header that was set, or not
---   Builds a s                         (Laws.builds)         which PDU each builder makes, and its numbers
---   Sends b tx                         (Laws.sends)          what is transmitted of a beacon
+--   BuiltSays a s                      (Laws.builds)         which PDU each builder makes, and its numbers
+--   SentSays b tx                      (Laws.sends)          what is transmitted of a beacon
 --   listener filtered t interval c     == a scanner that listens on a channel
 --   Updates filtered t interval        (Laws.updates)        a scanner after each number of timer updates
 --   silent number channel              == a number and a channel, and no report
---   Hears s h p list crcOk             (Laws.hears)          what a scanner says of a packet, with its next instant; of a packet without a header
+--   HeardSays s h p list crcOk         (Laws.hears)          what a scanner says of a packet, with its next instant; of a packet without a header
 --   drawn .. s kind                    == the octets of a call or an entry, with s after the header
 --   Drawn .. s kind                    (Laws.drawn-is)       what these octets say, field by field
 --   Calls .. s tx                      (Laws.calls)          the call that they make, by its kind
 --   Entries .. s list x                (Laws.entries)        what they make of a scanner, by their kind
 --   Short tx list x                    (Laws.short)          octets that a call or an entry lacks are 0, and a header that it lacks is 0
 --   Buffers d out                      (Laws.buffers)        the transmit buffer after a call
---   Lends c s                          (Laws.lends)          the buffer that a call is lent; the other is kept
+--   LentBuffers c s                    (Laws.lends)          the buffer that a call is lent; the other is kept
 --   CallByCall own calls more a b n    (Runs.call-by-call)   a list of calls, one after the other, from a fresh device on
 --   EntryByEntry s entries more n      (Runs.entry-by-entry) the same of a scanner
---   Says adv conn                      (Laws.says)           the numbers of each answer
+--   CalledSays adv conn                (Laws.says)           the numbers of each answer
 use mathlib.Core.Bool.{Bool, true, false}
 use mathlib.Core.List.{List, [], _∷_, _++_}
 use mathlib.Core.Path.{_≡_}
@@ -74,7 +74,7 @@ pub record Heads (h : Header) (tx rx : Bool) (n : ℕ) : Type 0 where
   pub parsed-set : parsedSet (made.Header h) tx rx n ≡ headSet h tx rx n
   pub not-parsed : (e : Error) → parsedSet (made.Refused e) tx rx n ≡ record { number = numberOf e; first = 0; second = 0 }
 
-pub record Builds (a : DeviceAddress) (s : List ℕ) : Type 0 where
+pub record BuiltSays (a : DeviceAddress) (s : List ℕ) : Type 0 where
   pub which-0 : builtAs 0 a s ≡ builtOf AdvInd a [] s
   pub which-1 : builtAs 1 a s ≡ builtOf AdvInd a flagsRecord s
   pub which-2 : builtAs 2 a s ≡ builtOf AdvNonconnInd a [] s
@@ -84,7 +84,7 @@ pub record Builds (a : DeviceAddress) (s : List ℕ) : Type 0 where
   pub frame-is : (number : ℕ) (pdu : PduBuf) → frameOf number pdu ≡ record { number = number; header = pdu .header .0; payload = pdu .«payload_buf» }
   pub built-is : (b : Built) → builtFrame b ≡ record { number = outcomeNumber (b .outcome); header = b .pdu .header .0; payload = b .pdu .«payload_buf» }
 
-pub record Sends (b : Beacon) (tx : List ℕ) : Type 0 where
+pub record SentSays (b : Beacon) (tx : List ℕ) : Type 0 where
   pub transmits : (h : Header) (x y z : AdvertisingChannel) → broadcastSent (broadcast.Transmit h (record { first = x; second = y; third = z }))
       ≡ record { number = 0; header = h .0; first = indexOf x; second = indexOf y; third = indexOf z }
   pub not-sent : (e : Error) → broadcastSent (broadcast.Refused e) ≡ record { number = numberOf e; header = 0; first = 0; second = 0; third = 0 }
@@ -115,7 +115,7 @@ silent number channel =
     record { number = number; reported = false; random = false; sender = 0 ∷ 0 ∷ 0 ∷ 0 ∷ 0 ∷ 0 ∷ []; start = 0; len = 0; count = 0; taken = 0; channel = channel }
 
 -- without a header, a bad list is 3 all the same, and otherwise the header's refusal is told
-pub record Hears (s : BeaconScanner) (h : Header) (p list : List ℕ) (crcOk : Bool) : Type 0 where
+pub record HeardSays (s : BeaconScanner) (h : Header) (p list : List ℕ) (crcOk : Bool) : Type 0 where
   pub says : (x : Scanned) → heardSaid x ≡ record {
     number = reportNumber (x .report);
     reported = isReport (x .report);
@@ -196,7 +196,7 @@ pub record Buffers (d : State) (out : List ℕ) : Type 0 where
   pub after-stop : bufferAfter d stop out ≡ out
   pub after-set : (records : List ℕ) → bufferAfter d (setScanData records) out ≡ out
 
-pub record Lends (c : List ℕ) (s : Board) : Type 0 where
+pub record LentBuffers (c : List ℕ) (s : Board) : Type 0 where
   pub second-lent : usesSecond c ≡ true → calledBy c s ≡ callOf (s .device) (callIn c (s .second))
   pub second-written : usesSecond c ≡ true → stepOf c s ≡ record { device = calledBy c s .state; first = s .first; second = bufferAfter (s .device) (callIn c (s .second)) (s .second) }
   pub first-lent : usesSecond c ≡ false → calledBy c s ≡ callOf (s .device) (callIn c (s .first))
@@ -214,7 +214,7 @@ pub record EntryByEntry (s : BeaconScanner) (entries more : List ℕ) (n : ℕ) 
   pub cut-off : length entries ≡ 272 * n → length more < 272 → entriesAfter s (entries ++ more) ≡ entriesAfter s entries
 
 -- kinds 0 to 7 in the order of `Answer`
-pub record Says (adv conn : Bool) : Type 0 where
+pub record CalledSays (adv conn : Bool) : Type 0 where
   pub refused : (e : Error) → answerSaid (answer.Refused e) adv conn ≡ record { number = numberOf e; kind = 0; advertising = adv; connected = conn; channel = 0; header = 0; at = 0; «access_address» = 0; «crc_init» = 0 }
   pub sent : (h : Header) (c : AdvertisingChannel) (t : Instant) → answerSaid (answer.Sent h c t) adv conn ≡ record { number = 0; kind = 1; advertising = adv; connected = conn; channel = indexOf c; header = h .0; at = t .0; «access_address» = 0; «crc_init» = 0 }
   pub listen : (c : AdvertisingChannel) → answerSaid (answer.Listen c) adv conn ≡ record { number = 0; kind = 2; advertising = adv; connected = conn; channel = indexOf c; header = 0; at = 0; «access_address» = 0; «crc_init» = 0 }

@@ -3,7 +3,7 @@
 --   timeIn c, intervalIn c, callHeader c, octetsIn c == what the octets c of a call have: its time, interval and header, and its records or payload
 --   callIn c tx                         == the call of 272 octets, lent a transmit buffer
 --   bufferAfter d c tx                  == the transmit buffer after a call
---   Board, board d a b                  == the state of a device and its two transmit buffers
+--   Board, boardOf d a b                == the state of a device and its two transmit buffers
 --   usesSecond c                        == the call of octets c is lent the second buffer
 --   calledBy c s, stepOf c s            == what the call of octets c answers, and the state after it
 --   ran s calls n                       == the state after the first n calls
@@ -67,8 +67,8 @@ pub record Board : Type 0 where
   pub first : List ℕ
   pub second : List ℕ
 
-abbrev pub board : State → List ℕ → List ℕ → Board
-board d a b = record { device = d; first = a; second = b }
+abbrev pub boardOf : State → List ℕ → List ℕ → Board
+boardOf d a b = record { device = d; first = a; second = b }
 
 -- octet 2 of a call says which buffer
 abbrev pub usesSecond : List ℕ → Bool
@@ -90,7 +90,7 @@ ran s calls zero = s
 ran s calls (suc i) = stepOf (partOr 272 calls (272 * i)) (ran s calls i)
 
 unfoldable pub ranAll : DeviceAddress → List ℕ → List ℕ → List ℕ → Board
-ranAll own calls a b = ran (board (fresh own) a b) calls (length calls / 272)
+ranAll own calls a b = ran (boardOf (fresh own) a b) calls (length calls / 272)
 
 abbrev pub saying : ℕ → ℕ → Bool → Bool → ℕ → ℕ → ℕ → ℕ → ℕ → Said
 saying number kind advertising connected channel header at access crc =

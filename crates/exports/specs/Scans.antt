@@ -14,7 +14,7 @@ use Rattle.octets.specs.Bytes.{partOr}
 use Rattle.channels.specs.Phy.{indexOf}
 use Rattle.beacon_spec.specs.Scanner.{configured, timerUpdated, scanned}
 use Rattle.beacon_spec.specs.State.{BeaconScanner, Scanned, Updated}
-use Rattle.exports.specs.Air.{at, heardSaid, unreported}
+use Rattle.exports.specs.Air.{at, heardSaid, saysNothing}
 use Rattle.exports.specs.Lists.{timeIn, intervalIn, callHeader, octetsIn}
 use Rattle.exports.specs.declared.air.Heard.{Heard}
 use Rattle.exports.specs.declared.scans.Listened.{Listened}
@@ -35,7 +35,7 @@ withNext h next =
     }
 
 abbrev pub listenSaid : Updated → Listened
-listenSaid u = withNext (unreported 0 (indexOf (u .cmd .channel))) (u .cmd .«next_update» .0)
+listenSaid u = withNext (saysNothing 0 (indexOf (u .cmd .channel))) (u .cmd .«next_update» .0)
 
 abbrev pub hearSaid : Scanned → Listened
 hearSaid s = withNext (heardSaid s) 0

@@ -6,7 +6,7 @@ ghost use Rattle.beacon.specs.State.{scannerState, updateStep, scanStep};
 ghost use Rattle.beacon_spec.specs.Sending.{beaconOf};
 ghost use Rattle.beacon_spec.specs.Scanner.{timerUpdated};
 ghost use mathlib.Core.Bool.{false};
-ghost use Rattle.exports.specs.Air.{broadcastSent, notSent, beaconSent, beaconAfter, scannerWith, updatedGot, heardSaid, heardFrom, judgedBy, headlessOf, unreported, unheard};
+ghost use Rattle.exports.specs.Air.{broadcastSent, notSent, beaconSent, beaconAfter, scannerWith, updatedGot, heardSaid, heardFrom, judgedBy, headlessOf, saysNothing, unheard};
 use addresses::header::Header;
 use addresses::header::HeaderMade;
 use addresses::header::PduType;
@@ -152,7 +152,7 @@ pub(crate) fn told(scanned: Scanned) -> Heard
 
 // No report: a number and a channel.
 pub(crate) fn unreported(number: u8, channel: u8) -> Heard
-    ensures { λ r. ⌜ r ≡ unreported number channel ⌝ }
+    ensures { λ r. ⌜ r ≡ saysNothing number channel ⌝ }
 {
     Heard {
         number,

@@ -10,7 +10,7 @@ ghost use Rattle.addresses.specs.Address.{kindOf, addressOf};
 ghost use Rattle.addresses.specs.Header.{parsed};
 ghost use Rattle.radio_spec.specs.Call.{callOf};
 ghost use Rattle.radio.specs.State.{state, step};
-ghost use Rattle.exports.specs.Lists.{headerOr, timeIn, intervalIn, callIn, bufferAfter, board, calledBy, stepOf, ranAll, answerSaid, calledSaid};
+ghost use Rattle.exports.specs.Lists.{headerOr, timeIn, intervalIn, callIn, bufferAfter, boardOf, calledBy, stepOf, ranAll, answerSaid, calledSaid};
 use addresses::device_address::DeviceAddress;
 use addresses::header::Header;
 use addresses::header::HeaderMade;
@@ -80,7 +80,7 @@ fn step(device: Device, call: &[u8], tx: &mut [u8]) -> Called
 
 // A call with the buffer that it names.
 fn step_with(device: Device, call: &[u8], first: &mut [u8], second: &mut [u8]) -> Called
-    ensures { λ r. ⌜ (step r ≡ calledBy (now (call .entry)) (board (state device) (now (first .entry)) (now (second .entry)))) × (now (first .exit) ≡ stepOf (now (call .entry)) (board (state device) (now (first .entry)) (now (second .entry))) .first) × (now (second .exit) ≡ stepOf (now (call .entry)) (board (state device) (now (first .entry)) (now (second .entry))) .second) ⌝ }
+    ensures { λ r. ⌜ (step r ≡ calledBy (now (call .entry)) (boardOf (state device) (now (first .entry)) (now (second .entry)))) × (now (first .exit) ≡ stepOf (now (call .entry)) (boardOf (state device) (now (first .entry)) (now (second .entry))) .first) × (now (second .exit) ≡ stepOf (now (call .entry)) (boardOf (state device) (now (first .entry)) (now (second .entry))) .second) ⌝ }
 {
     if octet(call, 2) == 1 {
         step(device, call, second)

@@ -14,7 +14,7 @@ ghost use lib.ListN.{length, take};
 ghost use Rattle.hub.specs.State.{hubState, blockStep};
 ghost use Rattle.hub_spec.specs.Line.{lastSize, roomFor};
 ghost use Rattle.hub_spec.specs.Log.{octetsLeft, blockLines, blockOf, RunCounts};
-ghost use Rattle.hub_spec.specs.Reads.{Next, Ended};
+ghost use Rattle.hub_spec.specs.Reads.{NextBlock, Ended};
 
 // The octets of the longest item, and of the shortest that is reported; of a report's line, and of the last line.
 const LONGEST: usize = 66;
@@ -210,7 +210,7 @@ fn log_block(
 // Reads once, and writes what is to be written then. A read that brings nothing is the end of the input.
 fn log_read(input: i32, output: i32, hub: Hub, kept: usize, buf: &mut [u8], out: &mut [u8]) -> Step
     requires { ⌜ RunCounts (hubState hub) × ((kept < length (now buf)) × (roomFor (length (now buf)) + lastSize ≤ length (now out))) ⌝ }
-    ensures { λ r. ⌜ (r .«is_failed» ≡ false → Next (hubState hub) (take kept (now (buf .entry))) (blockStep (r .block)) (take (r .block .kept) (now (buf .exit))) (now (out .exit)) (r .written)) ⌝ }
+    ensures { λ r. ⌜ (r .«is_failed» ≡ false → NextBlock (hubState hub) (take kept (now (buf .entry))) (blockStep (r .block)) (take (r .block .kept) (now (buf .exit))) (now (out .exit)) (r .written)) ⌝ }
 {
     let read = read_more(input, buf, kept);
     if read.is_failed {

@@ -23,7 +23,7 @@ use Rattle.items.specs.Item.{items, afterItems, IsItem, tick, packet}
 use Rattle.hub_spec.specs.Line.{lineSize}
 use Rattle.hub_spec.specs.Log.{mostItems}
 use Rattle.hub_spec.specs.Reported as spec
-use Rattle.hub_spec.specs.Reported.{reportWidths, lineEach, Prints, Rows}
+use Rattle.hub_spec.specs.Reported.{reportWidths, lineEach, Prints, ReportRows}
 
 -- octets of items
 octets-parts : (a b : List ℕ) → Octets (a ++ b) → Octets a × Octets b
@@ -64,7 +64,7 @@ item-fits k channel item rows (spec.report h0 h1 a b c d e f records n taken is 
     ((omega arith, (omega arith, (omega arith, (omega (arith, sender .0), (omega (arith, sender .1 .0), (omega (arith, sender .1 .1 .0), (omega (arith, sender .1 .1 .1 .0), (omega (arith, sender .1 .1 .1 .1 .0), (omega (arith, sender .1 .1 .1 .1 .1 .0), (omega (arith, few, size), tt)))))))))), tt)
 item-fits k channel item rows (spec.other item′ not-one) number index size octets = tt
 
-pub rows-fit : {k : ℕ} {from : AdvertisingChannel} {before its rows : List (List ℕ)} → Rows k from before its rows → k + length before + length its ≤ mostItems → All IsItem its → Octets (flatten its)
+pub rows-fit : {k : ℕ} {from : AdvertisingChannel} {before its rows : List (List ℕ)} → ReportRows k from before its rows → k + length before + length its ≤ mostItems → All IsItem its → Octets (flatten its)
     → All (Fits reportWidths) rows
 unfolding flatten
 rows-fit (spec.end before) few all octets = tt

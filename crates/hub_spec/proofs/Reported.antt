@@ -18,7 +18,7 @@ use Rattle.channels.specs.declared.phy.AdvertisingChannel.{AdvertisingChannel}
 use Rattle.records_spec.specs.HubReading.{readPadded}
 use Rattle.records_spec.specs.declared.area.PaddedArea.the-variants as padded
 use Rattle.addresses.specs.Address.{kindOf, addressOf}
-use Rattle.addresses.specs.Header.{bits, headerOf, txAdd}
+use Rattle.addresses.specs.Header.{headerBits, headerOf, txAdd}
 use Rattle.addresses.specs.declared.device_address.DeviceAddress.{DeviceAddress}
 use Rattle.addresses.specs.declared.filter.AddressFilter.the-variants.{AllowAll}
 use Rattle.addresses.specs.declared.header.Header.{Header}
@@ -37,7 +37,7 @@ use Rattle.items.specs.Item.{items, afterItems, IsItem, tick, packet}
 use Rattle.hub_spec.specs.Line.{sentColumns, reportLine, line, reportsIn, lineSize}
 use Rattle.hub_spec.specs.Log.{mostItems, start, isCrcGood, heardIn, scannerAfter, afterItem, printed, afterAll, printedAll, leftOver, lastLine, freshHub, itemsFor, logOf, isStuck, hubOf, octetsLeft}
 use Rattle.hub_spec.specs.Reported as spec
-use Rattle.hub_spec.specs.Reported.{reportWidths, lastWidths, lineEach, IsReported, Prints, TickCount, Rows, Reported, Continued, Rowed, Added, Stopping}
+use Rattle.hub_spec.specs.Reported.{reportWidths, lastWidths, lineEach, IsReported, Prints, TickCount, ReportRows, Reported, Continued, Rowed, Added, Stopping}
 use Rattle.hub_spec.specs.State.{Hub}
 use Rattle.hub_spec.proofs.AnyReads.{counted, items-most, block-taken}
 use Rattle.hub_spec.proofs.Fitting.{octets-in, rows-fit, lines-read, lines-size}
@@ -93,7 +93,7 @@ beacon-prints k on first h0 h1 (a ∷ b ∷ c ∷ []) n taken long crc is good =
 beacon-prints k on first h0 h1 (a ∷ b ∷ c ∷ d ∷ []) n taken long crc is good = absurd (omega arith)
 beacon-prints k on first h0 h1 (a ∷ b ∷ c ∷ d ∷ e ∷ []) n taken long crc is good = absurd (omega arith)
 beacon-prints k on first h0 h1 (a ∷ b ∷ c ∷ d ∷ e ∷ f ∷ records) n taken long crc is good =
-    let bit : bits 6 1 (headerOf (h0 + 256 * h1)) ≡ h0 / 64 % 2 = omega arith in
+    let bit : headerBits 6 1 (headerOf (h0 + 256 * h1)) ≡ h0 / 64 % 2 = omega arith in
     record {
       rows = (k ∷ indexOf on ∷ (h0 / 64 % 2) ∷ a ∷ b ∷ c ∷ d ∷ e ∷ f ∷ n ∷ []) ∷ [];
       prints = rw crc (spec.report h0 h1 a b c d e f records n taken is good);
@@ -150,7 +150,7 @@ module _ (s : BeaconScanner) (all-pass : s .filter .scan ≡ AllowAll) (k first 
           let e = is-beacon (heard .report) is-one in
           let said = reports s header p (isCrcGood first) [] in
           let is = is-reported e in
-          let long : 6 ≤ length p = omega (arith, holds-decoded header p (type-is (bits 0 4 header) (said .sound e .type-2)) (said .sound e .decoding) .size) in
+          let long : 6 ≤ length p = omega (arith, holds-decoded header p (type-is (headerBits 0 4 header) (said .sound e .type-2)) (said .sound e .decoding) .size) in
           rw (is-one, said .sender e, same-channel e)
           (beacon-prints k (s .channel) first h0 h1 p (heard .«adv_data» .count) (heard .taken) long (is .0) (is .1) (said .number-of-records e))
       go false e = rw e (prints-none k (indexOf (s .channel)) (first ∷ h0 ∷ h1 ∷ p) (not-reported e))
@@ -212,7 +212,7 @@ heard-more from before s item (packet first h0 h1 payload which long) heard =
 -- many items, after others
 record Told (k : ℕ) (from : AdvertisingChannel) (before : List (List ℕ)) (h : Hub) (its : List (List ℕ)) : Type 0 where
   rows : List (List ℕ)
-  printed-rows : Rows k from before its rows
+  printed-rows : ReportRows k from before its rows
   lines : printedAll h its ≡ lineEach rows
   sum : afterAll h its .reports ≡ h .reports + length rows
   all-pass : afterAll h its .scanner .filter .scan ≡ AllowAll

@@ -6,7 +6,7 @@ use Prim.Native.Nat.{ℕ, _*_, _≤_}
 use native.Mathlib.Omega.{arith}
 use lib.ListN.{length, take, length-take, length-drop}
 use Rattle.octets.specs.Bytes.{part, le}
-use Rattle.addresses.specs.Header.{bits, headerOf}
+use Rattle.addresses.specs.Header.{headerBits, headerOf}
 use Rattle.addresses.specs.declared.device_address.DeviceAddress.{DeviceAddress}
 use Rattle.addresses.specs.declared.header.Header.{Header}
 use Rattle.beacon_spec.proofs.Reports.{holds-decoded, reports, type-is}
@@ -29,7 +29,7 @@ packet-sent : (s : BeaconScanner) (h : Header) (p : List ℕ) (crcOk : Bool) (li
 packet-sent s h p crcOk list e =
     let said = reports s h p crcOk list in
     let checks = said .sound e in
-    (omega (arith, holds-decoded h p (type-is (bits 0 4 h) (checks .type-2)) (checks .decoding) .size), sym (ap (λ (a : DeviceAddress). a .bytes) (said .sender e)))
+    (omega (arith, holds-decoded h p (type-is (headerBits 0 4 h) (checks .type-2)) (checks .decoding) .size), sym (ap (λ (a : DeviceAddress). a .bytes) (said .sender e)))
 
 pub heard-sent : (s : BeaconScanner) (item : List ℕ) → SentIn (heardIn s item) item
 unfolding heardIn

@@ -1,7 +1,7 @@
 -- The log does not depend on the pieces in which the input is read, and a run's blocks are never refused.
 --   writtenFor h kept reads     == what is written for these reads, where `kept` is left over of the octets before
 --   AnyReads                    (AnyReads.any-reads)    however an input is cut into reads, its log is written
---   Next h kept t left out n    == a run's next block t, what is left over then, and the n octets that were written, at the front of `out`
+--   NextBlock h kept t left out n == a run's next block t, what is left over then, and the n octets that were written, at the front of `out`
 --   Ended h n                   == a run has ended: its hub, and how many octets were written
 --   Ready h buf filled out      == the hub counts as a run does, and there are so many octets and room for their lines
 --   BlockTaken h s isEnd        (AnyReads.block-taken)  a hub that is ready is never refused; and what a block leaves for the next
@@ -30,7 +30,7 @@ AnyReads = (reads : List (List ℕ)) → writtenFor freshHub [] reads ≡ logOf 
 
 -- A run's next block, where `kept` was left over of the octets before: it is taken in with what was read, a read that brings nothing being the end of
 -- the input; `left` is left over of all; and just what is to be written stands at the front of `out`, and is as long as what was written.
-pub record Next (h : Hub) (kept : List ℕ) (t : Block) (left out : List ℕ) (n : ℕ) : Type 0 where
+pub record NextBlock (h : Hub) (kept : List ℕ) (t : Block) (left out : List ℕ) (n : ℕ) : Type 0 where
   pub read : List ℕ
   pub block : t ≡ blockOf h (kept ++ read) (eqb (length read) 0)
   pub left-over : left ≡ octetsLeft h (kept ++ read)

@@ -4,7 +4,7 @@
 --   IsReported h0 h1 payload    == a CRC-good packet with this header and payload is reported
 --   Prints k channel item rows  == what item number k prints, heard on this channel: a row of numbers, or none
 --   TickCount its n             == n of the items are ticks
---   Rows k c before its rows    == what items print, each with its number and its channel by the items before it
+--   ReportRows k c before its rows == what items print, each with its number and its channel by the items before it
 --   Reported s                  == the log of the input s (Reported.reported)
 --   Continued h s passing       == the lines and counts of octets s that a hub h takes in which lets all senders pass (Reported.continued)
 --   Rowed h n                   == the lines by themselves, and that the last line's numbers fit (Reported.rowed)
@@ -74,20 +74,20 @@ pub data TickCount : List (List ℕ) → ℕ → Type 0 where
 -- A hub that had counted k items and listened on channel c has heard the items `before` since. The next one has the number after theirs, and the channel
 -- that the cycle gives after as many steps from c as there are ticks among them, whether or not anything was heard ("Readers .. worked out the channel by
 -- counting ticks").
-pub data Rows (k : ℕ) (c : AdvertisingChannel) : List (List ℕ) → List (List ℕ) → List (List ℕ) → Type 0 where
-  end : (before : List (List ℕ)) → Rows k c before [] []
+pub data ReportRows (k : ℕ) (c : AdvertisingChannel) : List (List ℕ) → List (List ℕ) → List (List ℕ) → Type 0 where
+  end : (before : List (List ℕ)) → ReportRows k c before [] []
   next : (before : List (List ℕ)) (item : List ℕ) (its rows more : List (List ℕ)) (ticks : ℕ)
       → TickCount before ticks
       → Prints (k + length before + 1) (indexOf (cycles ticks c)) item rows
-      → Rows k c (before ++ (item ∷ [])) its more
-      → Rows k c before (item ∷ its) (rows ++ more)
+      → ReportRows k c (before ++ (item ∷ [])) its more
+      → ReportRows k c before (item ∷ its) (rows ++ more)
 
 -- A line for each report, in order, and the last line, with "0, or 1 where reading stopped at a broken item (another first octet, or cut short) or
 -- beyond 999,999": where the items are not all the octets. Which octets are items is the law `Falls` of items.
 pub record Reported (s : List ℕ) : Type 0 where
   pub rows : List (List ℕ)
   pub flag : ℕ
-  pub printed : Rows 0 Channel37 [] (items mostItems s) rows
+  pub printed : ReportRows 0 Channel37 [] (items mostItems s) rows
   pub log : logOf s ≡ lineEach rows ++ rowOf lastWidths (length (items mostItems s) ∷ length rows ∷ flag ∷ [])
   pub all-read : flatten (items mostItems s) ≡ s → flag ≡ 0
   pub stopped : (flatten (items mostItems s) ≡ s → ⊥) → flag ≡ 1
@@ -101,7 +101,7 @@ pub record Reported (s : List ℕ) : Type 0 where
 -- A hub that lets all senders pass goes on from its counts and its channel, and still does.
 pub record Continued (h : Hub) (s : List ℕ) (passing : h .scanner .filter .scan ≡ AllowAll) : Type 0 where
   pub rows : List (List ℕ)
-  pub printed : Rows (h .items) (h .scanner .channel) [] (itemsFor h s) rows
+  pub printed : ReportRows (h .items) (h .scanner .channel) [] (itemsFor h s) rows
   pub lines : linesOf h s ≡ lineEach rows
   pub fit : RunCounts h → Octets s → All (Fits reportWidths) rows
   pub item-count : hubOf h s .items ≡ h .items + length (itemsFor h s)

@@ -27,7 +27,7 @@ use Rattle.records_spec.specs.declared.area.Found.the-variants.{At, Nothing}
 use Rattle.records_spec.proofs.HubReads.{hub-reads}
 use Rattle.records_spec.proofs.Search.{searching}
 use Rattle.names_spec.specs.Laws.{Named, completeType, shortenedType, Answers, bad-advertisement, bad-reply, complete-in-reply, complete-in-advertisement, shortened-in-reply, shortened-in-advertisement, no-name, LooksUp, NoNames, Eleven, HandsOn, Hands, AnyPlace, NameRows, PartRows, Holds}
-use Rattle.names_spec.specs.Name.{isName, nameIn, inReply, inAdvertisement, chosen, afterReading, nameOf}
+use Rattle.names_spec.specs.Name.{isName, nameIn, inReply, inAdvertisement, chosen, afterArea, nameOf}
 use Rattle.names_spec.specs.declared.NamePlace.{NamePlace}
 use Rattle.names_spec.specs.declared.NamePlace.the-variants.{Refused}
 
@@ -61,21 +61,21 @@ module _ (a r : List ℕ) where
       pick Nothing tf Nothing tg Nothing th Nothing tk = no-name x y tf tg th tk
 
   found : Answers a r (nameOf a r)
-  unfolding nameOf afterReading
+  unfolding nameOf afterArea
   found = go (readPadded a) refl (readPadded r) refl
     where
-      go : (x : PaddedArea) → readPadded a ≡ x → (y : PaddedArea) → readPadded r ≡ y → Answers a r (afterReading x (afterReading y (chosen (unpadded a) (unpadded r))))
+      go : (x : PaddedArea) → readPadded a ≡ x → (y : PaddedArea) → readPadded r ≡ y → Answers a r (afterArea x (afterArea y (chosen (unpadded a) (unpadded r))))
       go (padded.Refused e) is y also = bad-advertisement e is
       go (padded.Accepted n taken) is (padded.Refused e) also = bad-reply e (record { number = n; taken = taken; accepted = is }) also
       go (padded.Accepted n taken) is (padded.Accepted m more) also = choice (record { number = n; taken = taken; accepted = is }) (record { number = m; taken = more; accepted = also })
 
   -- what is left of the definition where both areas are read
   read-both : IsRead a → IsRead r → nameOf a r ≡ chosen (unpadded a) (unpadded r)
-  unfolding nameOf afterReading
+  unfolding nameOf afterArea
   read-both x y = rw (x .accepted, y .accepted)
 
   only : (p : NamePlace) → Answers a r p → nameOf a r ≡ p
-  unfolding nameOf afterReading chosen inReply inAdvertisement nameIn
+  unfolding nameOf afterArea chosen inReply inAdvertisement nameIn
   only _ (bad-advertisement e is) = rw is
   only _ (bad-reply e x is) = rw (x .accepted, is)
   only _ (complete-in-reply start len x y c) = read-both x y ∙ rw (search r y completeType .first start len c)
@@ -150,7 +150,7 @@ pub any-place : (a r : RefT (List ℕ)) → AnyPlace a r
 any-place a r = record { of-reply = hands r; of-advertisement = hands a; refused = λ e. (refl, refl) }
 
 pub rows : NameRows
-unfolding nameOf afterReading chosen inReply inAdvertisement nameIn searched firstWhere isName rowIn utf8After readPadded endedBy isZeros unpadded beforeZero flatten readArea areaOf reads withFirst cut first recordRead dataRead flagsRead uuidsRead upTo named
+unfolding nameOf afterArea chosen inReply inAdvertisement nameIn searched firstWhere isName rowIn utf8After readPadded endedBy isZeros unpadded beforeZero flatten readArea areaOf reads withFirst cut first recordRead dataRead flagsRead uuidsRead upTo named
 rows =
     record {
       first = refl;
@@ -176,7 +176,7 @@ rows =
     }
 
 pub part-rows : (x : RefT (List ℕ)) → PartRows x
-unfolding nameOf afterReading chosen inReply inAdvertisement nameIn searched firstWhere isName rowIn utf8After readPadded endedBy isZeros unpadded beforeZero flatten readArea areaOf reads withFirst cut first recordRead dataRead flagsRead uuidsRead upTo named
+unfolding nameOf afterArea chosen inReply inAdvertisement nameIn searched firstWhere isName rowIn utf8After readPadded endedBy isZeros unpadded beforeZero flatten readArea areaOf reads withFirst cut first recordRead dataRead flagsRead uuidsRead upTo named
 part-rows x = record { first = refl; second = refl; third = refl; fourth = refl; nothing-in-it = refl; none = refl; bad = refl }
 
 pub holds : Holds

@@ -17,7 +17,7 @@ use Rattle.records_spec.specs.HubReading.{readPadded}
 use Rattle.records_spec.specs.Types.{shortenedNameType, completeNameType}
 use Rattle.records_spec.specs.declared.area.PaddedArea.the-variants as padded
 use Rattle.records_spec.proofs.HubReads.{before, took}
-use Rattle.names_spec.specs.Name.{isName, nameIn, inReply, inAdvertisement, chosen, afterReading, nameOf}
+use Rattle.names_spec.specs.Name.{isName, nameIn, inReply, inAdvertisement, chosen, afterArea, nameOf}
 use Rattle.records_spec.specs.declared.area.Found.the-variants.{At, Nothing}
 use Rattle.names_spec.specs.declared.NamePlace.the-variants.{InReply, InAdvertisement, Refused}
 
@@ -75,13 +75,13 @@ module _ (s : List ℕ) {n taken : ℕ} (is : readPadded s ≡ padded.Accepted n
 
 module _ (a r : List ℕ) where
   pub both-read : {n first m second : ℕ} → readPadded a ≡ padded.Accepted n first → readPadded r ≡ padded.Accepted m second → chosen (take first a) (take second r) ≡ nameOf a r
-  unfolding nameOf afterReading
+  unfolding nameOf afterArea
   both-read is also = sym (rw (is, also, before a _ _ is, before r _ _ also))
 
   pub first-refused : {e : Error} → readPadded a ≡ padded.Refused e → Refused e ≡ nameOf a r
-  unfolding nameOf afterReading
+  unfolding nameOf afterArea
   first-refused is = rw is
 
   pub second-refused : {n first : ℕ} {e : Error} → readPadded a ≡ padded.Accepted n first → readPadded r ≡ padded.Refused e → Refused e ≡ nameOf a r
-  unfolding nameOf afterReading
+  unfolding nameOf afterArea
   second-refused is also = rw (is, also)

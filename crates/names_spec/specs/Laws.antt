@@ -8,17 +8,17 @@
 --   LooksUp a r                 (Names.looks-up)   `nameOf` is that answer, and no other place is
 --   NoNames a r                 == both are read, and no name of either type stands in either
 --   Eleven a r                  (Names.eleven)     11 exactly where this is so
---   HandsOn a r                 (Names.hands-on)   the part handed on is the data of the record that is found, in its own area and place
+--   HandsOn a r                 (Names.hands-on)   the part handedPart on is the data of the record that is found, in its own area and place
 --   Hands s start len from part == what is handed on of s for a place: the octets there, where they lie; none, at its start, where it has fewer
 --   AnyPlace a r                (Names.any-place)  the part that any place names, in any two areas
---   flags                       == a record of Flags
+--   flagsArea                   == a record of Flags
 --   ada, bo, broken, empty ty   == records of type ty: names "Ada" and "Bo", one that is not UTF-8, and an empty one
---   zeros n                     == n zeros
+--   zeroOctets n                == n zeros
 --   cut-short, no-length        == a record that is cut short, and a zero length before another octet
 --   NameRows                    (Names.rows)       worked values: places
 --   lent x at octets            == octets that are lent at a place
---   handed x a r                == where the name lies for an advertisement and a reply, and its octets
---   PartRows x                  (Names.part-rows)  worked values: what is handed on
+--   handedPart x a r            == where the name lies for an advertisement and a reply, and its octets
+--   PartRows x                  (Names.part-rows)  worked values: what is handedPart on
 --   Holds                       (Names.holds)      all of these, of every two areas
 use mathlib.Core.Bool.{true}
 use mathlib.Core.List.{List, [], _∷_, _++_, map}
@@ -92,8 +92,8 @@ pub record AnyPlace (a r : RefT (List ℕ)) : Type 0 where
   pub refused : (e : Error) → (handedFrom (Refused e) a r ≡ a .ptr) × (handedOn (Refused e) (now a) (now r) ≡ [])
 
 -- Flags, and names: "Ada", "Bo", one that is not UTF-8, and an empty one
-abbrev pub flags : List ℕ
-flags = 0x02 ∷ 0x01 ∷ 0x06 ∷ []
+abbrev pub flagsArea : List ℕ
+flagsArea = 0x02 ∷ 0x01 ∷ 0x06 ∷ []
 
 abbrev pub ada : ℕ → List ℕ
 ada ty = 0x04 ∷ ty ∷ 0x41 ∷ 0x64 ∷ 0x61 ∷ []
@@ -107,8 +107,8 @@ broken ty = 0x02 ∷ ty ∷ 0xC3 ∷ []
 abbrev pub empty : ℕ → List ℕ
 empty ty = 0x01 ∷ ty ∷ []
 
-abbrev pub zeros : ℕ → List ℕ
-zeros n = replicate n 0x00
+abbrev pub zeroOctets : ℕ → List ℕ
+zeroOctets n = replicate n 0x00
 
 -- a record that is cut short: 1; a zero length before another octet, and Flags without data: 2
 abbrev pub cut-short : List ℕ
@@ -119,13 +119,13 @@ no-length = 0x00 ∷ 0x01 ∷ []
 
 pub record NameRows : Type 0 where
   -- each of the four places, with names in the places after it, in either order; then none
-  pub first : map (λ (a : List ℕ). nameOf a (ada 0x08 ++ bo 0x09)) ((ada 0x09 ++ bo 0x08) ∷ (bo 0x08 ++ ada 0x09) ∷ ada 0x08 ∷ flags ∷ [] ∷ [])
+  pub first : map (λ (a : List ℕ). nameOf a (ada 0x08 ++ bo 0x09)) ((ada 0x09 ++ bo 0x08) ∷ (bo 0x08 ++ ada 0x09) ∷ ada 0x08 ∷ flagsArea ∷ [] ∷ [])
       ≡ InReply 7 2 ∷ InReply 7 2 ∷ InReply 7 2 ∷ InReply 7 2 ∷ InReply 7 2 ∷ []
-  pub second : map (nameOf (flags ++ (bo 0x08 ++ ada 0x09))) (ada 0x08 ∷ flags ∷ [] ∷ []) ≡ InAdvertisement 9 3 ∷ InAdvertisement 9 3 ∷ InAdvertisement 9 3 ∷ []
-  pub third : map (λ (a : List ℕ). nameOf a (flags ++ bo 0x08)) (ada 0x08 ∷ flags ∷ [] ∷ []) ≡ InReply 5 2 ∷ InReply 5 2 ∷ InReply 5 2 ∷ []
-  pub fourth : map (nameOf (ada 0x08)) (flags ∷ [] ∷ []) ≡ InAdvertisement 2 3 ∷ InAdvertisement 2 3 ∷ []
-  pub none : map (nameOf []) ([] ∷ flags ∷ ada 0x07 ∷ ada 0x0A ∷ broken 0x09 ∷ broken 0x08 ∷ []) ≡ replicate 6 (Refused NoName)
-  pub none-either : map (λ (a : List ℕ). nameOf a flags) (flags ∷ ada 0x07 ∷ ada 0x0A ∷ broken 0x09 ∷ broken 0x08 ∷ []) ≡ replicate 5 (Refused NoName)
+  pub second : map (nameOf (flagsArea ++ (bo 0x08 ++ ada 0x09))) (ada 0x08 ∷ flagsArea ∷ [] ∷ []) ≡ InAdvertisement 9 3 ∷ InAdvertisement 9 3 ∷ InAdvertisement 9 3 ∷ []
+  pub third : map (λ (a : List ℕ). nameOf a (flagsArea ++ bo 0x08)) (ada 0x08 ∷ flagsArea ∷ [] ∷ []) ≡ InReply 5 2 ∷ InReply 5 2 ∷ InReply 5 2 ∷ []
+  pub fourth : map (nameOf (ada 0x08)) (flagsArea ∷ [] ∷ []) ≡ InAdvertisement 2 3 ∷ InAdvertisement 2 3 ∷ []
+  pub none : map (nameOf []) ([] ∷ flagsArea ∷ ada 0x07 ∷ ada 0x0A ∷ broken 0x09 ∷ broken 0x08 ∷ []) ≡ replicate 6 (Refused NoName)
+  pub none-either : map (λ (a : List ℕ). nameOf a flagsArea) (flagsArea ∷ ada 0x07 ∷ ada 0x0A ∷ broken 0x09 ∷ broken 0x08 ∷ []) ≡ replicate 5 (Refused NoName)
   -- of two in an area the first; one that is not UTF-8 is passed over, within its area and from search to search
   pub of-two : map (nameOf []) ((ada 0x09 ++ bo 0x09) ∷ (bo 0x08 ++ ada 0x08) ∷ []) ≡ InReply 2 3 ∷ InReply 2 2 ∷ []
   pub passed-over : map (nameOf (bo 0x09)) ((broken 0x09 ++ ada 0x09) ∷ (broken 0x09 ++ ada 0x08) ∷ []) ≡ InReply 5 3 ∷ InAdvertisement 2 2 ∷ []
@@ -133,16 +133,16 @@ pub record NameRows : Type 0 where
   -- an empty name counts
   pub nothing-in-it : map (nameOf (ada 0x09)) (empty 0x09 ∷ (empty 0x09 ++ bo 0x09) ∷ empty 0x08 ∷ []) ≡ InReply 2 0 ∷ InReply 2 0 ∷ InAdvertisement 2 3 ∷ []
   -- padding after either, or in place of it; what stands after the zero is no name, and 2
-  pub padded-areas : map (λ (n : ℕ). nameOf (flags ++ zeros n) (bo 0x09 ++ zeros n)) (1 ∷ 24 ∷ []) ≡ InReply 2 2 ∷ InReply 2 2 ∷ []
-  pub padded-alone : map (λ (n : ℕ). nameOf (bo 0x08 ++ zeros n) (zeros n)) (0 ∷ 1 ∷ 27 ∷ []) ≡ InAdvertisement 2 2 ∷ InAdvertisement 2 2 ∷ InAdvertisement 2 2 ∷ []
-  pub zeros-alone : nameOf (zeros 31) (zeros 31) ≡ Refused NoName
-  pub behind-the-zero : map (nameOf (ada 0x09)) ((zeros 1 ++ bo 0x09) ∷ (bo 0x09 ++ (zeros 1 ++ ada 0x09)) ∷ []) ≡ Refused InvalidLength ∷ Refused InvalidLength ∷ []
+  pub padded-areas : map (λ (n : ℕ). nameOf (flagsArea ++ zeroOctets n) (bo 0x09 ++ zeroOctets n)) (1 ∷ 24 ∷ []) ≡ InReply 2 2 ∷ InReply 2 2 ∷ []
+  pub padded-alone : map (λ (n : ℕ). nameOf (bo 0x08 ++ zeroOctets n) (zeroOctets n)) (0 ∷ 1 ∷ 27 ∷ []) ≡ InAdvertisement 2 2 ∷ InAdvertisement 2 2 ∷ InAdvertisement 2 2 ∷ []
+  pub zeros-alone : nameOf (zeroOctets 31) (zeroOctets 31) ≡ Refused NoName
+  pub behind-the-zero : map (nameOf (ada 0x09)) ((zeroOctets 1 ++ bo 0x09) ∷ (bo 0x09 ++ (zeroOctets 1 ++ ada 0x09)) ∷ []) ≡ Refused InvalidLength ∷ Refused InvalidLength ∷ []
   -- each refusal in each area, whatever name the other has; the advertisement's first; both before 11
   pub bad-first : map (λ (a : List ℕ). nameOf a (ada 0x09)) (cut-short ∷ no-length ∷ empty 0x01 ∷ []) ≡ Refused Eof ∷ Refused InvalidLength ∷ Refused InvalidLength ∷ []
   pub bad-second : map (nameOf (ada 0x09)) (cut-short ∷ no-length ∷ empty 0x01 ∷ []) ≡ Refused Eof ∷ Refused InvalidLength ∷ Refused InvalidLength ∷ []
   pub bad-both : nameOf cut-short no-length ≡ Refused Eof
   pub bad-both-ways : nameOf no-length cut-short ≡ Refused InvalidLength
-  pub bad-before-none : nameOf flags (flags ++ cut-short) ≡ Refused Eof
+  pub bad-before-none : nameOf flagsArea (flagsArea ++ cut-short) ≡ Refused Eof
   -- a bad record after a name: its refusal
   pub bad-behind : map (nameOf (ada 0x09 ++ cut-short)) ([] ∷ bo 0x09 ∷ []) ≡ Refused Eof ∷ Refused Eof ∷ []
 
@@ -151,18 +151,18 @@ abbrev pub lent : RefT (List ℕ) → ℕ × ℕ → List ℕ → RefT (List ℕ
 lent x at octets = record { ptr = at; name = x .name; now = octets }
 
 -- of an advertisement and a reply: where the name lies, and its octets
-abbrev pub handed : RefT (List ℕ) → List ℕ → List ℕ → (ℕ × ℕ) × List ℕ
-handed x a r = (nameFrom (lent x (1, 10) a) (lent x (2, 20) r), nameOctets a r)
+abbrev pub handedPart : RefT (List ℕ) → List ℕ → List ℕ → (ℕ × ℕ) × List ℕ
+handedPart x a r = (nameFrom (lent x (1, 10) a) (lent x (2, 20) r), nameOctets a r)
 
 pub record PartRows (x : RefT (List ℕ)) : Type 0 where
-  pub first : handed x (ada 0x09) (ada 0x08 ++ bo 0x09) ≡ ((2, 27), 0x42 ∷ 0x6F ∷ [])
-  pub second : handed x (bo 0x08 ++ ada 0x09) (bo 0x08) ≡ ((1, 16), 0x41 ∷ 0x64 ∷ 0x61 ∷ [])
-  pub third : handed x (ada 0x08) (flags ++ bo 0x08) ≡ ((2, 25), 0x42 ∷ 0x6F ∷ [])
-  pub fourth : handed x (ada 0x08 ++ zeros 2) (zeros 2) ≡ ((1, 12), 0x41 ∷ 0x64 ∷ 0x61 ∷ [])
+  pub first : handedPart x (ada 0x09) (ada 0x08 ++ bo 0x09) ≡ ((2, 27), 0x42 ∷ 0x6F ∷ [])
+  pub second : handedPart x (bo 0x08 ++ ada 0x09) (bo 0x08) ≡ ((1, 16), 0x41 ∷ 0x64 ∷ 0x61 ∷ [])
+  pub third : handedPart x (ada 0x08) (flagsArea ++ bo 0x08) ≡ ((2, 25), 0x42 ∷ 0x6F ∷ [])
+  pub fourth : handedPart x (ada 0x08 ++ zeroOctets 2) (zeroOctets 2) ≡ ((1, 12), 0x41 ∷ 0x64 ∷ 0x61 ∷ [])
   -- an empty name lies in its own place; where there is none, the advertisement's start is answered
-  pub nothing-in-it : handed x (ada 0x09) (flags ++ empty 0x09) ≡ ((2, 25), [])
-  pub none : handed x flags flags ≡ ((1, 10), [])
-  pub bad : handed x (ada 0x09) cut-short ≡ ((1, 10), [])
+  pub nothing-in-it : handedPart x (ada 0x09) (flagsArea ++ empty 0x09) ≡ ((2, 25), [])
+  pub none : handedPart x flagsArea flagsArea ≡ ((1, 10), [])
+  pub bad : handedPart x (ada 0x09) cut-short ≡ ((1, 10), [])
 
 pub record Holds : Type 0 where
   pub looks-up : (a r : List ℕ) → LooksUp a r

@@ -3,7 +3,7 @@
 --   nameIn ty s                            == where the first such record of the area s, which has no padding, has its data
 --   inReply f else, inAdvertisement f else == what a search of the reply, or of the advertisement, found, or `else` where it found nothing
 --   chosen a r                             == the first of the four searches that finds something, in an advertisement a and a reply r without padding
---   afterReading a name                    == the refusal of an area, or `name` where it was accepted
+--   afterArea a name                       == the refusal of an area, or `name` where it was accepted
 --   nameOf a r                             == the place chosen where both are read as the hub reads them, or the refusal
 --   handedFrom p a r, handedOn p a r       == where the octets lie that a place p names in the areas a and r, and these octets
 --   nameFrom a r, nameOctets a r           == the same of the place that is found
@@ -52,12 +52,12 @@ chosen advertisement reply =
     (place.Refused NoName))))
 
 -- a reading refusal comes before anything else
-unfoldable pub afterReading : PaddedArea → NamePlace → NamePlace
-afterReading (padded.Accepted n taken) name = name
-afterReading (padded.Refused e) name = place.Refused e
+unfoldable pub afterArea : PaddedArea → NamePlace → NamePlace
+afterArea (padded.Accepted n taken) name = name
+afterArea (padded.Refused e) name = place.Refused e
 
 unfoldable pub nameOf : List ℕ → List ℕ → NamePlace
-nameOf advertisement reply = afterReading (readPadded advertisement) (afterReading (readPadded reply) (chosen (unpadded advertisement) (unpadded reply)))
+nameOf advertisement reply = afterArea (readPadded advertisement) (afterArea (readPadded reply) (chosen (unpadded advertisement) (unpadded reply)))
 
 abbrev pub handedFrom : NamePlace → RefT (List ℕ) → RefT (List ℕ) → ℕ × ℕ
 handedFrom (place.InReply start len) advertisement reply = partPlace len reply start

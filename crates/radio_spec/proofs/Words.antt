@@ -29,7 +29,7 @@ use Rattle.records_spec.specs.declared.area.Area.the-variants as area
 use Rattle.addresses.proofs.Addresses.{equality}
 use Rattle.addresses.proofs.Boxes.{codes}
 use Rattle.addresses.specs.Address.{kindOf, addressOf, sameAddress}
-use Rattle.addresses.specs.Header.{typeCode, pduType, typeOf, bits, rxAdd}
+use Rattle.addresses.specs.Header.{typeCode, pduType, typeOf, headerBits, rxAdd}
 use Rattle.addresses.specs.declared.device_address.DeviceAddress.{DeviceAddress}
 use Rattle.addresses.specs.declared.header.Header.{Header}
 use Rattle.addresses.specs.declared.header.PduType.{PduType}
@@ -102,7 +102,7 @@ module _ (own : DeviceAddress) (h : Header) (p : List ℕ) where
       let type : hasReceiver (typeOf h) ≡ true = ap hasReceiver (sym (k .type good)) ∙ parts .0 in
       record {
         good = good;
-        type = rw (← codes .back (bits 0 4 h)) (receiver-code (typeOf h) type);
+        type = rw (← codes .back (headerBits 0 4 h)) (receiver-code (typeOf h) type);
         second = sym (k .second good (parts .0)) ∙ equality (d .pdu .receiver) own .sound (parts .1);
       }
 
@@ -111,7 +111,7 @@ module _ (own : DeviceAddress) (h : Header) (p : List ℕ) where
   for-board-if f =
       let d = decodeOf h p in
       let k : Known h p d = known h p in
-      let has-one : hasReceiver (d .pdu .ty) ≡ true = ap hasReceiver (k .type (f .good)) ∙ code-receiver (bits 0 4 h) (f .type) in
+      let has-one : hasReceiver (d .pdu .ty) ≡ true = ap hasReceiver (k .type (f .good)) ∙ code-receiver (headerBits 0 4 h) (f .type) in
       let same : sameAddress (d .pdu .receiver) own ≡ true = equality (d .pdu .receiver) own .complete (k .second (f .good) has-one ∙ f .second) in
       rw (has-one, same)
 
@@ -139,7 +139,7 @@ module _ (own : DeviceAddress) (h : Header) (p : List ℕ) where
   record Asked (n : ℕ) (crcGood : Bool) : Type 0 where
     crc : crcGood ≡ true
     good : wellFormed h p ≡ true
-    type : bits 0 4 h ≡ n
+    type : headerBits 0 4 h ≡ n
     second : addressOf (part 6 p 6) (kindOf (rxAdd h)) ≡ own
 
   scanRequest : (is : PduType → Bool) (n : ℕ) → ((ty : PduType) → is ty ≡ true → typeCode ty ≡ n) → (crcGood : Bool) → requested is own crcGood h p ≡ true → Asked n crcGood
@@ -152,7 +152,7 @@ module _ (own : DeviceAddress) (h : Header) (p : List ℕ) where
       record {
         crc = crc .0;
         good = good .0;
-        type = sym (codes .back (bits 0 4 h)) ∙ (ap typeCode (sym (known h p .type (good .0))) ∙ typed (d .pdu .ty) (ours .1));
+        type = sym (codes .back (headerBits 0 4 h)) ∙ (ap typeCode (sym (known h p .type (good .0))) ∙ typed (d .pdu .ty) (ours .1));
         second = for-board (ours .0) .second;
       }
 
@@ -415,7 +415,7 @@ module _ (d : State) (end : Instant) (h : Header) (p : List ℕ) (crcGood : Bool
         ∙ (ap (λ (b : Bool). cond b (addressed d end (decodeOf h p .pdu .lldata) tx (decodeOf h p .pdu .ty)) (listens d)) (for-board-if own h p ours)
         ∙ ap (addressed d end (decodeOf h p .pdu .lldata) tx) is))
 
-    typed : ForBoard own h p → (ty : PduType) → pduType (bits 0 4 h) ≡ ty → decodeOf h p .pdu .ty ≡ ty
+    typed : ForBoard own h p → (ty : PduType) → pduType (headerBits 0 4 h) ≡ ty → decodeOf h p .pdu .ty ≡ ty
     typed ours ty is = known h p .type (ours .good) ∙ is
 
     -- a scan request to this device, whose reply has the scan data s
@@ -466,7 +466,7 @@ module _ (d : State) (end : Instant) (h : Header) (p : List ℕ) (crcGood : Bool
         (is ∙ ap (λ (x : ℕ). record { index = eventChannel (mapIn p) x 0 }) five-bits)
 
     -- a connect request to this device, whose settings are taken or not
-    settling : crcGood ≡ true → ForBoard own h p → bits 0 4 h ≡ 5 → (t : Taken) → takenOf (requestOf p) ≡ t
+    settling : crcGood ≡ true → ForBoard own h p → headerBits 0 4 h ≡ 5 → (t : Taken) → takenOf (requestOf p) ≡ t
         → packetOf d end h p crcGood tx ≡ settled d end (requestOf p) (t .settings) (t .outcome)
     unfolding addressed connectsTo
     settling crc ours five t is =
@@ -484,11 +484,11 @@ module _ (d : State) (end : Instant) (h : Header) (p : List ℕ) (crcGood : Bool
         ap (λ (x : Step). x .answer) (settling (r .crc) ours (r .type) _ (settles p .complete (r .ranges))) ∙ (first-hop (rw (map-at p) (r .some))
         ∙ (λ i. FirstEvent (record { index = eventChannel (map-at p i) (hop-at p i) 0 }) (firstEventAt end (request-is p i)) (request-is p i .«access_address») (request-is p i .«crc_init»)))
 
-    requested-empty : crcGood ≡ true → ForBoard own h p → bits 0 4 h ≡ 5 → marks (part 5 p 28) ≡ 0 → packetOf d end h p crcGood tx ≡ refusal d EmptyMap
+    requested-empty : crcGood ≡ true → ForBoard own h p → headerBits 0 4 h ≡ 5 → marks (part 5 p 28) ≡ 0 → packetOf d end h p crcGood tx ≡ refusal d EmptyMap
     unfolding llDataOf
     requested-empty crc ours five zero-marks = settling crc ours five _ (settles p .empty (rw (map-at p) zero-marks))
 
-    requested-outside : crcGood ≡ true → ForBoard own h p → bits 0 4 h ≡ 5 → 1 ≤ marks (part 5 p 28) → (Within (settingsIn (requestOf p)) → ⊥) → packetOf d end h p crcGood tx ≡ refusal d OutOfRange
+    requested-outside : crcGood ≡ true → ForBoard own h p → headerBits 0 4 h ≡ 5 → 1 ≤ marks (part 5 p 28) → (Within (settingsIn (requestOf p)) → ⊥) → packetOf d end h p crcGood tx ≡ refusal d OutOfRange
     unfolding llDataOf
     requested-outside crc ours five some out = settling crc ours five _ (settles p .outside (rw (map-at p) some) out)
 

@@ -31,7 +31,7 @@ use Rattle.records_spec.specs.Area.{readArea, rewritten}
 use Rattle.records_spec.specs.HubReads.{ZeroLength}
 use Rattle.records_spec.specs.declared.area.Area.the-variants as area
 use Rattle.addresses.specs.Address.{isRandom, kindOf, addressOf}
-use Rattle.addresses.specs.Header.{bits, txAdd, rxAdd, lengthOf}
+use Rattle.addresses.specs.Header.{headerBits, txAdd, rxAdd, lengthOf}
 use Rattle.addresses.specs.declared.device_address.DeviceAddress.{DeviceAddress}
 use Rattle.addresses.specs.declared.header.Header.{Header}
 use Rattle.addresses.specs.declared.header.PduType.the-variants.{ScanRsp}
@@ -54,14 +54,14 @@ use Rattle.radio_spec.specs.declared.link.Mode.the-variants.{Standby, Ad
 -- a well-formed packet of type 1, 3 or 5 whose second address, the octets 6 to 11 with RxAdd's kind, is `own`, octets and kind
 pub record ForBoard (own : DeviceAddress) (h : Header) (p : List ℕ) : Type 0 where
   pub good : wellFormed h p ≡ true
-  pub type : (bits 0 4 h ≡ 1) ⊎ ((bits 0 4 h ≡ 3) ⊎ (bits 0 4 h ≡ 5))
+  pub type : (headerBits 0 4 h ≡ 1) ⊎ ((headerBits 0 4 h ≡ 3) ⊎ (headerBits 0 4 h ≡ 5))
   pub second : addressOf (part 6 p 6) (kindOf (rxAdd h)) ≡ own
 
 -- a CRC-good, well-formed packet of type 5 whose second address is `own`, which marks a channel in octets 28 to 32, and whose settings, by octets in `Settles`, are in range
 pub record Requests (own : DeviceAddress) (h : Header) (p : List ℕ) (crcGood : Bool) : Type 0 where
   pub crc : crcGood ≡ true
   pub good : wellFormed h p ≡ true
-  pub type : bits 0 4 h ≡ 5
+  pub type : headerBits 0 4 h ≡ 5
   pub second : addressOf (part 6 p 6) (kindOf (rxAdd h)) ≡ own
   pub some : 1 ≤ marks (part 5 p 28)
   pub ranges : Within (settingsIn (requestOf p))
@@ -70,7 +70,7 @@ pub record Requests (own : DeviceAddress) (h : Header) (p : List ℕ) (crcGood :
 pub record Scans (own : DeviceAddress) (h : Header) (p : List ℕ) (crcGood : Bool) : Type 0 where
   pub crc : crcGood ≡ true
   pub good : wellFormed h p ≡ true
-  pub type : bits 0 4 h ≡ 3
+  pub type : headerBits 0 4 h ≡ 3
   pub second : addressOf (part 6 p 6) (kindOf (rxAdd h)) ≡ own
 
 -- What the words of demand 3 mean: a fresh device is in standby, made with its own address; a packet is well-formed exactly if its header and payload
@@ -123,11 +123,11 @@ pub record Transmits (d : State) (tx : List ℕ) : Type 0 where
 -- What is answered and written is, by the Core, a SCAN_RSP of the address `own`, kind included, with the records of s, of which there are n.
 pub record ReplyDecodes (own : DeviceAddress) (s : List ℕ) (n : ℕ) : Type 0 where
   -- the header, field by field: type 4, TxAdd the kind, no RxAdd, the length, no reserved bit; and it is of 16 bits
-  pub type-4 : bits 0 4 (replyHeader own s) ≡ 4
+  pub type-4 : headerBits 0 4 (replyHeader own s) ≡ 4
   pub tx-add : txAdd (replyHeader own s) ≡ isRandom (own .kind)
   pub rx-add : rxAdd (replyHeader own s) ≡ false
   pub counted : lengthOf (replyHeader own s) ≡ 6 + length s
-  pub reserved : (bits 4 2 (replyHeader own s) ≡ 0) × (bits 14 2 (replyHeader own s) ≡ 0)
+  pub reserved : (headerBits 4 2 (replyHeader own s) ≡ 0) × (headerBits 14 2 (replyHeader own s) ≡ 0)
   pub of-16-bits : replyHeader own s .0 < 2 ^ 16
   pub decoded : decodeOf (replyHeader own s) (replyOctets own s) .outcome ≡ outcome.Accepted
   pub type : decodeOf (replyHeader own s) (replyOctets own s) .pdu .ty ≡ ScanRsp
@@ -169,7 +169,7 @@ pub record HearsPacket (d : State) (end : Instant) (h : Header) (p : List ℕ) (
   pub off : isAdvertising (d .mode) ≡ false → packetOf d end h p crcGood tx ≡ record { answer = Refused WrongMode; state = d }
   pub bad : d .mode ≡ Advertising → Strikable (d .«dev_addr») (packet end h p crcGood tx)
       → packetOf d end h p crcGood tx ≡ record { answer = Listen (d .adv .channel); state = d }
-  pub other : d .mode ≡ Advertising → crcGood ≡ true → ForBoard (d .«dev_addr») h p → bits 0 4 h ≡ 1
+  pub other : d .mode ≡ Advertising → crcGood ≡ true → ForBoard (d .«dev_addr») h p → headerBits 0 4 h ≡ 1
       → packetOf d end h p crcGood tx ≡ record { answer = Listen (d .adv .channel); state = d }
   pub scan : (s : List ℕ) → length (d .«dev_addr» .bytes) ≡ 6 → ReplyOf (d .«dev_addr») s (d .«scan_response») → d .mode ≡ Advertising → Scans (d .«dev_addr») h p crcGood
       → replySize s ≤ length tx
@@ -181,9 +181,9 @@ pub record HearsPacket (d : State) (end : Instant) (h : Header) (p : List ℕ) (
       → packetOf d end h p crcGood tx .answer
       ≡ FirstEvent (record { index = eventChannel (part 5 p 28) (le (part 1 p 33) % 32) 0 })
       (instant (later (end .0) (le (part 2 p 20) * 1250 + le (part 1 p 19) * 1250 + 1750))) (le (part 4 p 12)) (le (part 3 p 16))
-  pub empty : d .mode ≡ Advertising → crcGood ≡ true → ForBoard (d .«dev_addr») h p → bits 0 4 h ≡ 5 → marks (part 5 p 28) ≡ 0
+  pub empty : d .mode ≡ Advertising → crcGood ≡ true → ForBoard (d .«dev_addr») h p → headerBits 0 4 h ≡ 5 → marks (part 5 p 28) ≡ 0
       → packetOf d end h p crcGood tx ≡ record { answer = Refused EmptyMap; state = d }
-  pub outside : d .mode ≡ Advertising → crcGood ≡ true → ForBoard (d .«dev_addr») h p → bits 0 4 h ≡ 5 → 1 ≤ marks (part 5 p 28) → (Within (settingsIn (requestOf p)) → ⊥)
+  pub outside : d .mode ≡ Advertising → crcGood ≡ true → ForBoard (d .«dev_addr») h p → headerBits 0 4 h ≡ 5 → 1 ≤ marks (part 5 p 28) → (Within (settingsIn (requestOf p)) → ⊥)
       → packetOf d end h p crcGood tx ≡ record { answer = Refused OutOfRange; state = d }
   pub unwritten : (Scans (d .«dev_addr») h p crcGood → ⊥) → packetAfter d h p crcGood tx ≡ tx
 

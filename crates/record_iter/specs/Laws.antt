@@ -10,7 +10,7 @@
 --   GoesThrough area     (Through.goes-through)  the answers are the records of the area, in order and as they are counted
 --   RestPlaced s at      (Through.rest-placed)   the rest lies in the area, and ends where the area ends
 --   twoRows r            == document 01's rows `02 01 86` and `01 03`, one after the other, as an area
---   Rows r               (Rows.rows)             what the iterator finds there
+--   IterRows r           (IterRows.rows)             what the iterator finds there
 --   Holds                (Holding.holds)         all of these, with what they assume
 use mathlib.Core.Path.{_≡_}
 use mathlib.Core.Bool.{true}
@@ -84,7 +84,7 @@ pub record RestPlaced (s : RefT (List ℕ)) (at : ℕ) : Type 0 where
 abbrev pub twoRows : RefT (List ℕ) → RefT (List ℕ)
 twoRows r = record { ptr = r .ptr; name = r .name; now = 0x02 ∷ 0x01 ∷ 0x86 ∷ 0x01 ∷ 0x03 ∷ [] }
 
-pub record Rows (r : RefT (List ℕ)) : Type 0 where
+pub record IterRows (r : RefT (List ℕ)) : Type 0 where
   pub flags : nextAfter (twoRows r) 0 ≡ Record (Flags (record { bits = 0x06 })) 3
   pub left : recordsLeft (movedBy 1 (front (twoRows r))) ≡ 0x01 ∷ 0x03 ∷ []
   pub list : nextAfter (twoRows r) 1 ≡ Record (ServiceUuids16 true 5 0) 5
@@ -95,4 +95,4 @@ pub record Rows (r : RefT (List ℕ)) : Type 0 where
 pub record Holds : Type 0 where
   pub goes-through : (area : RefT (List ℕ)) → GoesThrough area
   pub rest-placed : (s : RefT (List ℕ)) (at : ℕ) → RestPlaced s at
-  pub rows : (r : RefT (List ℕ)) → Rows r
+  pub rows : (r : RefT (List ℕ)) → IterRows r

@@ -8,7 +8,7 @@ ghost use Rattle.octets.specs.Bytes.{written};
 ghost use Rattle.records_spec.specs.Record.{recordOf, uuidList, flagsRead, uuidsRead, localName, nameRead, pairKind, pairRead, dataRead, kindRead, first, recordRead, knownRead, recordAt};
 ghost use Rattle.records_spec.specs.Uuids.{uuid16At};
 ghost use Rattle.records_spec.specs.Write.{IsOutline, lentOutline, lentCheck, spaceIn, andThen, lentTo, lentAfter, writtenTo, writtenAfter};
-ghost use Rattle.records.specs.State.{outlined};
+ghost use Rattle.records.specs.State.{outlineState};
 pub use flags::Flags;
 use octets::bytes::ByteReader;
 use octets::bytes::ByteWriter;
@@ -43,7 +43,7 @@ struct Outline {
 }
 
 fn outline_of(ad: AdStructure) -> Outline
-    ensures { λ r. ⌜ IsOutline ad (outlined r) ⌝ }
+    ensures { λ r. ⌜ IsOutline ad (outlineState r) ⌝ }
 {
     match ad {
         AdStructure::Flags(flags) => Outline {
@@ -125,7 +125,7 @@ fn outline_of(ad: AdStructure) -> Outline
 
 // The outline of a record that holds nothing itself.
 fn lent(ty: u8, start: usize, len: usize, name: bool, unit: usize) -> Outline
-    ensures { λ r. ⌜ outlined r ≡ lentOutline ty start len name unit ⌝ }
+    ensures { λ r. ⌜ outlineState r ≡ lentOutline ty start len name unit ⌝ }
 {
     Outline {
         ty,
@@ -196,7 +196,7 @@ fn put_raw(len: u8, ty: u8, own: &[u8], data: &[u8], at: usize, out: &mut [u8])
 // Writes a record whose lent data are given, where these may be written.
 fn write_lent(outline: Outline, data: &[u8], writer: ByteWriter, out: &mut [u8]) -> Written
     requires { ⌜ (outline .held ≤ 2) × (0 < outline .unit) ⌝ }
-    ensures { λ r. ⌜ (r ≡ lentTo (outlined outline) (now («data» .entry)) (now (out .entry)) (writer .at)) × (now (out .exit) ≡ lentAfter (outlined outline) (now («data» .entry)) (now (out .entry)) (writer .at)) ⌝ }
+    ensures { λ r. ⌜ (r ≡ lentTo (outlineState outline) (now («data» .entry)) (now (out .entry)) (writer .at)) × (now (out .exit) ≡ lentAfter (outlineState outline) (now («data» .entry)) (now (out .entry)) (writer .at)) ⌝ }
 {
     let at = writer.at;
     let held = outline.held;

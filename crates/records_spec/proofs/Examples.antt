@@ -8,9 +8,9 @@ use Rattle.flags.specs.Flags.{named}
 use Rattle.records_spec.specs.Uuids.{uuid16At}
 use Rattle.records_spec.specs.Write.{dataOf, mayWrite, recordOctets, writtenTo, writtenAfter}
 use Rattle.records_spec.specs.Area.{cut, reads, withFirst, areaOf, readArea, clean, rewritten, mayRewrite, rewrittenTo, rewrittenAfter}
-use Rattle.records_spec.specs.Examples.{Codes, Examples}
+use Rattle.records_spec.specs.Examples.{RecordCodes, Examples}
 
-pub codes : Codes
+pub codes : RecordCodes
 unfolding named
 codes =
     record {

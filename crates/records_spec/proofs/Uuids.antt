@@ -16,7 +16,7 @@ use Rattle.octets.specs.declared.uuid.UuidKind.the-variants.{Uuid16, Uuid32, Uu
 use Rattle.octets.specs.Uuid.{uuidSize, uuid16From}
 use Rattle.octets.proofs.Places.{front, part-octets}
 use Rattle.records_spec.specs.declared.ad_structure.NextUuid16.the-variants as next16
-use Rattle.records_spec.specs.Uuids.{next16From, uuid16At, uuids, Next, OneByOne}
+use Rattle.records_spec.specs.Uuids.{next16From, uuid16At, uuids, NextUuid, OneByOne}
 
 pub uuidSize-positive : (k : UuidKind) → 0 < uuidSize k
 uuidSize-positive Uuid16 = omega arith
@@ -40,7 +40,7 @@ unfolding uuid16At
 one-by-one d at = go (eqb (length d) at) (has 2 d at) refl refl
   where
     go : (end two : Bool) → eqb (length d) at ≡ end → has 2 d at ≡ two
-        → Next d at (cond end next16.End (next16From (uuid16From (cond two (u16read.Value (le (part 2 d at)) (record { at = at + 2 })) (u16read.Refused Eof)))))
+        → NextUuid d at (cond end next16.End (next16From (uuid16From (cond two (u16read.Value (le (part 2 d at)) (record { at = at + 2 })) (u16read.Refused Eof)))))
     go true two e t = (sym (eqb-true (length d) at e), none-left d at (eqb-true (length d) at e))
     go false true e t = let two : at + 2 ≤ length d = leb-true (at + 2) (length d) t in (number d at two, two, first-uuid d at two, refl)
     go false false e t = (refl, leb-false (at + 2) (length d) t, λ end. eqb-false (length d) at e (sym end))

@@ -6,7 +6,7 @@
 --   readKnownFrom s r            == what was read of s, read on to the kind that its type names
 --   readKnown s                  == the record that s begins with, read on to the kind that its type names
 --   flagsOctets                  == octets of Flags: rubble's constants, those of a start and of a beacon, all bits with a name, and those without
---   Codes                        (Examples.codes)     the queries of these octets, and the type octets
+--   RecordCodes                  (Examples.codes)     the queries of these octets, and the type octets
 --   fifteen, sixteen             == one octet less than a 128-bit UUID, and one
 --   Examples                     (Examples.examples)  the other values
 use mathlib.Core.Path.{_≡_}
@@ -64,7 +64,7 @@ readKnown s = readKnownFrom s (recordAt s 0)
 abbrev pub flagsOctets : List ℕ
 flagsOctets = 0b00000001 ∷ 0b00000010 ∷ 0b00000100 ∷ 0b00001000 ∷ 0b00010000 ∷ 0x06 ∷ 0x04 ∷ 0x1F ∷ 0xE0 ∷ []
 
-pub record Codes : Type 0 where
+pub record RecordCodes : Type 0 where
   -- the queries of each of them
   pub limited : map limitedDiscoverable flagsOctets ≡ true ∷ false ∷ false ∷ false ∷ false ∷ false ∷ false ∷ true ∷ false ∷ []
   pub general : map generalDiscoverable flagsOctets ≡ false ∷ true ∷ false ∷ false ∷ false ∷ true ∷ false ∷ true ∷ false ∷ []

@@ -6,7 +6,7 @@ use Prim.Native.Nat.{ℕ, _+_, _≤_}
 use lib.ListN.{length}
 use Rattle.octets.specs.Bytes.{written}
 use Rattle.records_spec.specs.Accepted.{Decided, Fronted}
-use Rattle.records_spec.specs.Examples.{Codes, Examples}
+use Rattle.records_spec.specs.Examples.{RecordCodes, Examples}
 use Rattle.records_spec.specs.HubReading.{readPadded}
 use Rattle.records_spec.specs.HubReads.{HubReads, Differs, WithoutSize, Took, PaddedRows}
 use Rattle.records_spec.specs.Layout.{Layout, LaidOut}
@@ -46,5 +46,5 @@ pub record Holds : Type 1 where
   -- of every test of a record's octets, and what it decides
   pub searching : (s : List ℕ) → IsRead s → (test : List ℕ → Bool) (P : ℕ → List ℕ → Type 0) → Decides test P → Searching test P s
   pub one-by-one : (d : List ℕ) (at : ℕ) → OneByOne d at
-  pub codes : Codes
+  pub codes : RecordCodes
   pub examples : Examples

@@ -2,7 +2,7 @@
 --   next16From r  == the UUID that was read, and the position after it, or the refusal
 --   uuid16At d at == what stands at position `at` of the data d
 --   uuids d       == the UUIDs that d is, as numbers
---   Next d at n   == n is right for position `at` of d: a UUID that those from there on begin with, the end of d, or 1
+--   NextUuid d at n == n is right for position `at` of d: a UUID that those from there on begin with, the end of d, or 1
 --   OneByOne d at (Uuids.one-by-one)  the UUID at position `at` is the first of those from there on, they go on where it ends, and the end is that of d
 use mathlib.Core.Path.{_≡_}
 use Prim.Native.Nat.{ℕ, _+_, _*_, _<_, _≤_}
@@ -31,10 +31,10 @@ uuids (x ∷ []) = []
 uuids (x ∷ y ∷ rest) = le (x ∷ y ∷ []) ∷ uuids rest
 
 -- by what was answered: a UUID, least significant octet first; the end of d; or 1 where one octet is left, or the position is past the end
-abbrev pub Next : List ℕ → ℕ → NextUuid16 → Type 0
-Next d at (next16.Uuid uuid next) = (uuid .0 ≡ getD d at 0 + 256 * getD d (at + 1) 0) × (at + 2 ≤ length d) × (uuids (drop at d) ≡ uuid .0 ∷ uuids (drop next d)) × (next ≡ at + 2)
-Next d at next16.End = (at ≡ length d) × (uuids (drop at d) ≡ [])
-Next d at (next16.Refused e) = (e ≡ Eof) × (length d < at + 2) × (at ≡ length d → ⊥)
+abbrev pub NextUuid : List ℕ → ℕ → NextUuid16 → Type 0
+NextUuid d at (next16.Uuid uuid next) = (uuid .0 ≡ getD d at 0 + 256 * getD d (at + 1) 0) × (at + 2 ≤ length d) × (uuids (drop at d) ≡ uuid .0 ∷ uuids (drop next d)) × (next ≡ at + 2)
+NextUuid d at next16.End = (at ≡ length d) × (uuids (drop at d) ≡ [])
+NextUuid d at (next16.Refused e) = (e ≡ Eof) × (length d < at + 2) × (at ≡ length d → ⊥)
 
 abbrev pub OneByOne : List ℕ → ℕ → Type 0
-OneByOne d at = Next d at (uuid16At d at)
+OneByOne d at = NextUuid d at (uuid16At d at)

@@ -17,7 +17,7 @@ use Rattle.advertising.proofs.Figures.{field-is}
 use Rattle.advertising.specs.Laws.{Figure}
 use Rattle.advertising.specs.Pdu.{llDataFigure, llDataOf, llDataIn}
 use Rattle.octets.specs.Error.{isAccepted}
-use Rattle.settings.specs.Settings.{Ranges, Times, between, inRanges, Tests, InTime, Within, leastSettings, settingsIn, refusedSettings, isWithin, judged, settingsAs, takenOf, Taking, Settles, Alone, Limits}
+use Rattle.settings.specs.Settings.{Ranges, Times, between, inRanges, Tests, InTime, Within, leastSettings, settingsIn, refusedSettings, isWithin, judged, settingsAs, takenOf, Taking, Settles, Alone, RangeLimits}
 use Rattle.advertising.specs.declared.pdu.ConnectRequestData.{ConnectRequestData}
 use Rattle.octets.specs.declared.error.Outcome.the-variants.{Accepted}
 use Rattle.settings.specs.declared.ConnectionSettings.{ConnectionSettings}
@@ -205,7 +205,7 @@ settles p = taking (llDataIn p)
 pub alone : (o : List ℕ) → Alone o
 alone o = record { octets = taking o; addresses = λ front twelve. ap llDataOf (rw (← twelve) (drop-append-seam front o)) }
 
-pub limits : Limits
+pub limits : RangeLimits
 unfolding takenOf llDataOf inRanges marks marked cleared count
 limits =
     record {

@@ -21,7 +21,7 @@
 --   lldata ..                         == LLData of given settings, for worked values
 --   twoMarked, oneMarked, noneMarked  == maps of two channels, of one, and of none
 --   numberWith ..                     == the number that taking such LLData answers
---   Limits                            (Ranges.limits)   worked values on both sides of each limit
+--   RangeLimits                       (Ranges.limits)   worked values on both sides of each limit
 --   Holds                             (Holding.holds)   all of these, with what they assume
 use mathlib.Core.Bool.{Bool, true, cond, _&&_}
 use mathlib.Core.List.{List, [], _∷_, _++_, map}
@@ -178,7 +178,7 @@ noneMarked = 0x00 ∷ 0x00 ∷ 0x00 ∷ 0x00 ∷ 0xE0 ∷ []
 abbrev pub numberWith : ℕ → List ℕ → ℕ → ℕ → ℕ → ℕ → ℕ → ℕ
 numberWith hopSca chm interval latency timeout winSize winOffset = numberTaken (aloneOf (lldata hopSca chm interval latency timeout winSize winOffset))
 
-pub record Limits : Type 0 where
+pub record RangeLimits : Type 0 where
   -- the low five bits of the last octet
   pub hop : map (λ (o : ℕ). numberWith o twoMarked 24 0 100 2 3) (0x00 ∷ 0x04 ∷ 0x05 ∷ 0x10 ∷ 0x11 ∷ 0x1F ∷ 0xE4 ∷ 0xE5 ∷ 0xF0 ∷ 0xF1 ∷ []) ≡ 12 ∷ 12 ∷ 0 ∷ 0 ∷ 12 ∷ 12 ∷ 12 ∷ 0 ∷ 0 ∷ 12 ∷ []
   pub channels : map (λ (chm : List ℕ). numberWith 5 chm 24 0 100 2 3) (replicate 5 0x00 ∷ noneMarked ∷ oneMarked ∷ twoMarked ∷ replicate 5 0xFF ∷ []) ≡ 6 ∷ 6 ∷ 12 ∷ 0 ∷ 0 ∷ []
@@ -216,4 +216,4 @@ pub record Holds : Type 0 where
   pub in-time : InTime
   pub settles : (p : List ℕ) → Settles p
   pub alone : (o : List ℕ) → Alone o
-  pub limits : Limits
+  pub limits : RangeLimits

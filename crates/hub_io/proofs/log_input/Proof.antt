@@ -11,7 +11,7 @@ use borrow.Author.Tests.{eqb-false}
 use Rattle.hub.specs.State.{hubState, blockStep}
 use Rattle.hub_spec.specs.Line.{lineSize, lastSize}
 use Rattle.hub_spec.specs.Log.{mostItems, hubOf, octetsLeft, isLast, blockLines, blockOf}
-use Rattle.hub_spec.specs.Reads.{Next, Ended}
+use Rattle.hub_spec.specs.Reads.{NextBlock, Ended}
 use Rattle.hub_spec.specs.State.{Hub, Block}
 use Rattle.hub_spec.proofs.AnyReads.{block-taken}
 use Rattle.hub_spec.proofs.Runs as runs
@@ -36,7 +36,7 @@ not-first : (a b : Bool) → a || b ≡ false → a ≡ false
 not-first true b e = absurd (true≢false e)
 not-first false b e = refl
 
-module _ {h : Hub} {kept : List ℕ} {t : Block} {left out : List ℕ} {n more : ℕ} (run : Running h kept n) (next : Next h kept t left out more) where
+module _ {h : Hub} {kept : List ℕ} {t : Block} {left out : List ℕ} {n more : ℕ} (run : Running h kept n) (next : NextBlock h kept t left out more) where
   nothing : Bool
   nothing = eqb (length (next .read)) 0
 

@@ -11,7 +11,7 @@ use borrow.Author.Needs.{needs}
 use borrow.Author.Tests.{eq-eqb, ne-eqb, eqb-true, eqb-false}
 use Rattle.hub.specs.State.{hubState, blockStep}
 use Rattle.hub_spec.specs.Log.{octetsLeft, blockLines, blockOf}
-use Rattle.hub_spec.specs.Reads.{Next}
+use Rattle.hub_spec.specs.Reads.{NextBlock}
 use Rattle.hub_spec.specs.State.{Hub, Block}
 use Rattle.hub_io.proofs.log_read.Statement.{statement}
 use Rattle.hub_io.proofs.log_read.Tie as tie
@@ -28,7 +28,7 @@ read-on : (t : Block) (h : Hub) (buf buf′ left out : List ℕ) {kept filled n 
     → t ≡ blockOf h (take filled buf′) (eqb filled kept)
     → left ≡ octetsLeft h (take filled buf′)
     → (n ≡ t .written) × (take n out ≡ blockLines h (take filled buf′) (eqb filled kept))
-    → Next h (take kept buf) t left out n
+    → NextBlock h (take kept buf) t left out n
 read-on t h buf buf′ left out {kept} {filled} same more inside is is-left written =
     let read : List ℕ = drop kept (take filled buf′) in
     let all : take filled buf′ ≡ take kept buf ++ read =

@@ -2,7 +2,7 @@
 use mathlib.Core.Bool.{Bool}
 use mathlib.Core.Path.{_≡_, sym, ap, _∙_}
 use borrow.Author.Needs.{needs}
-use Rattle.addresses.specs.Header.{isBeacon, bits, typeOf}
+use Rattle.addresses.specs.Header.{isBeacon, headerBits, typeOf}
 use Rattle.addresses.specs.declared.header.Header.{Header}
 use Rattle.addresses.specs.declared.header.PduType.{PduType}
 use Rattle.beacon_spec.specs.Scanner.{isType2, unfiltered}
@@ -12,7 +12,7 @@ use Rattle.beacon.proofs.beacon.unfiltered.Tie as tie
 
 -- the code's test of the type
 type-2 : (h : Header) {ty : PduType} {b t : Bool} → ty ≡ typeOf h → b ≡ t → b ≡ isBeacon ty → isType2 h ≡ t
-type-2 h is came test = sym (beacon-type (bits 0 4 h)) ∙ sym (ap isBeacon is) ∙ sym test ∙ came
+type-2 h is came test = sym (beacon-type (headerBits 0 4 h)) ∙ sym (ap isBeacon is) ∙ sym test ∙ came
 
 returns : tie.Need-returns
 unfolding unfiltered

@@ -5,14 +5,14 @@ use native.Mathlib.Omega.{arith}
 use lib.ListN.{length}
 use Rattle.radio_spec.specs.State.{State}
 use Rattle.radio.specs.State.{state}
-use Rattle.exports.specs.Lists.{Board, board, ran, ranAll}
+use Rattle.exports.specs.Lists.{Board, boardOf, ran, ranAll}
 use Rattle.exports.proofs.Replays.{Replayed, replays-on}
 use borrow.Author.Needs.{needs}
 use Rattle.exports.proofs.lists.after.Statement.{statement}
 use Rattle.exports.proofs.lists.after.Tie as tie
 
 abbrev Inv-loop : tie.InvT-loop
-Inv-loop calls first₀ second₀ device₀ n i₀ first second device i = Replayed (board (state device₀) first₀ second₀) calls n first second (state device) i
+Inv-loop calls first₀ second₀ device₀ n i₀ first second device i = Replayed (boardOf (state device₀) first₀ second₀) calls n first second (state device) i
 
 abbrev μ-loop : tie.MeasureT-loop
 μ-loop calls first₀ second₀ device₀ n i₀ first second device i = n - i
@@ -39,7 +39,7 @@ returns c =
     let turn = c .before .loop .inv in
     let a = c .before .before .before .before .before .before .args in
     let all : c .before .loop .i ≡ length (a .calls .now) / 272 = omega (arith, turn .below) in
-    let so = turn .reached ∙ ap (ran (board (state (c .before .before .new .result)) (a .first .now) (a .second .now)) (a .calls .now)) all ∙ ap (λ (d : State). ran (board d (a .first .now) (a .second .now)) (a .calls .now) (length (a .calls .now) / 272)) (c .before .before .new .ensures) in
+    let so = turn .reached ∙ ap (ran (boardOf (state (c .before .before .new .result)) (a .first .now) (a .second .now)) (a .calls .now)) all ∙ ap (λ (d : State). ran (boardOf d (a .first .now) (a .second .now)) (a .calls .now) (length (a .calls .now) / 272)) (c .before .before .new .ensures) in
     (ap (λ (s : Board). s .device) so, ap (λ (s : Board). s .first) so, ap (λ (s : Board). s .second) so)
 
 pub after-spec : {M : Type 1} → statement M

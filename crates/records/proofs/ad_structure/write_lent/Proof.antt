@@ -15,7 +15,7 @@ use Rattle.octets.specs.declared.error.Outcome.the-variants as outcome
 use Rattle.records_spec.specs.Write.{Outline, ownIn, lentCheck, spaceIn, spaceFor, andThen, checkedTo, checkedAfter, lentTo, lentAfter}
 use Rattle.records_spec.specs.Record.{recordOf}
 use Rattle.records_spec.proofs.Space.{space-fine}
-use Rattle.records.specs.State.{outlined}
+use Rattle.records.specs.State.{outlineState}
 use Rattle.records.proofs.ad_structure.write_lent.Statement.{statement}
 use Rattle.records.proofs.ad_structure.write_lent.Tie as tie
 
@@ -32,7 +32,7 @@ unfolding lentTo lentAfter
 refused c =
     let entry = c .before .before .before .before .before .before in
     let a = entry .args in
-    let o = outlined (a .outline) in
+    let o = outlineState (a .outline) in
     let d = a .«data» .now in
     not-put (lentCheck (o .name) (o .unit) d) (recordOf (o .ty) (ownIn o ++ d)) (ownIn o ++ d) (a .out .now) (a .writer .at) (o .held + length d) (own-size o d (entry .pre .0)) (c .before .before .before .may-write .ensures) (c .before .e .given .1)
 
@@ -85,7 +85,7 @@ done c =
     let at-own = c .before .before .before .before .before in
     let entry = at-own .before .before .before .before .before .before in
     let a = entry .args in
-    let o = outlined (a .outline) in
+    let o = outlineState (a .outline) in
     let size : length (ownIn o ++ a .«data» .now) ≡ o .held + length (a .«data» .now) = own-size o (a .«data» .now) (entry .pre .0) in
     put (lentCheck (o .name) (o .unit) (a .«data» .now)) (o .ty) (ownIn o) (a .«data» .now) (a .out .now) (a .writer .at) _ _ size refl (told (at-own .before)) (ap (take (o .held)) (at-own .u16-to-le-bytes .ensures)) (c .before .before .put-raw .ensures)
 
