@@ -4,6 +4,7 @@
 --   Passing                        (Laws.passing)   a list that is in use, and one that is not
 --   Packets d                      (Laws.packets)   each field of a PDU that was read
 --   AccuracyCodes                  (Laws.accuracies) the Core's codes of the accuracies
+--   Holds                       (Holding.holds)        all of these, with what they assume
 use mathlib.Core.Bool.{Bool, true, false}
 use mathlib.Core.List.{[], _∷_, map}
 use mathlib.Core.Path.{_≡_}
@@ -77,3 +78,10 @@ pub record Packets (d : Decoded) : Type 0 where
 -- the Core, Vol 6 Part B, 2.3.3.1: 0 for 251 to 500 ppm, up to 7 for 0 to 20
 pub record AccuracyCodes : Type 0 where
   pub in-order : map accuracyNumber (Ppm251To500 ∷ Ppm151To250 ∷ Ppm101To150 ∷ Ppm76To100 ∷ Ppm51To75 ∷ Ppm31To50 ∷ Ppm21To30 ∷ Ppm0To20 ∷ []) ≡ 0 ∷ 1 ∷ 2 ∷ 3 ∷ 4 ∷ 5 ∷ 6 ∷ 7 ∷ []
+
+pub record Holds : Type 0 where
+  pub numbers : NumbersGot
+  pub kinds : (complete : Bool) (value start len : ℕ) → Kinds complete value start len
+  pub passing : Passing
+  pub packets : (d : Decoded) → Packets d
+  pub accuracies : AccuracyCodes

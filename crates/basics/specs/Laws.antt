@@ -11,6 +11,7 @@
 --   Channels                 (Laws.channels)   what there is to say of a channel; the answers of a map
 --   CyclesGot                (Laws.turns)      the advertising channel after so many cycles
 --   Filters                  (Laws.filters)    what a filter says
+--   Holds (Holding.holds): all of these, with what they assume; worked values are in specs/Names and specs/Settings
 use mathlib.Core.Bool.{Bool, true, false}
 use mathlib.Core.List.{List, [], _∷_}
 use mathlib.Core.Path.{_≡_}
@@ -190,3 +191,17 @@ pub record Filters : Type 0 where
   pub does-not : matchesGot (matches.Is false) ≡ record { number = 0; first = 0; second = 0 }
   pub list-refused : (e : Error) → matchesGot (matches.Refused e) ≡ record { number = numberOf e; first = 0; second = 0 }
   pub scan-by : (f : AddressFilter) → scanFilterOf f ≡ record { scan = f }
+
+pub record Holds : Type 0 where
+  pub areas : (at : ℕ) → Areas at
+  pub structures : (next : ℕ) → Structures next
+  pub readings : (s : List ℕ) → Readings s
+  pub flags-say : (x : ℕ) → FlagsSay x
+  pub names : Names
+  pub taking : (s : ConnectionSettings) → SettingsSay s
+  pub parts : (octets : List ℕ) (g : Got) → PartsGot octets g
+  pub reads : Reads
+  pub headers : (h : Header) (out : List ℕ) (at : ℕ) → Headers h out at
+  pub channels : Channels
+  pub turns : CyclesGot
+  pub filters : Filters

@@ -2,6 +2,7 @@
 --   flagSaid answer  == the number of a refusal, or 0, and whether the CRC is right
 --   Examples         == worked values, proved as Said.examples
 --   FlagSays         (Said.says)  each answer, over all values
+--   Holds (Holding.holds): all laws of this crate
 use mathlib.Core.Bool.{Bool, true, false}
 use mathlib.Core.List.{[], _∷_, map}
 use mathlib.Core.Path.{_≡_}
@@ -24,3 +25,7 @@ pub record Examples : Type 0 where
 pub record FlagSays : Type 0 where
   pub is : (good : Bool) → flagSaid (flag.Is good) ≡ record { number = 0; good = good }
   pub is-refused : (e : Error) → flagSaid (flag.Refused e) ≡ record { number = numberOf e; good = false }
+
+pub record Holds : Type 0 where
+  pub says : FlagSays
+  pub examples : Examples

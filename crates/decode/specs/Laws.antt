@@ -1,5 +1,6 @@
 -- What a header and a payload are answered with.
 --   Decodes h p   (Laws.decodes)   they are read by the general decoder; without a header they are refused, with type 15 and no field
+--   Holds (Holding.holds): all laws of this crate
 use mathlib.Core.Bool.{false}
 use mathlib.Core.List.{List, [], _∷_}
 use mathlib.Core.Path.{_≡_}
@@ -38,3 +39,6 @@ pub record Decodes (h : Header) (p : List ℕ) : Type 0 where
     hop = 0;
     sca = 0;
   }
+
+pub record Holds : Type 0 where
+  pub decodes : (h : Header) (p : List ℕ) → Decodes h p

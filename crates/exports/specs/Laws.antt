@@ -16,6 +16,7 @@
 --   CallByCall own calls more a b n    (Runs.call-by-call)   a list of calls, one after the other, from a fresh device on
 --   EntryByEntry s entries more n      (Runs.entry-by-entry) the same of a scanner
 --   CalledSays adv conn                (Laws.says)           the numbers of each answer
+--   Holds (Holding.holds): all of these, with what they assume
 use mathlib.Core.Bool.{Bool, true, false}
 use mathlib.Core.List.{List, [], _∷_, _++_}
 use mathlib.Core.Path.{_≡_}
@@ -224,3 +225,19 @@ pub record CalledSays (adv conn : Bool) : Type 0 where
   pub stopped : answerSaid answer.Stopped adv conn ≡ record { number = 0; kind = 6; advertising = adv; connected = conn; channel = 0; header = 0; at = 0; «access_address» = 0; «crc_init» = 0 }
   pub scan-data-set : answerSaid answer.ScanDataSet adv conn ≡ record { number = 0; kind = 7; advertising = adv; connected = conn; channel = 0; header = 0; at = 0; «access_address» = 0; «crc_init» = 0 }
   pub mode-after : (c : Step) → calledSaid c ≡ answerSaid (c .answer) (isAdvertising (c .state .mode)) (isConnected (c .state .mode))
+
+pub record Holds : Type 0 where
+  pub heads : (h : Header) (tx rx : Bool) (n : ℕ) → Heads h tx rx n
+  pub builds : (a : DeviceAddress) (s : List ℕ) → BuiltSays a s
+  pub sends : (b : Beacon) (tx : List ℕ) → SentSays b tx
+  pub updates : (filtered : Bool) (t interval : ℕ) → Updates filtered t interval
+  pub hears : (s : BeaconScanner) (h : Header) (p list : List ℕ) (crcOk : Bool) → HeardSays s h p list crcOk
+  pub drawn-is : (crc buffer n t₀ t₁ t₂ t₃ i₀ i₁ i₂ i₃ h₀ h₁ : ℕ) (s : List ℕ) (kind : ℕ) → Drawn crc buffer n t₀ t₁ t₂ t₃ i₀ i₁ i₂ i₃ h₀ h₁ s kind
+  pub calls : (crc buffer n t₀ t₁ t₂ t₃ i₀ i₁ i₂ i₃ h₀ h₁ : ℕ) (s : List ℕ) (tx : List ℕ) → Calls crc buffer n t₀ t₁ t₂ t₃ i₀ i₁ i₂ i₃ h₀ h₁ s tx
+  pub entries : (crc buffer n t₀ t₁ t₂ t₃ i₀ i₁ i₂ i₃ h₀ h₁ : ℕ) (s : List ℕ) (list : List ℕ) (x : BeaconScanner) → Entries crc buffer n t₀ t₁ t₂ t₃ i₀ i₁ i₂ i₃ h₀ h₁ s list x
+  pub short : (tx list : List ℕ) (x : BeaconScanner) → Short tx list x
+  pub buffers : (d : State) (out : List ℕ) → Buffers d out
+  pub lends : (c : List ℕ) (s : Board) → LentBuffers c s
+  pub says : (adv conn : Bool) → CalledSays adv conn
+  pub call-by-call : (own : DeviceAddress) (calls more a b : List ℕ) (n : ℕ) → CallByCall own calls more a b n
+  pub entry-by-entry : (s : BeaconScanner) (entries more : List ℕ) (n : ℕ) → EntryByEntry s entries more n
