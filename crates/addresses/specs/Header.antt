@@ -1,7 +1,7 @@
 -- The header of an advertising channel PDU (the Core, Vol 6 Part B, 2.3; document 01, advertising.rs), least significant bit first.
 --
 --     | PDU type | reserved | TxAdd   | RxAdd   | length   | reserved  |
---     | headerBits 0-3 | headerBits 4-5 | bit 6   | bit 7   | headerBits 8-13| headerBits 14-15|
+--     | bits 0-3 | bits 4-5 | bit 6   | bit 7   | bits 8-13| bits 14-15|
 --
 --   headerOf n                                == the header of the 16 bits n
 --   typeCode ty, pduType n                    == the code of a type (the Core's table of PDU types), and the type of a code

@@ -5,7 +5,7 @@
 --   HeldTo f list a answer          == the answer that the filter f, with its list, has for the address a: let pass exactly if f accepts all or some entry is equal
 --   Policies scan connect list a    (Entries.policies)    which filter each request is held to, and that the other has no say
 --   boxes h                         == the boxes of the figure of a header, in order
---   OwnBits h                       (Boxes.own-bits)      the setters of a header of 16 headerBits
+--   OwnBits h                       (Boxes.own-bits)      the setters of a header of 16 bits
 --   figure ty low tx rx n top       == the header that has these in the boxes of the figure
 --   HeaderFigure ty low tx rx n top (Boxes.figures)       the figure of a header, read and set box by box
 --   HeaderReading s at              (Headers.reading)     two octets as a header; 4 and 1

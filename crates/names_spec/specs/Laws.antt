@@ -8,7 +8,7 @@
 --   LooksUp a r                 (Names.looks-up)   `nameOf` is that answer, and no other place is
 --   NoNames a r                 == both are read, and no name of either type stands in either
 --   Eleven a r                  (Names.eleven)     11 exactly where this is so
---   HandsOn a r                 (Names.hands-on)   the part handedPart on is the data of the record that is found, in its own area and place
+--   HandsOn a r                 (Names.hands-on)   the part handed on is the data of the record that is found, in its own area and place
 --   Hands s start len from part == what is handed on of s for a place: the octets there, where they lie; none, at its start, where it has fewer
 --   AnyPlace a r                (Names.any-place)  the part that any place names, in any two areas
 --   flagsArea                   == a record of Flags
@@ -18,7 +18,7 @@
 --   NameRows                    (Names.rows)       worked values: places
 --   lent x at octets            == octets that are lent at a place
 --   handedPart x a r            == where the name lies for an advertisement and a reply, and its octets
---   PartRows x                  (Names.part-rows)  worked values: what is handedPart on
+--   PartRows x                  (Names.part-rows)  worked values: what is handed on
 --   Holds                       (Names.holds)      all of these, of every two areas
 use mathlib.Core.Bool.{true}
 use mathlib.Core.List.{List, [], _∷_, _++_, map}
