@@ -242,19 +242,24 @@ fn crc(octets: &[u8]) -> u32 {
 
 /// The output that the gate holds try_hublog to, from the inputs that it makes.
 fn try_hublog_is_held(t: &mut Tried, example: &[u8], repository: &str) {
-    let mut beacons = Vec::new();
-    for n in 0..15_000u32 {
-        if n % 5_000 == 4_999 {
-            beacons.push(0);
+    let beacons = |count: u32| {
+        let mut beacons = Vec::new();
+        for n in 0..count {
+            if n % 5_000 == 4_999 {
+                beacons.push(0);
+            }
+            beacons.extend([1, 0x42, 6, n as u8, (n >> 8) as u8, 3, 4, 5, 0xC6]);
         }
-        beacons.extend([1, 0x42, 6, n as u8, (n >> 8) as u8, 3, 4, 5, 0xC6]);
-    }
-    let of = log(&beacons);
+        beacons
+    };
+    let of = log(&beacons(15_000));
+    let most = log(&beacons(1_000_000));
+    let longest = format!("1000000 beacons\nwritten {}, its end 54 octets\n{}", most.len(), text(&most[most.len() - 54..]));
     let long = format!("written {0}, found {0} octets, CRC {1:06x}\n{2}{3}", of.len(), crc(&of), text(&of[..39]), text(&of[of.len() - 54..]));
     let cut = [example, &[1, 0x42, 6, 10]].concat();
     let another = [example, &[3], example].concat();
     let wanted = format!(
-        "document 01's sample\n{}the sample, and an item that is cut short\n{}the sample, another first octet, and the sample again\n{}no input\n{}15000 beacons\n{long}the same, at most 66 octets a read\n{long}",
+        "document 01's sample\n{}the sample, and an item that is cut short\n{}the sample, another first octet, and the sample again\n{}no input\n{}15000 beacons\n{long}the same, at most 66 octets a read\n{long}{longest}",
         text(&log(example)), text(&log(&cut)), text(&log(&another)), text(&log(b""))
     );
     let stored = fs::read(format!("{repository}/crates/try_hublog/stdout")).unwrap();

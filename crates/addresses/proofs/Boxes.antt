@@ -10,7 +10,7 @@ use lib.ListN.{getD}
 use lib.Dec.{eqb}
 use borrow.Author.Tests.{eqb-true, ne-eqb, lt-ltb, le-ltb}
 use Rattle.addresses.specs.Header.{headerOf, typeCode, pduType, isBeacon, allowsAdvData}
-use Rattle.addresses.specs.Laws.{boxes, OwnBits, figure, HeaderFigure, TypeCodes, Types}
+use Rattle.addresses.specs.Laws.{boxes, OwnBits, figure, HeaderFigure, HeaderNumber, TypeCodes, Types}
 use Rattle.addresses.specs.declared.header.Header.{Header}
 use Rattle.addresses.specs.declared.header.HeaderMade.the-variants as made
 use Rattle.addresses.specs.declared.header.PduType.{PduType}
@@ -172,3 +172,6 @@ figures ty low n top tx rx a b c =
       too-long = λ m l. rw (le-ltb m 6 (omega arith), lt-ltb 37 m l);
       made-new = ap headerOf (codes .back ty ∙ omega arith);
     }
+
+pub numbered : (n : ℕ) (ty : PduType) → HeaderNumber n ty
+numbered n ty = record { given = refl; sent = refl; new = refl }

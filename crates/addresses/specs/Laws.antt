@@ -8,6 +8,7 @@
 --   OwnBits h                       (Boxes.own-bits)      the setters of a header of 16 bits
 --   figure ty low tx rx n top       == the header that has these in the boxes of the figure
 --   HeaderFigure ty low tx rx n top (Boxes.figures)       the figure of a header, read and set box by box
+--   HeaderNumber n ty               (Boxes.numbered)      a header is its 16 bits: as they are given, as they are sent, and for any type
 --   HeaderReading s at              (Headers.reading)     two octets as a header; 4 and 1
 --   TypeCodes                       (Boxes.codes)         the types of document 01 by their codes
 --   Types n                         (Boxes.types)         which codes are beacons and which have records
@@ -33,6 +34,7 @@ use Rattle.addresses.specs.declared.filter.Matches.the-variants.{Is, Ref
 use Rattle.addresses.specs.declared.header.Header.{Header}
 use Rattle.addresses.specs.declared.header.HeaderMade.the-variants as made
 use Rattle.addresses.specs.declared.header.HeaderRead.the-variants as read
+use Rattle.addresses.specs.declared.header.PduType.{PduType}
 use Rattle.addresses.specs.declared.header.PduType.the-variants.{AdvInd, AdvDirectInd, AdvNonconnInd, AdvScanInd, ScanReq, ScanRsp, ConnectReq, Unknown}
 
 -- The test of two addresses is true exactly where they are one: the same octets and the same kind.
@@ -104,6 +106,12 @@ pub record HeaderFigure (ty low : ℕ) (tx rx : Bool) (n top : ℕ) : Type 0 whe
   pub made-new : newHeader (pduType ty) ≡ figure ty 0 false false 0 0
 
 -- Two octets are a header, the first of them its bits 0 to 7. `parse` of under 2 octets is 4; `from_bytes` at a position that has fewer is 1.
+-- "other bits are kept"; what `Header::new` and `to_u16` have, for codes without a name too
+pub record HeaderNumber (n : ℕ) (ty : PduType) : Type 0 where
+  pub given : headerOf n .0 ≡ n
+  pub sent : headerOctets (headerOf n) ≡ n % 256 ∷ n / 256 % 256 ∷ []
+  pub new : newHeader ty .0 ≡ typeCode ty
+
 pub record HeaderReading (s : List ℕ) (at : ℕ) : Type 0 where
   pub parse : 2 ≤ length s → parsed s ≡ made.Header (headerOf (getD s 0 0 + 256 * getD s 1 0))
   pub parse-short : length s < 2 → parsed s ≡ made.Refused ShortHeader
@@ -141,6 +149,7 @@ pub record Holds : Type 0 where
   pub policies : (scan connect : AddressFilter) (list : List ℕ) (a : DeviceAddress) → Policies scan connect list a
   pub own-bits : (h : Header) → h .0 < 2 ^ 16 → OwnBits h
   pub figures : (ty low n top : ℕ) (tx rx : Bool) → ty < 16 → low < 4 → n < 64 → HeaderFigure ty low tx rx n top
+  pub numbered : (n : ℕ) (ty : PduType) → HeaderNumber n ty
   pub reading : (s : List ℕ) (at : ℕ) → HeaderReading s at
   pub codes : TypeCodes
   pub types : (n : ℕ) → Types n

@@ -1,5 +1,5 @@
 -- A header and a payload are accepted exactly if they have a shape of the Core: `accepting`; where the records then lie: `record-area`. Assumes nothing.
-use mathlib.Core.Bool.{Bool, true, false, cond}
+use mathlib.Core.Bool.{Bool, true, false, cond, true≢false}
 use mathlib.Core.List.{List, [], _∷_, _++_, flatten, append-nil}
 use mathlib.Core.Logic.{_⊎_, inl, inr}
 use mathlib.Core.Path.{_≡_, refl, sym, ap, subst, _∙_}
@@ -11,6 +11,7 @@ use denote.Ref.{RefT, now}
 use borrow.Author.Tests.{eq-eqb, eqb-true, le-ltb, ltb-false}
 use Rattle.addresses.specs.Address.{kindOf, addressOf}
 use Rattle.addresses.specs.Header.{typeOf, txAdd, rxAdd, lengthOf, allowsAdvData}
+use Rattle.addresses.specs.declared.device_address.DeviceAddress.{DeviceAddress}
 use Rattle.addresses.specs.declared.header.Header.{Header}
 use Rattle.addresses.specs.declared.header.PduType.{PduType}
 use Rattle.addresses.specs.declared.header.PduType.the-variants.{AdvInd, AdvDirectInd, AdvNonconnInd, AdvScanInd, ScanReq, ScanRsp, ConnectReq, Unknown}
@@ -18,14 +19,15 @@ use Rattle.channels.specs.Map.{fromRaw}
 use Rattle.octets.proofs.PartOf.{part-is}
 use Rattle.octets.specs.Bytes.{part, partOr, partPlace, le}
 use Rattle.octets.specs.declared.error.Error.{Error}
-use Rattle.octets.specs.declared.error.Error.the-variants.{Eof, InvalidLength}
+use Rattle.octets.specs.declared.error.Error.the-variants.{Eof, InvalidLength, InvalidValue}
 use Rattle.records_spec.specs.Area.{readArea}
 use Rattle.records_spec.specs.declared.area.Area.{Area}
 use Rattle.records_spec.specs.declared.area.Area.the-variants as area
-use Rattle.advertising.specs.Laws.{Figure, ShapedBy, with-records, two-addresses, with-lldata, AcceptingBy, Accepting, AcceptingHeard, RecordAreaBy, RecordArea, RecordAreaHeard}
+use Rattle.advertising.specs.Laws.{Figure, ShapedBy, with-records, two-addresses, with-lldata, AcceptingBy, Accepting, AcceptingHeard, RecordAreaBy, RecordArea, RecordAreaHeard, DataPart, NoPdu}
 use Rattle.advertising.specs.Pdu.{undirectedFigure, directedFigure, connectFigure, accuracyOf, requestOf, noRequest, noAddress, noData, senderOf, receiverOf, dataIn, dataPlace, decodedAs, refusedPdu, withArea, undirected, directed, connectRequest, byType, decodeBy, Reading, asHub}
 use Rattle.octets.specs.Error.{isAccepted}
 use Rattle.advertising.specs.declared.pdu.AdvData.{AdvData}
+use Rattle.advertising.specs.declared.pdu.ConnectRequestData.{ConnectRequestData}
 use Rattle.advertising.specs.declared.pdu.Decoded.{Decoded}
 use Rattle.octets.specs.declared.error.Outcome.{Outcome}
 use Rattle.octets.specs.declared.error.Outcome.the-variants.{Accepted, Refused}
@@ -206,3 +208,67 @@ record-area h p = record-area-by readArea h p
 
 pub record-area-heard : (h : Header) (p : RefT (List ℕ)) → RecordAreaHeard h p
 record-area-heard h p = record-area-by asHub h p
+
+pub data-part : (d : AdvData) (p : RefT (List ℕ)) → DataPart d p
+data-part d p =
+    record {
+      there = λ before xs rest is starts long.
+          let told = part-is p .there before xs rest is in
+          (rw (starts, long) (told .0), rw (starts, long) (told .1));
+      fewer = λ few. part-is p .fewer (d .len) (d .start) few;
+    }
+
+-- beside a refusal there is no PDU, case by case
+
+abbrev Blank : Decoded → Type 0
+Blank d = (e : Error) → d .outcome ≡ Refused e → d .pdu ≡ refusedPdu Eof .pdu
+
+blank-accepted : (ty : PduType) (s r : DeviceAddress) (d : AdvData) (l : ConnectRequestData) → Blank (decodedAs Accepted ty s r d l)
+blank-accepted ty s r d l e is = absurd (true≢false (ap isAccepted is))
+
+blank-either : (b : Bool) (x y : Decoded) → Blank x → Blank y → Blank (cond b x y)
+blank-either true x y first second = first
+blank-either false x y first second = second
+
+blank-refused : (e : Error) → Blank (refusedPdu e)
+blank-refused e e′ is = refl
+
+blank-area : (ty : PduType) (h : Header) (p : List ℕ) (a : Area) → Blank (withArea ty h p a)
+unfolding withArea
+blank-area ty h p (area.Accepted n) = blank-accepted ty (senderOf h p) noAddress (record { start = 6; len = length p - 6; count = n }) noRequest
+blank-area ty h p (area.Refused e) = blank-refused e
+
+module _ (reading : Reading) (h : Header) (p : List ℕ) where
+  blank-undirected : (ty : PduType) → Blank (undirected reading ty h p)
+  unfolding undirected
+  blank-undirected ty = blank-either (ltb (length p) 6) (refusedPdu Eof) (withArea ty h p (reading (drop 6 p))) (blank-refused Eof) (blank-area ty h p (reading (drop 6 p)))
+
+  blank-directed : (ty : PduType) → Blank (directed ty h p)
+  unfolding directed
+  blank-directed ty =
+      blank-either (ltb (length p) 12) (refusedPdu Eof) (decodedAs Accepted ty (senderOf h p) (receiverOf h p) noData noRequest) (blank-refused Eof)
+      (blank-accepted ty (senderOf h p) (receiverOf h p) noData noRequest)
+
+  blank-request : Blank (connectRequest h p)
+  unfolding connectRequest
+  blank-request =
+      blank-either (ltb (length p) 34) (refusedPdu Eof) (decodedAs Accepted ConnectReq (senderOf h p) (receiverOf h p) noData (requestOf p)) (blank-refused Eof)
+      (blank-accepted ConnectReq (senderOf h p) (receiverOf h p) noData (requestOf p))
+
+  blank-type : (ty : PduType) → Blank (byType reading ty h p)
+  unfolding byType
+  blank-type AdvInd = blank-undirected AdvInd
+  blank-type AdvDirectInd = blank-directed AdvDirectInd
+  blank-type AdvNonconnInd = blank-undirected AdvNonconnInd
+  blank-type AdvScanInd = blank-undirected AdvScanInd
+  blank-type ScanReq = blank-directed ScanReq
+  blank-type ScanRsp = blank-undirected ScanRsp
+  blank-type ConnectReq = blank-request
+  blank-type (Unknown n) = blank-refused InvalidValue
+
+  blank : Blank (decodeBy reading h p)
+  unfolding decodeBy
+  blank = blank-either (eqb (lengthOf h) (length p)) (byType reading (typeOf h) h p) (refusedPdu InvalidLength) (blank-type (typeOf h)) (blank-refused InvalidLength)
+
+pub no-pdu : (h : Header) (p : List ℕ) → NoPdu h p
+no-pdu h p = record { strictly = blank readArea h p; as-hub = blank asHub h p; no-header = λ e. refl }

@@ -144,6 +144,7 @@ examples =
       most-28 = refl;
       empty = (refl, refl, refl);
       second-address = refl;
+      none-without-a-name = λ n. refl;
       parts = refl;
       no-part = refl;
       window-end = refl;

@@ -1,6 +1,6 @@
 -- All laws of this crate. Assumes nothing.
 use Rattle.advertising.specs.Holds.{Holds}
-use Rattle.advertising.proofs.Accepting.{accepting, accepting-heard, record-area, record-area-heard}
+use Rattle.advertising.proofs.Accepting.{accepting, accepting-heard, record-area, record-area-heard, data-part, no-pdu}
 use Rattle.advertising.proofs.Builders.{builders, directed, writing, examples}
 use Rattle.advertising.proofs.Building.{building}
 use Rattle.advertising.proofs.Examples.{example, accuracies, window-end}
@@ -14,6 +14,8 @@ holds = record {
   accepting-heard = accepting-heard;
   record-area = record-area;
   record-area-heard = record-area-heard;
+  data-part = data-part;
+  no-pdu = no-pdu;
   building = building;
   example = example;
   accuracies = accuracies;

@@ -17,6 +17,7 @@ use Rattle.addresses.specs.Address.{kindNumber, addressOf}
 use Rattle.addresses.specs.Header.{pduType}
 use Rattle.addresses.specs.declared.device_address.AddressKind.the-variants.{Public, Random}
 use Rattle.addresses.specs.declared.device_address.DeviceAddress.{DeviceAddress}
+use Rattle.addresses.specs.declared.header.PduType.the-variants.{Unknown}
 use Rattle.octets.specs.Bytes.{leBytes, atFront}
 use Rattle.octets.specs.declared.bytes.Written.the-variants as written
 use Rattle.octets.specs.declared.error.Error.{Error}
@@ -114,6 +115,7 @@ pub record Examples : Type 0 where
   pub empty : (emptyBuf .header .0 ≡ 0) × (emptyBuf .«payload_buf» ≡ replicate 37 0) × (payloadOf emptyBuf ≡ [])
   -- types 1, 3 and 5 have a second address, the others and 7 have none
   pub second-address : map (λ (n : ℕ). hasReceiver (pduType n)) (0 ∷ 1 ∷ 2 ∷ 3 ∷ 4 ∷ 5 ∷ 6 ∷ 7 ∷ []) ≡ false ∷ true ∷ false ∷ true ∷ false ∷ true ∷ false ∷ false ∷ []
+  pub none-without-a-name : (n : ℕ) → hasReceiver (Unknown n) ≡ false
   -- the records of nine octets, no part of nine octets, and none
   pub parts : dataIn (record { start = 6; len = 3; count = 1 }) nine ≡ 0x02 ∷ 0x01 ∷ 0x06 ∷ []
   pub no-part : dataIn (record { start = 6; len = 4; count = 1 }) nine ≡ []

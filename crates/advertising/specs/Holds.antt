@@ -7,10 +7,11 @@ use denote.Ref.{RefT}
 use Rattle.addresses.specs.declared.device_address.DeviceAddress.{DeviceAddress}
 use Rattle.addresses.specs.declared.header.Header.{Header}
 use Rattle.advertising.specs.Builders.{Builders, Directed, Writing, Examples}
-use Rattle.advertising.specs.Laws.{Accepting, AcceptingHeard, Building, RequestExample, Accuracies, WindowEnd, RecordArea, RecordAreaHeard}
+use Rattle.advertising.specs.Laws.{Accepting, AcceptingHeard, Building, RequestExample, Accuracies, WindowEnd, RecordArea, RecordAreaHeard, DataPart, NoPdu}
 use Rattle.advertising.specs.Padded.{Heard, Alike, DecodedRows}
 use Rattle.advertising.specs.Refusals.{Order, FromBytes, RefusalRows}
 use Rattle.advertising.specs.Table.{Table}
+use Rattle.advertising.specs.declared.pdu.AdvData.{AdvData}
 use Rattle.advertising.specs.declared.pdu_buf.PduBuf.{PduBuf}
 
 pub record Holds : Type 0 where
@@ -18,6 +19,8 @@ pub record Holds : Type 0 where
   pub accepting-heard : (h : Header) (p : List ℕ) → AcceptingHeard h p
   pub record-area : (h : Header) (p : RefT (List ℕ)) → RecordArea h p
   pub record-area-heard : (h : Header) (p : RefT (List ℕ)) → RecordAreaHeard h p
+  pub data-part : (d : AdvData) (p : RefT (List ℕ)) → DataPart d p
+  pub no-pdu : (h : Header) (p : List ℕ) → NoPdu h p
   pub building : Building
   pub example : RequestExample
   pub accuracies : Accuracies

@@ -17,6 +17,8 @@
 --   RecordAreaBy decoder h p        == the records of a payload that a decoder accepts are its part after the address, in its own place
 --   RecordArea h p                  (Accepting.record-area)        where the records of a payload lie that the general decoder accepts
 --   RecordAreaHeard h p             (Accepting.record-area-heard)  the same of the hub's decoder
+--   DataPart d p                    (Accepting.data-part)          what a place of any values hands on of a payload
+--   NoPdu h p                       (Accepting.no-pdu)             beside a refusal there is no PDU
 use mathlib.Core.Bool.{true, false}
 use mathlib.Core.List.{List, [], _∷_, _++_, map, flatten}
 use mathlib.Core.Logic.{_⊎_}
@@ -29,6 +31,7 @@ use Rattle.addresses.specs.Header.{headerOf, typeOf, txAdd, rxAdd, lengthOf, al
 use Rattle.addresses.specs.declared.device_address.AddressKind.the-variants.{Public, Random}
 use Rattle.addresses.specs.declared.device_address.DeviceAddress.{DeviceAddress}
 use Rattle.addresses.specs.declared.header.Header.{Header}
+use Rattle.addresses.specs.declared.header.HeaderRead.the-variants as read
 use Rattle.addresses.specs.declared.header.PduType.{PduType}
 use Rattle.addresses.specs.declared.header.PduType.the-variants.{AdvInd, AdvDirectInd, ScanReq, ConnectReq, Unknown}
 use Rattle.channels.specs.Map.{fromRaw}
@@ -37,12 +40,12 @@ use Rattle.octets.specs.declared.error.Error.{Error}
 use Rattle.octets.specs.declared.error.Error.the-variants.{Eof}
 use Rattle.records_spec.specs.Area.{readArea, rewritten}
 use Rattle.records_spec.specs.declared.area.Area.the-variants as area
-use Rattle.advertising.specs.Pdu.{undirectedFigure, directedFigure, connectFigure, accuracyOf, windowEnd, noRequest, noAddress, noData, dataIn, dataPlace, decodedAs, Reading, decodeOf, asHub, heardOf}
+use Rattle.advertising.specs.Pdu.{undirectedFigure, directedFigure, connectFigure, accuracyOf, windowEnd, noRequest, noAddress, noData, dataIn, dataPlace, decodedAs, Reading, decodeOf, decodedAt, asHub, heardOf}
 use Rattle.advertising.specs.PduBuf.{headerFor, refusedBuf, builtOf, builtDirected, flagsRecord, payloadOf}
 use Rattle.advertising.specs.declared.pdu.AdvData.{AdvData}
 use Rattle.advertising.specs.declared.pdu.ConnectRequestData.{ConnectRequestData}
 use Rattle.advertising.specs.declared.pdu.Decoded.{Decoded}
-use Rattle.octets.specs.declared.error.Outcome.the-variants.{Accepted}
+use Rattle.octets.specs.declared.error.Outcome.the-variants.{Accepted, Refused}
 use Rattle.advertising.specs.declared.pdu.SleepClockAccuracy.{SleepClockAccuracy}
 use Rattle.advertising.specs.declared.pdu.SleepClockAccuracy.the-variants.{Ppm251To500, Ppm151To250, Ppm101To150, Ppm76To100, Ppm51To75, Ppm31To50, Ppm21To30, Ppm0To20}
 use Rattle.advertising.specs.declared.pdu_buf.PduBuf.{PduBuf}
@@ -205,3 +208,15 @@ RecordArea h p = RecordAreaBy decodeOf h p
 
 abbrev pub RecordAreaHeard : Header → RefT (List ℕ) → Type 0
 RecordAreaHeard h p = RecordAreaBy heardOf h p
+
+-- octets xs that stand where a place says: these, in their own place; none, at the start, where there are fewer
+pub record DataPart (d : AdvData) (p : RefT (List ℕ)) : Type 0 where
+  pub there : (before xs rest : List ℕ) → now p ≡ before ++ (xs ++ rest) → d .start ≡ length before → d .len ≡ length xs
+      → (dataIn d (now p) ≡ xs) × (dataPlace d p ≡ (p .ptr .0, p .ptr .1 + length before))
+  pub fewer : length (now p) < d .start + d .len → (dataIn d (now p) ≡ []) × (dataPlace d p ≡ p .ptr)
+
+-- type 15, which no PDU has, and zeros, whatever was refused
+pub record NoPdu (h : Header) (p : List ℕ) : Type 0 where
+  pub strictly : (e : Error) → decodeOf h p .outcome ≡ Refused e → decodeOf h p .pdu ≡ record { ty = Unknown 15; sender = noAddress; receiver = noAddress; «adv_data» = noData; lldata = noRequest }
+  pub as-hub : (e : Error) → heardOf h p .outcome ≡ Refused e → heardOf h p .pdu ≡ record { ty = Unknown 15; sender = noAddress; receiver = noAddress; «adv_data» = noData; lldata = noRequest }
+  pub no-header : (e : Error) → decodedAt (read.Refused e) p .pdu ≡ record { ty = Unknown 15; sender = noAddress; receiver = noAddress; «adv_data» = noData; lldata = noRequest }

@@ -1,6 +1,6 @@
 -- All laws of this crate. Assumes nothing.
 use Rattle.octets.specs.Laws.{Holds}
-use Rattle.octets.proofs.Answers.{enough, too-few, truncates, left}
+use Rattle.octets.proofs.Answers.{enough, too-few, at-front, outcome-says, truncates, left}
 use Rattle.octets.proofs.Examples.{examples}
 use Rattle.octets.proofs.Laws.{parts, written-keeps, read-back, later-is, elapsed}
 use Rattle.octets.proofs.Numbers.{field, least-first, most-first, full-is, uuid-numbers}
@@ -14,6 +14,8 @@ holds = record {
   read-back = read-back;
   enough = enough;
   too-few = too-few;
+  at-front = at-front;
+  outcome-says = outcome-says;
   truncates = truncates;
   left = left;
   least-first = least-first;

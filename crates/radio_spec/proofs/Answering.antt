@@ -76,6 +76,7 @@ tick-sends d tx =
     record {
       off = λ standing. rw standing;
       sends = λ on fits. rw (on, writing (d .adv .pdu) tx .fits fits);
+      moves-on = λ on fits. rw (on, writing (d .adv .pdu) tx .fits fits);
       no-room = λ on short. rw (on, writing (d .adv .pdu) tx .short short);
     }
 
@@ -85,6 +86,9 @@ event-hops d =
     record {
       off = λ standing. rw standing;
       given = λ on low some.
+          let there = hop-there (d .conn .«channel_map») (d .conn .«unmapped_channel») (d .conn .hop) low some in
+          rw (on, there);
+      moves-on = λ on low some.
           let there = hop-there (d .conn .«channel_map») (d .conn .«unmapped_channel») (d .conn .hop) low some in
           rw (on, there);
     }

@@ -14,7 +14,8 @@ use Rattle.advertising.specs.PduBuf.{bufOf, afterReading, withRecords}
 use Rattle.settings.specs.Settings.{inRanges, takenOf}
 use Rattle.radio_spec.specs.Calls.{isFor, connectsTo, addressed, hops, startOf, startAfter, tickOf, tickAfter, packetOf, packetAfter, eventOf}
 use Rattle.radio_spec.specs.Examples.{Example, TitleExample, Limits, Long}
-use Rattle.radio_spec.specs.Trace.{trace}
+use Rattle.radio_spec.specs.SoFar.{refusedBy, startNumber, scanDataNumber, thenCall, requested, connects}
+use Rattle.radio_spec.specs.Trace.{trace, tickRun, eventRun, hearRun}
 
 pub example : Example
 unfolding flatten count placed mapped marked marks channelAt cleared cut reads areaOf readArea rewritten sameOctets sameAddress pduType llDataOf connectRequest byType decodeBy bufOf afterReading withRecords takenOf inRanges isFor connectsTo addressed hops startOf startAfter tickOf tickAfter packetOf eventOf trace named flagsRead uuidsRead dataRead upTo recordRead first withFirst clean
@@ -29,5 +30,5 @@ unfolding flatten count placed mapped marked marks channelAt cleared cut reads a
 limits = record { answers = refl; octets = refl; longest = refl }
 
 pub long : Long
-unfolding flatten count placed mapped marked marks channelAt cleared cut reads areaOf readArea rewritten sameOctets sameAddress pduType llDataOf directed connectRequest byType decodeBy bufOf afterReading withRecords takenOf inRanges isFor connectsTo addressed hops startOf startAfter tickOf tickAfter packetOf packetAfter eventOf trace named flagsRead uuidsRead dataRead upTo recordRead first withFirst clean
-long = record { before = refl; first = refl; events = refl; after = refl }
+unfolding flatten count placed mapped marked marks channelAt cleared cut reads areaOf readArea rewritten sameOctets sameAddress pduType llDataOf directed connectRequest byType decodeBy bufOf afterReading withRecords takenOf inRanges isFor connectsTo addressed hops startOf startAfter tickOf tickAfter packetOf packetAfter eventOf trace named flagsRead uuidsRead dataRead upTo recordRead first withFirst clean tickRun eventRun hearRun refusedBy startNumber scanDataNumber thenCall requested connects
+long = record { before = refl; first = refl; events = refl; runs = refl; after = refl }

@@ -52,10 +52,10 @@ use Rattle.settings.specs.declared.ConnectionSettings.{ConnectionSettings}
 use Rattle.settings.specs.declared.Taken.{Taken}
 use Rattle.radio_spec.specs.Calls.{instant, firstEventAt, isAdvertising, isConnected, isScanRequest, refusal, sent, beginning, discoverable, started, startedAfter, isFor, listens, responds, repliedIf, pduHeard, begun, settled, connectsTo, addressed, setTo, hoppedTo, hops, startOf, startAfter, tickOf, tickAfter, packetOf, packetAfter, eventOf, stopOf}
 use Rattle.radio_spec.specs.Demand.{numberIn, replyHeader, replyOctets, ReplyOf}
-use Rattle.radio_spec.specs.Laws.{ForBoard, Scans, Requests, Words, Modes, CallRefused, Transmits, BadStart, HearsPacket}
+use Rattle.radio_spec.specs.Laws.{ForBoard, Scans, Requests, Words, Modes, CallRefused, ListWords, Transmits, BadStart, HearsPacket}
 use Rattle.radio_spec.specs.Call.{Call, start, tick, packet, event, stop, setScanData, callOf}
 use Rattle.radio_spec.specs.SoFar.{isConnectRequest, forBoard, requested, asksToScan, mapIn, hopIn, connects, replySize}
-use Rattle.radio_spec.specs.Trace.{Strikable}
+use Rattle.radio_spec.specs.Trace.{InRun, gathered, gather, tickRun, eventRun, hearRun, Strikable}
 use Rattle.radio_spec.specs.State.{Advertisement, State, Step}
 use Rattle.radio_spec.specs.declared.link.Answer.{Answer}
 use Rattle.radio_spec.specs.declared.link.Answer.the-variants.{Refused, Sent, Listen, Respond, FirstEvent, NextEvent, Stopped, ScanDataSet}
@@ -510,3 +510,31 @@ module _ (d : State) (end : Instant) (h : Header) (p : List ℕ) (crcGood : Bool
         off = off;
         unwritten = unwritten;
       }
+
+-- the words of the list
+
+pub list-words : ListWords
+unfolding tickRun eventRun hearRun
+list-words =
+    record {
+      start-lent = λ time interval records tx. refl;
+      tick-lent = λ tx. refl;
+      packet-lent = λ end h p crcGood tx. refl;
+      set-lent = λ records. refl;
+      start-transmits = λ xs time interval records tx. refl;
+      tick-transmits = λ xs tx. refl;
+      packet-transmits = λ xs end h p crcGood tx. refl;
+      a-start = λ time interval records tx. refl;
+      a-tick = λ tx. refl;
+      a-packet = λ ok end h p crcGood tx. refl;
+      an-event = refl;
+      a-stop = λ ok. refl;
+      a-set = λ ok records. refl;
+      refused-start = λ time interval records tx. refl;
+      refused-tick = λ tx. refl;
+      refused-event = refl;
+      none-left = λ role. refl;
+      at-end = λ role e later is. ap (λ (r : InRun). gathered r e (gather role later)) is;
+      at-one = λ role e later is. ap (λ (r : InRun). gathered r e (gather role later)) is;
+      passed = λ role e later is. ap (λ (r : InRun). gathered r e (gather role later)) is;
+    }

@@ -8,7 +8,7 @@
 use mathlib.Core.Bool.{Bool, true, false}
 use mathlib.Core.List.{List}
 use mathlib.Core.Path.{_≡_}
-use Prim.Native.Nat.{ℕ, _+_, _≤_, _<_}
+use Prim.Native.Nat.{ℕ, _+_, _%_, _≤_, _<_}
 use lib.ListN.{length}
 use Rattle.octets.specs.Time.{later}
 use Rattle.octets.specs.declared.error.Error.the-variants.{Eof, WrongMode}
@@ -45,11 +45,36 @@ pub record TickSends (d : State) (tx : List ℕ) : Type 0 where
   pub off : isAdvertising (d .mode) ≡ false → callOf d (tick tx) ≡ record { answer = Refused WrongMode; state = d }
   pub sends : d .mode ≡ Advertising → length (payloadOf (d .adv .pdu)) ≤ length tx
       → callOf d (tick tx) .answer ≡ Sent (d .adv .pdu .header) (cycled (d .adv .channel)) (instant (later (d .adv .«next_adv» .0) (d .adv .interval)))
+  -- what is kept for the next tick: the instant and the channel move on, and nothing else
+  pub moves-on : d .mode ≡ Advertising → length (payloadOf (d .adv .pdu)) ≤ length tx
+      → callOf d (tick tx) .state
+      ≡ record {
+        mode = Advertising;
+        «dev_addr» = d .«dev_addr»;
+        «scan_response» = d .«scan_response»;
+        adv = record {
+          «next_adv» = instant (later (d .adv .«next_adv» .0) (d .adv .interval));
+          interval = d .adv .interval;
+          pdu = d .adv .pdu;
+          channel = cycled (d .adv .channel);
+        };
+        conn = d .conn;
+      }
   pub no-room : d .mode ≡ Advertising → length tx < length (payloadOf (d .adv .pdu)) → callOf d (tick tx) ≡ record { answer = Refused Eof; state = d }
 
 pub record EventHops (d : State) : Type 0 where
   pub off : isConnected (d .mode) ≡ false → callOf d event ≡ record { answer = Refused WrongMode; state = d }
   pub given : d .mode ≡ Connected → d .conn .«unmapped_channel» ≤ 36 → 0 < d .conn .«channel_map» .«num_used_channels» → numberIn (callOf d event .answer) ≡ 0
+  -- what is kept for the next event: the hop, of five bits, is added modulo 37, and nothing else moves
+  pub moves-on : d .mode ≡ Connected → d .conn .«unmapped_channel» ≤ 36 → 0 < d .conn .«channel_map» .«num_used_channels»
+      → callOf d event .state
+      ≡ record {
+        mode = Connected;
+        «dev_addr» = d .«dev_addr»;
+        «scan_response» = d .«scan_response»;
+        adv = d .adv;
+        conn = record { «channel_map» = d .conn .«channel_map»; hop = d .conn .hop; «unmapped_channel» = (d .conn .«unmapped_channel» + d .conn .hop % 32) % 37 };
+      }
 
 -- "Stop .. leads to standby. Only a stop or an accepted start ends a connection, and only a stop or a connection ends advertising.": the mode of any device after any
 -- call, by what the call answered

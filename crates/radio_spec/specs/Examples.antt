@@ -19,7 +19,7 @@ use mathlib.Core.Bool.{Bool, true, false}
 use mathlib.Core.List.{List, [], _∷_, _++_, map}
 use mathlib.Core.Path.{_≡_}
 use Prim.Native.Nat.{ℕ, _+_}
-use lib.ListN.{take, drop, replicate}
+use lib.ListN.{length, take, drop, replicate}
 use Rattle.octets.specs.declared.error.Error.the-variants.{Eof, InvalidLength, WrongMode, EmptyMap, OutOfRange}
 use Rattle.channels.specs.declared.phy.AdvertisingChannel.the-variants.{Channel37, Channel38, Channel39}
 use Rattle.addresses.specs.Address.{addressOf}
@@ -28,7 +28,7 @@ use Rattle.addresses.specs.declared.device_address.AddressKind.the-variants.{Pu
 use Rattle.addresses.specs.declared.device_address.DeviceAddress.{DeviceAddress}
 use Rattle.radio_spec.specs.Calls.{instant}
 use Rattle.radio_spec.specs.Call.{Call, start, tick, packet, event, stop, setScanData}
-use Rattle.radio_spec.specs.Trace.{Entry, trace, eventOn, channelsBy, times}
+use Rattle.radio_spec.specs.Trace.{Entry, trace, eventOn, channelsBy, times, gather, tickRun, eventRun, hearRun}
 use Rattle.radio_spec.specs.declared.link.Answer.{Answer}
 use Rattle.radio_spec.specs.declared.link.Answer.the-variants.{Refused, Sent, Listen, Respond, FirstEvent, NextEvent, Stopped, ScanDataSet}
 
@@ -298,6 +298,8 @@ pub record Long : Type 0 where
   -- the channels of the 40 events; the last three begin the cycle anew
   pub events : channelsBy eventOn (take 40 (drop 10 longTrace))
       ≡ 3 ∷ 1 ∷ 3 ∷ 1 ∷ 3 ∷ 1 ∷ 3 ∷ 3 ∷ 1 ∷ 3 ∷ 1 ∷ 3 ∷ 1 ∷ 3 ∷ 1 ∷ 1 ∷ 3 ∷ 1 ∷ 3 ∷ 1 ∷ 3 ∷ 1 ∷ 1 ∷ 3 ∷ 1 ∷ 3 ∷ 1 ∷ 3 ∷ 1 ∷ 1 ∷ 3 ∷ 1 ∷ 3 ∷ 1 ∷ 3 ∷ 1 ∷ 1 ∷ 3 ∷ 1 ∷ 3 ∷ []
+  -- the runs: the ticks of the first start, the events of the connection, and the packets after the last tick before it
+  pub runs : length (gather tickRun (drop 1 longTrace)) ∷ length (gather eventRun (drop 11 longTrace)) ∷ length (gather hearRun (drop 10 longTrace)) ∷ [] ≡ 5 ∷ 39 ∷ 1 ∷ []
   pub after : map (λ (e : Entry). e .result .answer) (drop 50 longTrace)
       ≡ Stopped
       ∷ Refused WrongMode

@@ -7,6 +7,8 @@
 --   Modes m                             (Words.modes)             which mode advertises, and which is connected
 --   lentBy c                            == the octets of a call's lent buffers, as they were lent
 --   CallRefused d c e                   (Words.refusing)          a refused call changes nothing
+--   inRuns ok c                         == what the call c is to a run of ticks, of events and of packets, where it is accepted or not
+--   ListWords                           (Words.list-words)        the words of the list over all calls: buffers as lent, a payload transmitted, and the runs
 --   Transmits d tx                      (Words.transmits)         what an accepted start and tick write
 --   ReplyDecodes own s n                (Replies.reply-decodes)   a reply by the Core: its header field by field, and what it is read as
 --   Bare own                            (Replies.bare)            a fresh device's reply has no scan data
@@ -42,10 +44,10 @@ use Rattle.octets.specs.declared.error.Outcome.the-variants as outcome
 use Rattle.radio_spec.specs.Answering.{StartSends, TickSends, EventHops, ModeMoves}
 use Rattle.radio_spec.specs.Examples.{Example, TitleExample, Limits, Long}
 use Rattle.radio_spec.specs.Calls.{isAdvertising, isConnected, instant, fresh, packetOf, packetAfter}
-use Rattle.radio_spec.specs.Demand.{numberIn, replyHeader, replyOctets, ReplyOf, Demand3}
+use Rattle.radio_spec.specs.Demand.{numberIn, transmitted, replyHeader, replyOctets, ReplyOf, Demand3}
 use Rattle.radio_spec.specs.Call.{Call, start, tick, packet, event, stop, setScanData, callOf, octetsOf}
 use Rattle.radio_spec.specs.SoFar.{forBoard, asksToScan, mapIn, hopIn, connects, replySize}
-use Rattle.radio_spec.specs.Trace.{Strikable}
+use Rattle.radio_spec.specs.Trace.{Entry, accepted, InRun, ends, inside, outside, gather, tickRun, eventRun, hearRun, Strikable}
 use Rattle.radio_spec.specs.declared.link.Answer.the-variants.{Refused, Listen, Respond, FirstEvent, ScanDataSet}
 use Rattle.radio_spec.specs.State.{State}
 use Rattle.radio_spec.specs.declared.link.Mode.{Mode}
@@ -110,6 +112,36 @@ lentBy (setScanData records) = records ∷ []
 pub record CallRefused (d : State) (c : Call) (e : Error) : Type 0 where
   pub state : callOf d c .answer ≡ Refused e → callOf d c .state ≡ d
   pub buffers : callOf d c .answer ≡ Refused e → octetsOf d c ≡ lentBy c
+
+abbrev pub inRuns : Bool → Call → List InRun
+inRuns ok c = tickRun ok c ∷ eventRun ok c ∷ hearRun ok c ∷ []
+
+-- The words that speak of the list alone, for any arguments. The columns of the runs: of ticks, "from one accepted start to the next"; of events, "until a stop or an accepted
+-- start"; of packets, up to the next accepted start or tick.
+pub record ListWords : Type 0 where
+  pub start-lent : (time : Instant) (interval : ℕ) (records tx : List ℕ) → lentBy (start time interval records tx) ≡ records ∷ tx ∷ []
+  pub tick-lent : (tx : List ℕ) → lentBy (tick tx) ≡ tx ∷ []
+  pub packet-lent : (end : Instant) (h : Header) (p : List ℕ) (crcGood : Bool) (tx : List ℕ) → lentBy (packet end h p crcGood tx) ≡ p ∷ tx ∷ []
+  pub set-lent : (records : List ℕ) → lentBy (setScanData records) ≡ records ∷ []
+  pub start-transmits : (xs : List ℕ) (time : Instant) (interval : ℕ) (records tx : List ℕ)
+      → transmitted xs (start time interval records tx) ≡ records ∷ (xs ++ drop (length xs) tx) ∷ []
+  pub tick-transmits : (xs tx : List ℕ) → transmitted xs (tick tx) ≡ (xs ++ drop (length xs) tx) ∷ []
+  pub packet-transmits : (xs : List ℕ) (end : Instant) (h : Header) (p : List ℕ) (crcGood : Bool) (tx : List ℕ)
+      → transmitted xs (packet end h p crcGood tx) ≡ p ∷ (xs ++ drop (length xs) tx) ∷ []
+  pub a-start : (time : Instant) (interval : ℕ) (records tx : List ℕ) → inRuns true (start time interval records tx) ≡ ends ∷ ends ∷ ends ∷ []
+  pub a-tick : (tx : List ℕ) → inRuns true (tick tx) ≡ inside ∷ outside ∷ ends ∷ []
+  pub a-packet : (ok : Bool) (end : Instant) (h : Header) (p : List ℕ) (crcGood : Bool) (tx : List ℕ) → inRuns ok (packet end h p crcGood tx) ≡ outside ∷ outside ∷ inside ∷ []
+  pub an-event : inRuns true event ≡ outside ∷ inside ∷ outside ∷ []
+  pub a-stop : (ok : Bool) → inRuns ok stop ≡ outside ∷ ends ∷ outside ∷ []
+  pub a-set : (ok : Bool) (records : List ℕ) → inRuns ok (setScanData records) ≡ outside ∷ outside ∷ outside ∷ []
+  pub refused-start : (time : Instant) (interval : ℕ) (records tx : List ℕ) → inRuns false (start time interval records tx) ≡ outside ∷ outside ∷ outside ∷ []
+  pub refused-tick : (tx : List ℕ) → inRuns false (tick tx) ≡ outside ∷ outside ∷ outside ∷ []
+  pub refused-event : inRuns false event ≡ outside ∷ outside ∷ outside ∷ []
+  -- a run ends at its first end, and holds what is inside, in order
+  pub none-left : (role : Bool → Call → InRun) → gather role [] ≡ []
+  pub at-end : (role : Bool → Call → InRun) (e : Entry) (later : List Entry) → role (accepted e) (e .call) ≡ ends → gather role (e ∷ later) ≡ []
+  pub at-one : (role : Bool → Call → InRun) (e : Entry) (later : List Entry) → role (accepted e) (e .call) ≡ inside → gather role (e ∷ later) ≡ e ∷ gather role later
+  pub passed : (role : Bool → Call → InRun) (e : Entry) (later : List Entry) → role (accepted e) (e .call) ≡ outside → gather role (e ∷ later) ≡ gather role later
 
 -- An accepted tick writes the payload at the front of the transmit buffer and keeps the octets after it. An accepted start's payload is the own address,
 -- Flags and the records, whose undefined Flags bits are cleared.
@@ -193,6 +225,7 @@ pub record Holds : Type 0 where
   pub words : (own : DeviceAddress) (h : Header) (p : List ℕ) → Words own h p
   pub modes : (m : Mode) → Modes m
   pub refusing : (d : State) (c : Call) (e : Error) → CallRefused d c e
+  pub list-words : ListWords
   pub transmits : (d : State) (tx : List ℕ) → Transmits d tx
   pub reply-decodes : (own : DeviceAddress) (s : List ℕ) (n : ℕ) → length (own .bytes) ≡ 6 → readArea s ≡ area.Accepted n → length s ≤ 31 → ReplyDecodes own s n
   pub bare : (own : DeviceAddress) → length (own .bytes) ≡ 6 → Bare own

@@ -1,6 +1,7 @@
 // Calls every function of the libraries to link and prints what it answers, in the form of compare/link/every.c, from whose known answers, compare/link/every.out, each
 // line of the stored output is taken: they are document 01's and 02's, and those on which rubble and other implementations agree. What an answer's numbers are for other
 // values is a law of the library (specs/Laws).
+use advertising::pdu_buf::MAX_PAYLOAD_SIZE;
 use answers::got::Got;
 use answers::packet::Packet;
 use basics::areas::Structure;
@@ -63,6 +64,7 @@ use bit_stream::packet::board_crc;
 use bit_stream::packet::board_crc_flag;
 use bit_stream::packet::board_crc_octets;
 use bit_stream::packet::board_whiten;
+use channels::phy::AdvertisingChannel;
 use decode::packet::board_decode;
 use exports::air::board_beacon;
 use exports::air::board_scan;
@@ -76,7 +78,15 @@ use exports::packets::board_new_header;
 use exports::packets::board_set_header;
 use exports::scans::Listened;
 use exports::scans::board_scanner_call;
+use flags::Flags;
+use items::CRC_BAD;
+use items::CRC_GOOD;
+use items::TICK;
 use libc::STDOUT_FILENO;
+use records::ad_structure::Type;
+use whitening::crc::CRC_POLY;
+use whitening::crc::CRC_PRESET;
+use whitening::packet::ACCESS_ADDRESS;
 
 fn text(s: &[u8]) {
     io::write_all(STDOUT_FILENO, s);
@@ -655,7 +665,31 @@ fn bits() {
     text(b"\n");
 }
 
+// The constants that callers may name: rubble's, and those of the hub's items (document 01).
+fn constants() {
+    text(b"constants");
+    size(MAX_PAYLOAD_SIZE);
+    small(AdvertisingChannel::FIRST);
+    small(AdvertisingChannel::SECOND);
+    small(AdvertisingChannel::THIRD);
+    octet(Flags::LE_LIMITED_DISCOVERABLE);
+    octet(Flags::LE_GENERAL_DISCOVERABLE);
+    octet(Flags::BR_EDR_NOT_SUPPORTED);
+    octet(Flags::SIMUL_LE_BR_CONTROLLER);
+    octet(Flags::SIMUL_LE_BR_HOST);
+    octet(Type::SHORTENED_LOCAL_NAME);
+    octet(Type::COMPLETE_LOCAL_NAME);
+    octet(TICK);
+    octet(CRC_GOOD);
+    octet(CRC_BAD);
+    hex32(CRC_POLY, 8);
+    hex32(CRC_PRESET, 6);
+    hex32(ACCESS_ADDRESS, 8);
+    text(b"\n");
+}
+
 fn main() {
+    constants();
     leaves();
     maps();
     packets();

@@ -5,6 +5,7 @@ ghost use lib.ListN.{length};
 use hub_io::Run;
 use hub_io::log_all;
 use hub_io::log_through;
+use libc::SEEK_END;
 use libc::SEEK_SET;
 use libc::STDOUT_FILENO;
 use octets::bytes::part_of;
@@ -61,8 +62,8 @@ fn put_beacon(input: i32, n: u32) {
     io::write_all(input, &item);
 }
 
-fn put_beacons(input: i32) {
-    for n in 0..15000 {
+fn put_beacons(input: i32, count: u32) {
+    for n in 0..count {
         put_beacon(input, n);
     }
 }
@@ -101,7 +102,7 @@ fn print_run(run: Run, log: i32) {
 // More than two full buffers of lines: a buffer of input holds 7,281 beacons of nine octets. And the same octets in more than two thousand reads.
 fn long_runs() {
     let input = scratch();
-    put_beacons(input);
+    put_beacons(input, 15000);
     text(b"15000 beacons\n");
     libc::lseek(input, 0, SEEK_SET);
     let log = scratch();
@@ -115,7 +116,29 @@ fn long_runs() {
     libc::close(input);
 }
 
+// To the limit: a million beacons and the ticks between them, of which 999,999 items count. The log does not fit in the room, so its end is looked at.
+fn longest_run() {
+    let input = scratch();
+    put_beacons(input, 1000000);
+    text(b"1000000 beacons\n");
+    libc::lseek(input, 0, SEEK_SET);
+    let log = scratch();
+    let run = log_all(input, log);
+    text(b"written");
+    number(run.written as u64);
+    text(b", its end");
+    libc::lseek(log, -54, SEEK_END);
+    let mut end = [0u8; 100];
+    let n = io::read_full(log, &mut end);
+    number(n as u64);
+    text(b" octets\n");
+    text(&end[..n]);
+    libc::close(log);
+    libc::close(input);
+}
+
 fn main() {
     short_runs();
     long_runs();
+    longest_run();
 }

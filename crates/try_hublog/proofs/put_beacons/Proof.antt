@@ -5,10 +5,10 @@ use Rattle.try_hublog.proofs.put_beacons.Statement.{statement}
 use Rattle.try_hublog.proofs.put_beacons.Tie as tie
 
 abbrev Inv-loop : tie.InvT-loop
-Inv-loop input n₀ n = n ≤ 15000
+Inv-loop input count n₀ n = n ≤ count
 
 abbrev μ-loop : tie.MeasureT-loop
-μ-loop input n₀ n = 15000 - n
+μ-loop input count n₀ n = count - n
 
 pub put-beacons-spec : {M : Type 1} → statement M
 put-beacons-spec =
