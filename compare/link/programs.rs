@@ -254,12 +254,27 @@ fn try_hublog_is_held(t: &mut Tried, example: &[u8], repository: &str) {
     };
     let of = log(&beacons(15_000));
     let most = log(&beacons(1_000_000));
+    let ran = |input: &[u8]| {
+        let of = log(input);
+        format!("written {0}, found {0} octets, CRC {1:06x}\n{2}{3}", of.len(), crc(&of), text(&of[..39]), text(&of[of.len() - 54..]))
+    };
+    let full = format!(
+        "7281 beacons, and another first octet\n{}7 of them, at most 66 octets a read\n{}",
+        ran(&[&beacons(7_281)[..], &[3]].concat()), ran(&[&beacons(7)[..], &[3]].concat())
+    );
+    let mut sizes = Vec::new();
+    for k in 0..66 {
+        sizes.extend(vec![0; k]);
+        sizes.extend([1, 0x42, 63, 1, 2, 3, 4, 5, 0xC6]);
+        sizes.extend([0; 57]);
+    }
+    let sized = format!("reads of 1 to 66 octets\n{}no descriptor\nwritten 0, failed, found 0 octets, CRC {:06x}\n", ran(&sizes), crc(b""));
     let longest = format!("1000000 beacons\nwritten {}, its end 54 octets\n{}", most.len(), text(&most[most.len() - 54..]));
     let long = format!("written {0}, found {0} octets, CRC {1:06x}\n{2}{3}", of.len(), crc(&of), text(&of[..39]), text(&of[of.len() - 54..]));
     let cut = [example, &[1, 0x42, 6, 10]].concat();
     let another = [example, &[3], example].concat();
     let wanted = format!(
-        "document 01's sample\n{}the sample, and an item that is cut short\n{}the sample, another first octet, and the sample again\n{}no input\n{}15000 beacons\n{long}the same, at most 66 octets a read\n{long}{longest}",
+        "document 01's sample\n{}the sample, and an item that is cut short\n{}the sample, another first octet, and the sample again\n{}no input\n{}15000 beacons\n{long}the same, at most 66 octets a read\n{long}{full}{sized}{longest}",
         text(&log(example)), text(&log(&cut)), text(&log(&another)), text(&log(b""))
     );
     let stored = fs::read(format!("{repository}/crates/try_hublog/stdout")).unwrap();

@@ -1,11 +1,11 @@
 -- The laws of the numbers and of a call's octets. Computed, but for numbers without a name, room, and a list that is bad. Assumes nothing.
 use mathlib.Core.Bool.{Bool}
-use mathlib.Core.List.{List}
+use mathlib.Core.List.{List, [], _∷_, _++_}
 use mathlib.Core.Path.{_≡_, refl}
-use Prim.Native.Nat.{ℕ, _+_}
+use Prim.Native.Nat.{ℕ, zero, suc, _+_}
 use native.Mathlib.Omega.{arith}
 use borrow.Author.Tests.{le-leb, lt-leb, ne-eqb}
-use lib.ListN.{length, getD}
+use lib.ListN.{length, getD, replicate}
 use Rattle.addresses.specs.declared.device_address.DeviceAddress.{DeviceAddress}
 use Rattle.addresses.specs.declared.header.Header.{Header}
 use Rattle.beacon_spec.specs.Scanner.{scanned}
@@ -115,19 +115,34 @@ entries crc buffer n t₀ t₁ t₂ t₃ i₀ i₁ i₂ i₃ h₀ h₁ s list x 
       after-packet = λ kind more. rw (ne-eqb kind 0 (λ e. omega arith), ne-eqb kind 1 (λ e. omega arith));
     }
 
+none-in-zeros : (k i : ℕ) → _≡_ {A = ℕ} (getD (replicate k 0) i 0) 0
+none-in-zeros zero i = refl
+none-in-zeros (suc k) zero = refl
+none-in-zeros (suc k) (suc i) = none-in-zeros k i
+
+zeros-after : (c : List ℕ) (k i : ℕ) → getD (c ++ replicate k 0) i 0 ≡ getD c i 0
+zeros-after [] k i = none-in-zeros k i
+zeros-after (x ∷ c) k zero = refl
+zeros-after (x ∷ c) k (suc i) = zeros-after c k i
+
 pub short : (tx list : List ℕ) (x : BeaconScanner) → Short tx list x
 unfolding callIn entryAfter entrySaid
 short tx list x =
     record {
+      zeros-time = λ c k. rw (zeros-after c k 4, zeros-after c k 5, zeros-after c k 6, zeros-after c k 7);
+      zeros-interval = λ c k. rw (zeros-after c k 8, zeros-after c k 9, zeros-after c k 10, zeros-after c k 11);
+      zeros-buffer = λ c k. rw (zeros-after c k 2);
       no-time = refl;
       no-interval = refl;
       no-header = λ c few. rw (lt-leb 14 (length c) few);
       no-octets = λ c few. rw (lt-leb (14 + getD c 3 0) (length c) few);
       no-buffer = refl;
       no-call = refl;
+      kind-alone = (refl, (refl, (refl, refl)));
       no-packet = refl;
       no-entry = refl;
       after-none = refl;
+      update-alone = refl;
       nothing-heard = refl;
     }
 

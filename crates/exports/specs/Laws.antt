@@ -22,7 +22,7 @@ use mathlib.Core.List.{List, [], _∷_, _++_}
 use mathlib.Core.Path.{_≡_}
 use Prim.Native.Nat.{ℕ, _+_, _*_, _≤_, _<_}
 use lib.Dec.{eqb}
-use lib.ListN.{length, getD, take}
+use lib.ListN.{length, getD, take, replicate}
 use Rattle.octets.specs.Bytes.{le}
 use Rattle.octets.specs.Error.{numberOf, outcomeNumber}
 use Rattle.octets.specs.Time.{later}
@@ -178,15 +178,21 @@ module _ (crc buffer n t₀ t₁ t₂ t₃ i₀ i₁ i₂ i₃ h₀ h₁ : ℕ) 
     pub after-packet : (kind : ℕ) → 1 < kind → entryAfter (drawn kind) x ≡ x
 
 pub record Short (tx list : List ℕ) (x : BeaconScanner) : Type 0 where
+  -- so that zeros after the octets that there are change nothing
+  pub zeros-time : (c : List ℕ) (k : ℕ) → timeIn (c ++ replicate k 0) ≡ timeIn c
+  pub zeros-interval : (c : List ℕ) (k : ℕ) → intervalIn (c ++ replicate k 0) ≡ intervalIn c
+  pub zeros-buffer : (c : List ℕ) (k : ℕ) → usesSecond (c ++ replicate k 0) ≡ usesSecond c
   pub no-time : timeIn [] ≡ 0
   pub no-interval : intervalIn [] ≡ 0
   pub no-header : (c : List ℕ) → length c < 14 → callHeader c ≡ headerOf 0
   pub no-octets : (c : List ℕ) → length c < 14 + getD c 3 0 → octetsIn c ≡ []
   pub no-buffer : usesSecond [] ≡ false
   pub no-call : callIn [] tx ≡ start (instant 0) 0 [] tx
+  pub kind-alone : (callIn (1 ∷ []) tx ≡ tick tx) × ((callIn (3 ∷ []) tx ≡ event) × ((callIn (4 ∷ []) tx ≡ stop) × (callIn (5 ∷ []) tx ≡ setScanData [])))
   pub no-packet : callIn (2 ∷ []) tx ≡ packet (instant 0) (headerOf 0) [] false tx
   pub no-entry : entrySaid [] list x ≡ listenSaid (configured x (record { 0 = 0 }) 0)
   pub after-none : entryAfter [] x ≡ configured x (record { 0 = 0 }) 0 .scanner
+  pub update-alone : entrySaid (1 ∷ []) list x ≡ listenSaid (timerUpdated x (record { 0 = 0 }))
   pub nothing-heard : entrySaid (2 ∷ []) list x ≡ hearSaid (scanned x (headerOf 0) [] false list)
 
 pub record Buffers (d : State) (out : List ℕ) : Type 0 where

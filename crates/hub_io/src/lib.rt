@@ -38,7 +38,7 @@ struct Step {
     is_failed: bool,
 }
 
-// A run that is over: its hub, how many octets were written, and whether a read or a write failed.
+// A run that is over: its hub, how many octets were written for whole blocks, and whether a read or a write failed.
 pub struct Run {
     pub hub: Hub,
     pub written: usize,

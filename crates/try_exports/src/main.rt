@@ -66,6 +66,7 @@ use bit_stream::packet::board_crc_octets;
 use bit_stream::packet::board_whiten;
 use channels::phy::AdvertisingChannel;
 use decode::packet::board_decode;
+use exports::air::Heard;
 use exports::air::board_beacon;
 use exports::air::board_scan;
 use exports::air::board_scanner;
@@ -395,7 +396,11 @@ fn rewrites() {
 }
 
 fn flags() {
-    let f = board_flags(0x86);
+    print_flags(0x86);
+}
+
+fn print_flags(bits: u8) {
+    let f = board_flags(bits);
     text(b"board_flags");
     small(f.bits);
     is(f.classic);
@@ -524,14 +529,17 @@ fn beacon() {
 
 fn scan() {
     let list = b"\x01\x01\x02\x03\x04\x05\xC6";
-    let h = board_scan(
+    heard(board_scan(
         true,
         list,
         1,
         b"\x42\x09",
         b"\x01\x02\x03\x04\x05\xC6\x02\x01\x06",
         true,
-    );
+    ));
+}
+
+fn heard(h: Heard) {
     text(b"board_scan");
     small(h.number);
     is(h.reported);
@@ -688,6 +696,83 @@ fn constants() {
     text(b"\n");
 }
 
+// Once more with the arguments changed: what was true is false, what was accepted is refused.
+fn leaves_again() {
+    text(b"board_utf8");
+    is(board_utf8(b"\xC3\x28"));
+    text(b"\n");
+    channel(b"board_data_channel", board_data_channel(48));
+    let two = [0x0Au8, 0, 0, 0, 0xE0];
+    map(b"board_map", board_map(&two));
+    got(b"board_is_used", board_is_used(&two, 2));
+    got(b"board_by_index", board_by_index(&two, 2));
+    got(b"board_hop", board_hop(&two, 36, 5));
+    packet(b"board_read_pdu", board_read_pdu(b"\x42", 0));
+    got(b"board_new_header", board_new_header(5, false, true, 34));
+    got(
+        b"board_set_header",
+        board_set_header(b"\x42\x09", false, true, 9),
+    );
+}
+
+fn builders_again() {
+    let own = [1u8, 2, 3, 4, 5, 0xC6];
+    let other = [1u8, 2, 3, 4, 5, 6];
+    frame(b"board_build", board_build(0, &other, false, b""));
+    frame(
+        b"board_build_directed",
+        board_build_directed(&other, false, &own, true),
+    );
+    let list = b"\x01\x01\x02\x03\x04\x05\xC6";
+    got(b"board_whitelist", board_whitelist(list, &own, false));
+    got(
+        b"board_may_scan",
+        board_may_scan(false, true, list, &other, true),
+    );
+    got(
+        b"board_may_connect",
+        board_may_connect(false, true, list, &other, true),
+    );
+    got(
+        b"board_should_scan",
+        board_should_scan(true, list, &other, true),
+    );
+}
+
+fn reads_again() {
+    let bits = b"\x00\x01\x02\x03\x04\x05\x06\x07";
+    got(b"board_bytes_left", board_bytes_left(bits, 3));
+    got(b"board_read_u32_le", board_read_u32_le(bits, 1));
+    got(b"board_write_skip", board_write_skip(bits, 3, 2));
+    let mut out = [0xFFu8; 16];
+    let g = board_write(2, true, 0, 0, 2, bits, 1, &mut out);
+    wrote(b"board_write", g, &out);
+    print_flags(0x19);
+}
+
+fn scans_again() {
+    let payload = b"\x01\x02\x03\x04\x05\xC6\x02\x01\x06";
+    heard(board_scan(false, b"", 0, b"\x42\x09", payload, false));
+    heard(board_scan(false, b"\x05", 2, b"\x42\x09", payload, true));
+}
+
+fn bits_again() {
+    text(b"none board_crc");
+    hex32(board_crc(1, b""), 6);
+    let end = board_crc_octets(1, b"").octets;
+    octets(b"", &end);
+    let mut sent = [0x42u8, 0x09, 1, 2, 3, 4, 5, 0xC6, 2, 1, 6, 0x9F, 0xD7, 0xC2];
+    let refusal = board_whiten(103, &mut sent);
+    text(b"103 board_whiten");
+    small(refusal);
+    octets(b"", &sent);
+    let flag = board_crc_flag(39, 0x123456, &sent);
+    text(b"39 board_crc_flag");
+    small(flag.number);
+    is(flag.good);
+    text(b"\n");
+}
+
 fn main() {
     constants();
     leaves();
@@ -712,4 +797,9 @@ fn main() {
     name();
     settings();
     bits();
+    leaves_again();
+    builders_again();
+    reads_again();
+    scans_again();
+    bits_again();
 }

@@ -87,10 +87,13 @@ fn print_ends(log: &[u8]) {
     }
 }
 
-// Says how many octets a run wrote, and what of its log is found.
+// Says how many octets a run wrote, whether it failed, and what of its log is found.
 fn print_run(run: Run, log: i32) {
     text(b"written");
     number(run.written as u64);
+    if run.is_failed {
+        text(b", failed");
+    }
     text(b", found");
     libc::lseek(log, 0, SEEK_SET);
     let mut all = room();
@@ -114,6 +117,71 @@ fn long_runs() {
     let mut out = [0u8; 288];
     print_run(log_through(input, log, &mut buf, &mut out), log);
     libc::close(input);
+}
+
+// Blocks that just fill the room for their lines, and stop there: 7,281 beacons of nine octets in 64 KiB, seven in 66 octets.
+fn full_runs() {
+    let input = scratch();
+    put_beacons(input, 7281);
+    io::write_all(input, b"\x03");
+    text(b"7281 beacons, and another first octet\n");
+    libc::lseek(input, 0, SEEK_SET);
+    let log = scratch();
+    print_run(log_all(input, log), log);
+    libc::close(input);
+    let input = scratch();
+    put_beacons(input, 7);
+    io::write_all(input, b"\x03");
+    text(b"7 of them, at most 66 octets a read\n");
+    libc::lseek(input, 0, SEEK_SET);
+    let log = scratch();
+    let mut buf = [0u8; 66];
+    let mut out = [0u8; 288];
+    print_run(log_through(input, log, &mut buf, &mut out), log);
+    libc::close(input);
+}
+
+fn put_tick(input: i32) {
+    io::write_all(input, b"\x00");
+}
+
+fn put_ticks(input: i32, count: u32) {
+    for n in 0..count {
+        put_tick(input);
+    }
+}
+
+// A beacon of 66 octets after so many ticks.
+fn put_after(input: i32, ticks: u32) {
+    put_ticks(input, ticks);
+    io::write_all(input, b"\x01\x42\x3F\x01\x02\x03\x04\x05\xC6");
+    io::write_all(input, &[0; 57]);
+}
+
+// After no tick, one, and so on up to 65: at 66 octets a read, reads of every size.
+fn put_sizes(input: i32) {
+    for k in 0..66 {
+        put_after(input, k);
+    }
+}
+
+fn sized_run() {
+    let input = scratch();
+    put_sizes(input);
+    text(b"reads of 1 to 66 octets\n");
+    libc::lseek(input, 0, SEEK_SET);
+    let log = scratch();
+    let mut buf = [0u8; 66];
+    let mut out = [0u8; 288];
+    print_run(log_through(input, log, &mut buf, &mut out), log);
+    libc::close(input);
+}
+
+// No descriptor to read from: nothing is written.
+fn failed_run() {
+    text(b"no descriptor\n");
+    let log = scratch();
+    print_run(log_all(-1, log), log);
 }
 
 // To the limit: a million beacons and the ticks between them, of which 999,999 items count. The log does not fit in the room, so its end is looked at.
@@ -140,5 +208,8 @@ fn longest_run() {
 fn main() {
     short_runs();
     long_runs();
+    full_runs();
+    sized_run();
+    failed_run();
     longest_run();
 }
