@@ -7,7 +7,7 @@ use octets::bytes::ByteReader;
 use octets::error::Error;
 
 // Which devices pass. The whitelist is lent beside it, as 7 octets for each address: its kind (0 public, 1 random), then its six octets.
-#[derive(Drop)]
+#[derive(Clone, Copy)]
 pub enum AddressFilter {
     // Every device.
     AllowAll,
@@ -16,7 +16,7 @@ pub enum AddressFilter {
 }
 
 // Whether a device passes, or the refusal of a malformed list.
-#[derive(Drop)]
+#[derive(Clone, Copy)]
 pub enum Matches {
     Is(bool),
     Refused(Error),
@@ -88,7 +88,7 @@ fn entry_is(list: &[u8], i: usize, address: DeviceAddress) -> bool
 }
 
 // Whose scan requests and whose connect requests an advertising device takes (the Core: advertising filter policy).
-#[derive(Drop)]
+#[derive(Clone, Copy)]
 pub struct AdvFilter {
     scan: AddressFilter,
     connect: AddressFilter,
@@ -117,7 +117,7 @@ impl AdvFilter {
 }
 
 // Whose advertisements a scanner takes (the Core: scanner filter policy).
-#[derive(Drop)]
+#[derive(Clone, Copy)]
 pub struct ScanFilter {
     scan: AddressFilter,
 }

@@ -7,18 +7,18 @@ use octets::bytes::{ByteReader, ByteWriter, U16Read, Written, u16_from_le_bytes}
 use octets::error::Error;
 
 // The 16 bits that precede the payload (drawn in specs/Header.antt).
-#[derive(Drop)]
+#[derive(Clone, Copy)]
 pub struct Header(u16);
 
 // A header, or why there is none.
-#[derive(Drop)]
+#[derive(Clone, Copy)]
 pub enum HeaderMade {
     Header(Header),
     Refused(Error),
 }
 
 // The header at a position, and the position after it.
-#[derive(Drop)]
+#[derive(Clone, Copy)]
 pub enum HeaderRead {
     Header(Header, ByteReader),
     Refused(Error),
@@ -134,7 +134,7 @@ impl Header {
 }
 
 // What bits 0 to 3 of a header say, by the Core's names.
-#[derive(Drop)]
+#[derive(Clone, Copy)]
 pub enum PduType {
     // `ADV_IND`: to all devices, for connecting and scanning.
     AdvInd,

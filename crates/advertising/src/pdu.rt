@@ -15,7 +15,7 @@ pub use octets::error::Outcome;
 use records::area::{Area, PaddedArea, read_area, read_padded_area};
 
 // A PDU that was read. rubble's is an enum, whose variants hold addresses; here the type says which fields have a meaning.
-#[derive(Drop)]
+#[derive(Clone, Copy)]
 pub struct Pdu {
     pub ty: PduType,
     // The device that sends this PDU.
@@ -29,7 +29,7 @@ pub struct Pdu {
 }
 
 // Where the record area of a PDU lies in its payload, and how many records it has.
-#[derive(Drop)]
+#[derive(Clone, Copy)]
 pub struct AdvData {
     pub start: usize,
     pub len: usize,
@@ -46,14 +46,14 @@ impl AdvData {
 }
 
 // What reading a PDU finds. Where it is refused, the PDU is empty and has no meaning.
-#[derive(Drop)]
+#[derive(Clone, Copy)]
 pub struct Decoded {
     pub outcome: Outcome,
     pub pdu: Pdu,
 }
 
 // What the hub's decoding finds, and how many octets the records took: none where there are no records, or a refusal.
-#[derive(Drop)]
+#[derive(Clone, Copy)]
 pub struct Padded {
     pub decoded: Decoded,
     pub taken: usize,
@@ -322,7 +322,7 @@ pub fn no_data() -> AdvData
 }
 
 // What a connect request says of the connection (`LLData`).
-#[derive(Drop)]
+#[derive(Clone, Copy)]
 pub struct ConnectRequestData {
     access_address: u32,
     crc_init: u32,
@@ -491,7 +491,7 @@ fn u16_at(s: &[u8], at: usize) -> u16
 }
 
 // SCA, by the parts per million that the clock may be off.
-#[derive(Drop)]
+#[derive(Clone, Copy)]
 pub enum SleepClockAccuracy {
     Ppm251To500,
     Ppm151To250,

@@ -15,14 +15,14 @@ use records::area::rewrite_area;
 pub const MAX_PAYLOAD_SIZE: usize = 37;
 
 // A PDU that was built: its header, and its payload with zeros after it.
-#[derive(Drop)]
+#[derive(Clone, Copy)]
 pub struct PduBuf {
     header: Header,
     payload_buf: [u8; MAX_PAYLOAD_SIZE],
 }
 
 // What building a PDU finds. Where it is refused, the PDU is all zeros and has no meaning.
-#[derive(Drop)]
+#[derive(Clone, Copy)]
 pub struct Built {
     pub outcome: Outcome,
     pub pdu: PduBuf,

@@ -6,7 +6,7 @@ use octets::bytes::{Skipped, Written};
 use octets::error::Error;
 
 #[repr(C)]
-#[derive(Drop)]
+#[derive(Clone, Copy)]
 pub struct Got {
     pub number: u8,
     pub first: usize,

@@ -6,7 +6,7 @@ use advertising::pdu::{Decoded, SleepClockAccuracy};
 
 // A PDU with all its fields.
 #[repr(C)]
-#[derive(Drop)]
+#[derive(Clone, Copy)]
 pub struct Packet {
     pub number: u8,
     pub ty: u8,

@@ -21,7 +21,7 @@ use records::area::{Area, PaddedArea, read_area, read_padded_area, rewrite_area}
 
 // A record. `kind` is 0 at the end of an area, then 1 to 9 in the order of `AdStructure`; `value` the bits of Flags, a UUID, a company or a type.
 #[repr(C)]
-#[derive(Drop)]
+#[derive(Clone, Copy)]
 pub struct Structure {
     pub number: u8,
     pub kind: u8,
@@ -34,7 +34,7 @@ pub struct Structure {
 
 // The answers of Flags.
 #[repr(C)]
-#[derive(Drop)]
+#[derive(Clone, Copy)]
 pub struct FlagsSaid {
     pub bits: u8,
     pub classic: bool,

@@ -17,14 +17,14 @@ use octets::uuid::{Uuid16, Uuid32, Uuid128};
 use utf8::is_utf8;
 
 #[repr(C)]
-#[derive(Drop)]
+#[derive(Clone, Copy)]
 pub struct Uuid {
     pub octets: [u8; 16],
 }
 
 // A channel's index, RF channel, centre frequency and start of whitening.
 #[repr(C)]
-#[derive(Drop)]
+#[derive(Clone, Copy)]
 pub struct Channel {
     pub number: u8,
     pub index: u8,
@@ -35,7 +35,7 @@ pub struct Channel {
 
 // A map's octets and count.
 #[repr(C)]
-#[derive(Drop)]
+#[derive(Clone, Copy)]
 pub struct Map {
     pub raw: [u8; 5],
     pub count: u8,

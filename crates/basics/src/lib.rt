@@ -1,5 +1,7 @@
 // Functions to link in the form of `exports`, the smaller parts: octets, UUIDs, headers and PDUs at a position, instants,
 // channels, maps and hops, records, names, settings and filters.
+#![tactic(auto)]
+
 pub mod areas;
 pub mod at;
 pub mod filters;

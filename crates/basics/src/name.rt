@@ -7,7 +7,7 @@ use names::{NamePlace, find_name};
 
 // Which area holds the name, where it begins there, and how many octets it has; zeros beside a refusal's number.
 #[repr(C)]
-#[derive(Drop)]
+#[derive(Clone, Copy)]
 pub struct NameSaid {
     pub number: u8,
     pub in_reply: bool,

@@ -9,7 +9,7 @@ use octets::bytes::{ByteReader, SliceRead, U8Read, U16Read, U32Read};
 
 // A part that was read, and the position after it.
 #[repr(C)]
-#[derive(Drop)]
+#[derive(Clone, Copy)]
 pub struct Part {
     pub number: u8,
     pub start: usize,
@@ -19,7 +19,7 @@ pub struct Part {
 
 // Octets that were read, zeros where the read was refused, and the position after them.
 #[repr(C)]
-#[derive(Drop)]
+#[derive(Clone, Copy)]
 pub struct Five {
     pub number: u8,
     pub octets: [u8; 5],
@@ -27,7 +27,7 @@ pub struct Five {
 }
 
 #[repr(C)]
-#[derive(Drop)]
+#[derive(Clone, Copy)]
 pub struct Six {
     pub number: u8,
     pub octets: [u8; 6],

@@ -8,7 +8,7 @@ use settings::ConnectionSettings;
 
 // Counts of 1,250 µs, of 10 ms for the timeout, of events for the latency; zeros beside a refusal's number.
 #[repr(C)]
-#[derive(Drop)]
+#[derive(Clone, Copy)]
 pub struct SettingsSaid {
     pub number: u8,
     pub hop: u8,

@@ -11,7 +11,7 @@ use octets::uuid::{Uuid16, Uuid16Read, Uuid32, Uuid32Read, Uuid128};
 
 // A UUID of 128 bits that was read, zeros where the read was refused, and the position after it.
 #[repr(C)]
-#[derive(Drop)]
+#[derive(Clone, Copy)]
 pub struct UuidRead {
     pub number: u8,
     pub octets: [u8; 16],

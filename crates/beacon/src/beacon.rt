@@ -18,13 +18,13 @@ use octets::error::Outcome;
 use octets::time::Instant;
 
 // What is sent of a beacon: one PDU, built once.
-#[derive(Drop)]
+#[derive(Clone, Copy)]
 pub struct Beacon {
     pdu: PduBuf,
 }
 
 // What making a beacon finds. Where it is refused, the beacon is the address's without records.
-#[derive(Drop)]
+#[derive(Clone, Copy)]
 pub struct Made {
     pub outcome: Outcome,
     pub beacon: Beacon,
@@ -65,7 +65,7 @@ impl Beacon {
 }
 
 // Listens for beacons, one advertising channel at a time, and sends nothing.
-#[derive(Drop)]
+#[derive(Clone, Copy)]
 pub struct BeaconScanner {
     filter: ScanFilter,
     // In µs.
@@ -74,7 +74,7 @@ pub struct BeaconScanner {
 }
 
 // A scanner that listens, and what the radio is to do for it.
-#[derive(Drop)]
+#[derive(Clone, Copy)]
 pub struct Updated {
     pub scanner: BeaconScanner,
     pub cmd: Cmd,
@@ -82,7 +82,7 @@ pub struct Updated {
 
 // What a packet gives: a report, with the beacon's sender, where its record area lies in the payload, and how many octets of it the records took, all
 // blank where none is reported; and the channel to keep listening on.
-#[derive(Drop)]
+#[derive(Clone, Copy)]
 pub struct Scanned {
     pub report: Report,
     pub sender: DeviceAddress,

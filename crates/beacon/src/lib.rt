@@ -1,2 +1,4 @@
 // Beacons sent, and heard by a scanner.
+#![tactic(auto)]
+
 pub mod beacon;

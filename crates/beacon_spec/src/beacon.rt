@@ -6,21 +6,21 @@ use octets::error::Error;
 use octets::time::Instant;
 
 // What is transmitted of a beacon: its header, on each channel in turn, with the payload that was written once. Or why nothing is.
-#[derive(Drop)]
+#[derive(Clone, Copy)]
 pub enum Broadcast {
     Transmit(Header, AllChannels),
     Refused(Error),
 }
 
 // What the radio is to do: listen on a channel, until `timer_update` is called at the next instant.
-#[derive(Drop)]
+#[derive(Clone, Copy)]
 pub struct Cmd {
     pub channel: AdvertisingChannel,
     pub next_update: Instant,
 }
 
 // Whether a packet is reported, or the refusal of a malformed filter list.
-#[derive(Drop)]
+#[derive(Clone, Copy)]
 pub enum Report {
     Beacon,
     Nothing,

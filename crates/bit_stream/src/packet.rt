@@ -11,7 +11,7 @@ use whitening::packet::{Flag, crc_flag, whiten};
 
 // Whether the CRC is right; `number` is that of a refusal, or 0.
 #[repr(C)]
-#[derive(Drop)]
+#[derive(Clone, Copy)]
 pub struct FlagSaid {
     pub number: u8,
     pub good: bool,
@@ -19,7 +19,7 @@ pub struct FlagSaid {
 
 // Three octets to append.
 #[repr(C)]
-#[derive(Drop)]
+#[derive(Clone, Copy)]
 pub struct CrcOctets {
     pub octets: [u8; 3],
 }

@@ -16,7 +16,7 @@ const SEATS: usize = 64;
 
 const LAST_TURN: u16 = 65535;
 
-#[derive(Drop)]
+#[derive(Clone, Copy)]
 pub struct Book {
     company: u16,
     turn: u16,
@@ -28,7 +28,7 @@ pub struct Book {
 }
 
 // What seating an address returns: the number of its seat, 0 where it was refused.
-#[derive(Drop)]
+#[derive(Clone, Copy)]
 pub struct SeatCalled {
     pub outcome: Outcome,
     pub seat: usize,
@@ -36,7 +36,7 @@ pub struct SeatCalled {
 }
 
 // What a report and a close return.
-#[derive(Drop)]
+#[derive(Clone, Copy)]
 pub struct BookCalled {
     pub outcome: Outcome,
     pub book: Book,

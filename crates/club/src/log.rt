@@ -23,14 +23,14 @@ use octets::bytes::ByteReader;
 const LONGEST: usize = 90;
 
 // The book, and the scanner that listens for reports.
-#[derive(Drop)]
+#[derive(Clone, Copy)]
 pub struct Club {
     book: Book,
     scanner: BeaconScanner,
 }
 
 // What taking an item did.
-#[derive(Drop)]
+#[derive(Clone, Copy)]
 pub struct TakenItem {
     pub club: Club,
     // The octets of the item; 0 where no whole one stood there, and then nothing was done.
@@ -40,7 +40,7 @@ pub struct TakenItem {
 }
 
 // What taking items did.
-#[derive(Drop)]
+#[derive(Clone, Copy)]
 pub struct TakenItems {
     pub club: Club,
     // The octets of the items.
@@ -50,7 +50,7 @@ pub struct TakenItems {
 }
 
 // What an item did to the book, and the octets of its line.
-#[derive(Drop)]
+#[derive(Clone, Copy)]
 struct Answered {
     book: Book,
     written: usize,

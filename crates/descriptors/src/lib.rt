@@ -1,8 +1,10 @@
 // Reads and writes through descriptors of the system, each gone on with until it has done what it is to do, or failed.
+#![tactic(auto)]
+
 ghost use Rattle.std.specs.Prelude.{◌≡◌, false, ◌<◌, ◌≤◌, length, take};
 
 // How many octets a buffer holds after a read, or how many of its octets are written after a write.
-#[derive(Drop)]
+#[derive(Clone, Copy)]
 pub struct Moved {
     pub upto: usize,
     pub is_failed: bool,

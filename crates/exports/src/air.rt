@@ -18,7 +18,7 @@ use octets::time::Instant;
 
 // What is transmitted of a beacon.
 #[repr(C)]
-#[derive(Drop)]
+#[derive(Clone, Copy)]
 pub struct Sent {
     pub number: u8,
     pub header: u16,
@@ -108,7 +108,7 @@ pub extern "C" fn board_scanner(time: u32, interval: u32, updates: u8) -> Got
 
 // What a scanner says of a packet.
 #[repr(C)]
-#[derive(Drop)]
+#[derive(Clone, Copy)]
 pub struct Heard {
     pub number: u8,
     pub reported: bool,

@@ -101,7 +101,7 @@ fn after(own: DeviceAddress, calls: &[u8], first: &mut [u8], second: &mut [u8]) 
 
 // What a call answered, and the mode after it. `kind` is 0 to 7 in the order of `Answer`.
 #[repr(C)]
-#[derive(Drop)]
+#[derive(Clone, Copy)]
 pub struct Said {
     pub number: u8,
     pub kind: u8,

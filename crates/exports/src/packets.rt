@@ -13,7 +13,7 @@ use answers::got::{Got, found, refused};
 
 // What a header says.
 #[repr(C)]
-#[derive(Drop)]
+#[derive(Clone, Copy)]
 pub struct Head {
     pub number: u8,
     pub raw: u16,
@@ -90,7 +90,7 @@ pub extern "C" fn board_set_header(raw: &[u8], tx_add: bool, rx_add: bool, lengt
 
 // A built PDU: its header, and its payload with zeros after it.
 #[repr(C)]
-#[derive(Drop)]
+#[derive(Clone, Copy)]
 pub struct Frame {
     pub number: u8,
     pub header: u16,

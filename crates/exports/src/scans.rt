@@ -18,7 +18,7 @@ use octets::time::Instant;
 
 // What a scanner answers: of a packet what it reports and the channel to keep listening on, otherwise the channel and the next instant.
 #[repr(C)]
-#[derive(Drop)]
+#[derive(Clone, Copy)]
 pub struct Listened {
     pub number: u8,
     pub reported: bool,

@@ -1,9 +1,11 @@
 // The octet of Flags, the record that says how a device may be found (the Supplement, Part A, 1.3).
+#![tactic(auto)]
+
 ghost use Rattle.std.specs.Prelude.{◌≡◌};
 ghost use Rattle.flags.specs.Flags.{named, limited_discoverable, general_discoverable, supports_classic, both_by_controller, both_by_host, discoverable_flags, broadcast_flags};
 
 // The octet of a Flags record: discoverable modes, and BR/EDR beside LE (the Supplement, Part A, 1.3).
-#[derive(Drop)]
+#[derive(Clone, Copy)]
 pub struct Flags {
     bits: u8,
 }

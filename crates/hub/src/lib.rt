@@ -1,4 +1,6 @@
 // The hub's log: octets in, lines out, whatever pieces the octets come in.
+#![tactic(auto)]
+
 mod line;
 mod log;
 

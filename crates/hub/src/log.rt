@@ -23,7 +23,7 @@ const LAST: usize = 15;
 const SHORTEST: usize = 9;
 
 // What the hub has counted, and the scanner that it listens with.
-#[derive(Drop)]
+#[derive(Clone, Copy)]
 pub struct Hub {
     items: usize,
     reports: usize,
@@ -31,7 +31,7 @@ pub struct Hub {
 }
 
 // What logging the items of a block did.
-#[derive(Drop)]
+#[derive(Clone, Copy)]
 struct Logged {
     hub: Hub,
     // The octets of the whole items.
@@ -41,7 +41,7 @@ struct Logged {
 }
 
 // What taking in the octets that a read brought did.
-#[derive(Drop)]
+#[derive(Clone, Copy)]
 pub struct Block {
     pub hub: Hub,
     // The octets that are to be written.
@@ -53,7 +53,7 @@ pub struct Block {
 }
 
 // A block, or none: the buffer has fewer octets than it is said to hold, there is too little room for lines, or no run counts as this hub does.
-#[derive(Drop)]
+#[derive(Clone, Copy)]
 pub enum TakenIn {
     Block(Block),
     Refused,

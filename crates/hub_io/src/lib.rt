@@ -1,6 +1,8 @@
 // The hub's log from one descriptor to another: octets are read, and what the crate `hub` says is to be written is written.
 //
 // A read or a write that fails ends the run. Nothing is written after it but a line on standard error, which has the item.
+#![tactic(auto)]
+
 mod say;
 
 ghost use Rattle.std.specs.Prelude.{◌≡◌, true, false, ◌&&◌, ◌+◌, ◌<◌, ◌≤◌, leb, length, take};
@@ -22,7 +24,7 @@ const LINE: usize = 39;
 const LAST: usize = 15;
 
 // A block, how many octets were written for it, and whether its read or its write failed.
-#[derive(Drop)]
+#[derive(Clone, Copy)]
 struct Step {
     block: Block,
     written: usize,
@@ -30,7 +32,7 @@ struct Step {
 }
 
 // A run that is over: its hub, how many octets were written for whole blocks, and whether a read or a write failed.
-#[derive(Drop)]
+#[derive(Clone, Copy)]
 pub struct Run {
     pub hub: Hub,
     pub written: usize,

@@ -1,4 +1,6 @@
 // Reads the hub's input from standard input to its end, and prints its log. All that is done is in the crate `hub_io`.
+#![tactic(auto)]
+
 use libc::{STDERR_FILENO, STDIN_FILENO, STDOUT_FILENO};
 
 fn usage() {

@@ -1,4 +1,6 @@
 // How the hub's input falls into items (drawn in specs/Item.antt).
+#![tactic(auto)]
+
 ghost use Rattle.std.specs.Prelude.{◌≡◌, drop};
 ghost use Rattle.items.specs.Item.{whole_size};
 

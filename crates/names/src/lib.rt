@@ -1,4 +1,6 @@
 // The player's name beside a move: a record of an advertisement or of the scan reply to it, both read as the hub reads (document 02, Note 4).
+#![tactic(auto)]
+
 ghost use Rattle.std.specs.Prelude.{◌≡◌, ◌+◌, ◌-◌, ◌≤◌, length};
 ghost use Rattle.octets.specs.Bytes.{part};
 ghost use Rattle.records_spec.specs.Area.{AcceptedFrom};

@@ -1,5 +1,5 @@
 -- The part that `part_of` hands on is the octets that stand there, in their own place: `part_is`. Assumes nothing.
-use Rattle.std.proofs.Common.{◌≡◌, ℕ, ◌+◌, Bool, cond, List, ◌++◌, length, sym, ap, ◌∙◌, arith, length-append, Bor}
+use Rattle.std.proofs.Common.{◌≡◌, ℕ, ◌+◌, Bool, cond, List, ◌++◌, length, ap, ◌∙◌, arith, length-append, Bor}
 use lib.Seq.{take-append_seam, drop-append_seam}
 use Rattle.octets.specs.PartOf.{PartOf}
 use Rattle.octets.proofs.Places.{enough, too_few}

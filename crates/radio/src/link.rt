@@ -19,7 +19,7 @@ pub use radio_spec::link::{Answer, Mode};
 use settings::ConnectionSettings;
 
 // What a start sets up.
-#[derive(Drop)]
+#[derive(Clone, Copy)]
 pub struct Advertisement {
     // When the next tick is due.
     next_adv: Instant,
@@ -32,7 +32,7 @@ pub struct Advertisement {
 }
 
 // What the events of a connection need.
-#[derive(Drop)]
+#[derive(Clone, Copy)]
 pub struct Connection {
     channel_map: ChannelMap,
     // The hop: what is added to the unmapped channel from event to event.
@@ -42,7 +42,7 @@ pub struct Connection {
 }
 
 // rubble's `LinkLayer`. `adv` and `conn` have a meaning in their own mode only.
-#[derive(Drop)]
+#[derive(Clone, Copy)]
 pub struct Device {
     mode: Mode,
     dev_addr: DeviceAddress,
@@ -53,7 +53,7 @@ pub struct Device {
 }
 
 // What a call answers, and the device after it.
-#[derive(Drop)]
+#[derive(Clone, Copy)]
 pub struct Called {
     pub answer: Answer,
     pub device: Device,

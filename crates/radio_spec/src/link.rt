@@ -5,7 +5,7 @@ use octets::error::Error;
 use octets::time::Instant;
 
 // Which of the advertisement and the connection of a device has a meaning, if any.
-#[derive(Drop)]
+#[derive(Clone, Copy)]
 pub enum Mode {
     // The radio is off.
     Standby,
@@ -16,7 +16,7 @@ pub enum Mode {
 }
 
 // What a call answers.
-#[derive(Drop)]
+#[derive(Clone, Copy)]
 pub enum Answer {
     Refused(Error),
     // Transmit this header and the transmit buffer on the channel, listen there, and tick again at `next_adv`.

@@ -1,5 +1,7 @@
 // The record iterator: a struct that holds the lent records and a position in them, and thin functions over it. Each takes the struct apart
 // and calls a function on the slice and the position. `new` and `moved` alone make one: it stands at the front of its area or after a record.
+#![tactic(auto)]
+
 ghost use Rattle.std.specs.Prelude.{◌≡◌, drop};
 ghost use Rattle.records_spec.specs.Record.{record_at};
 ghost use Rattle.records_spec.specs.Area.{read_area};
@@ -8,7 +10,7 @@ ghost use Rattle.record_iter.specs.Iter.{position_after, rest_place, front, onwa
 use records::ad_structure::{Read, read_record};
 use records::area::Area;
 
-#[derive(Drop)]
+#[derive(Clone, Copy)]
 pub struct Records<'a> {
     records: &'a [u8],
     at: usize,

@@ -17,7 +17,7 @@ pub use records_spec::ad_structure::{AdStructure, NextUuid16, Parsed, Read};
 use utf8::is_utf8;
 
 // What is written of a record.
-#[derive(Drop)]
+#[derive(Clone, Copy)]
 struct Outline {
     ty: u8,
     // What the record holds itself, least significant octet first, and how many octets of that are written.
@@ -414,7 +414,7 @@ pub fn next_uuid16(data: &[u8], at: usize) -> NextUuid16
 }
 
 // The type octets that are read or written here (Assigned Numbers, 2.3).
-#[derive(Drop)]
+#[derive(Clone, Copy)]
 pub struct Type {}
 
 impl Type {

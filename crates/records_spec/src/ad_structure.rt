@@ -5,7 +5,7 @@ use octets::error::Error;
 use octets::uuid::Uuid16;
 
 // A record. rubble's holds its data; here `start` and `len` say where they lie in octets that are lent beside it.
-#[derive(Drop)]
+#[derive(Clone, Copy)]
 pub enum AdStructure {
     // Five bits: how the device may be found, and what else it speaks.
     Flags(Flags),
@@ -54,14 +54,14 @@ pub enum AdStructure {
 }
 
 // What reading a record's data finds.
-#[derive(Drop)]
+#[derive(Clone, Copy)]
 pub enum Parsed {
     Structure(AdStructure),
     Refused(Error),
 }
 
 // What reading at a position finds.
-#[derive(Drop)]
+#[derive(Clone, Copy)]
 pub enum Read {
     // A record, and the position after it.
     Record(AdStructure, usize),
@@ -71,7 +71,7 @@ pub enum Read {
 }
 
 // The next UUID of a list, and the position after it.
-#[derive(Drop)]
+#[derive(Clone, Copy)]
 pub enum NextUuid16 {
     Uuid(Uuid16, usize),
     // The list ends here.

@@ -2,7 +2,7 @@
 use octets::error::Error;
 
 // What reading a whole area finds.
-#[derive(Drop)]
+#[derive(Clone, Copy)]
 pub enum Area {
     // The number of records.
     Accepted(usize),
@@ -11,7 +11,7 @@ pub enum Area {
 }
 
 // What the hub's reading of an area finds: a zero length may end the records, with zeros alone after it (the Core, Vol 3 Part C, 11).
-#[derive(Drop)]
+#[derive(Clone, Copy)]
 pub enum PaddedArea {
     // The number of records, and how many octets they took.
     Accepted(usize, usize),
@@ -20,14 +20,14 @@ pub enum PaddedArea {
 }
 
 // Where a search of an area finds a record's data.
-#[derive(Drop)]
+#[derive(Clone, Copy)]
 pub enum Found {
     At { start: usize, len: usize },
     Nothing,
 }
 
 // The good records that an area begins with.
-#[derive(Drop)]
+#[derive(Clone, Copy)]
 pub enum Front {
     // They are the whole area: their number.
     Whole(usize),

@@ -2,7 +2,7 @@
 ghost use Rattle.std.specs.Prelude.{◌≤◌};
 
 // Why a line is no request: what is met first.
-#[derive(Drop)]
+#[derive(Clone, Copy)]
 pub(crate) enum Fault {
     // A letter that names no request.
     NoRequest,
@@ -21,7 +21,7 @@ pub(crate) enum Fault {
 }
 
 // How far a line is read.
-#[derive(Drop)]
+#[derive(Clone, Copy)]
 pub(crate) enum Line {
     // Nothing is.
     Start,
@@ -36,7 +36,7 @@ pub(crate) enum Line {
 }
 
 // What a whole line asks.
-#[derive(Drop)]
+#[derive(Clone, Copy)]
 pub(crate) enum Asked {
     // It is empty.
     Nothing,

@@ -45,6 +45,8 @@
 //
 // Answers are written as soon as all that was read is answered. A read or a write that fails ends the run, with a line on standard error. An argument is
 // answered there by the usage, and nothing is read.
+#![tactic(auto)]
+
 mod lines;
 mod print;
 
@@ -568,14 +570,14 @@ fn call(d: Device, letter: u8, s: &[u8], lent: &mut [u8]) -> Called {
 // Requests
 
 // What calls are made on: the device of `n`, and the book of `o`.
-#[derive(Drop)]
+#[derive(Clone, Copy)]
 struct Held {
     device: Device,
     book: Book,
 }
 
 // What is held after a request, and the place after the answer.
-#[derive(Drop)]
+#[derive(Clone, Copy)]
 struct Step {
     held: Held,
     at: usize,
@@ -684,7 +686,7 @@ fn seat_read(out: &mut Page, at: usize, b: Book, n: usize) -> usize {
 }
 
 // A book after a call, and the place after the answer.
-#[derive(Drop)]
+#[derive(Clone, Copy)]
 struct Booked {
     book: Book,
     at: usize,
@@ -834,7 +836,7 @@ fn wrong(out: &mut Page, at: usize, n: u64, fault: Fault) -> usize {
 }
 
 // Where a run stands: what is held, the line that is read, how many lines are answered, and the place in the output.
-#[derive(Drop)]
+#[derive(Clone, Copy)]
 struct Run {
     held: Held,
     line: Line,

@@ -11,7 +11,7 @@ pub type Page = [u8; 65536];
 pub(crate) const STOPPED: usize = usize::MAX;
 
 // What is said in answers.
-#[derive(Drop)]
+#[derive(Clone, Copy)]
 pub(crate) enum Word {
     Accepted,
     At,
@@ -148,7 +148,7 @@ pub(crate) fn octets(out: &mut Page, at: usize, s: &[u8]) -> usize {
 }
 
 // How an octet is printed: as a letter, where it is one, or as a space and two digits.
-#[derive(Drop)]
+#[derive(Clone, Copy)]
 enum Form {
     Letter,
     Digits,

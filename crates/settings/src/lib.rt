@@ -1,4 +1,6 @@
 // The settings of a connection, taken from a connect request where they are within the Core's ranges (document 02, Note 6).
+#![tactic(auto)]
+
 ghost use Rattle.std.specs.Prelude.{◌≡◌, ◌≤◌};
 ghost use Rattle.settings.specs.Settings.{between, Ranges, Within, times_in_range, window_in_range, in_ranges, settings_as, refused_settings, taken_of, alone_of};
 
@@ -8,7 +10,7 @@ use octets::bytes::least;
 use octets::error::{Error, Outcome};
 
 // Settings that are within the Core's ranges, as the counts that a request has. Only `made` makes them.
-#[derive(Drop)]
+#[derive(Clone, Copy)]
 pub struct ConnectionSettings {
     hop: u8,
     chm: ChannelMap,
@@ -24,7 +26,7 @@ pub struct ConnectionSettings {
 }
 
 // Whether the settings were taken, or why not; they are the least of each range, over all channels, where they were not.
-#[derive(Drop)]
+#[derive(Clone, Copy)]
 pub struct Taken {
     pub outcome: Outcome,
     pub settings: ConnectionSettings,

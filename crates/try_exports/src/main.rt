@@ -1,6 +1,8 @@
 // Calls every function of the libraries to link and prints what it answers, in the form of compare/link/every.c, from whose known answers, compare/link/every.out, each
 // line of the stored output is taken: they are document 01's and 02's, and those on which rubble and other implementations agree. What an answer's numbers are for other
 // values is a law of the library (specs/Laws).
+#![tactic(auto)]
+
 use advertising::pdu_buf::MAX_PAYLOAD_SIZE;
 use answers::got::Got;
 use answers::packet::Packet;

@@ -1,5 +1,7 @@
 // Tries the loop of `hub_io` on inputs that are made here, in files without a name. Prints the log of each, and of a long one how long it is, its CRC, and its
 // first and last lines.
+#![tactic(auto)]
+
 ghost use Rattle.std.specs.Prelude.{◌≡◌, length};
 
 use hub_io::{Run, log_all, log_through};

@@ -1,4 +1,6 @@
 // Runs the leaves on worked values of the Core and of Unicode. Each line says what was done and prints what came of it.
+#![tactic(auto)]
+
 use libc::STDOUT_FILENO;
 use octets::bytes::{
     Array6Read, ByteReader, ByteWriter, Skipped, Truncated, U8Read, U16Read, U32Read, Written,

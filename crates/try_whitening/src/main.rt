@@ -1,4 +1,6 @@
 // Runs vectors from outside: each channel's whitening octets, CRCs, and the flags of packets as heard. Each line prints what came of one.
+#![tactic(auto)]
+
 use libc::STDOUT_FILENO;
 use octets::error::{Error, Outcome};
 use whitening::crc::{CRC_POLY, CRC_PRESET, crc, crc_octets};

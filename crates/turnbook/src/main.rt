@@ -1,6 +1,8 @@
 // Reads a club's input from standard input to its end, and prints the lines of its book (docs/TURNBOOK.md). What the lines are is the crate `club`'s.
 //
 // A read or a write that fails ends the run. Nothing is written after it but a line on standard error.
+#![tactic(auto)]
+
 ghost use Rattle.std.specs.Prelude.{◌≡◌, false, ◌+◌, ◌≤◌, length};
 
 use club::Club;
@@ -14,7 +16,7 @@ const COMPANY: usize = 2;
 const LAST_ITEM: u8 = 0x07;
 
 // What taking items and writing their lines did.
-#[derive(Drop)]
+#[derive(Clone, Copy)]
 struct Printed {
     club: Club,
     // The octets of the items.
@@ -23,7 +25,7 @@ struct Printed {
 }
 
 // What a block did.
-#[derive(Drop)]
+#[derive(Clone, Copy)]
 struct Served {
     club: Club,
     // The octets that are left over.

@@ -1,9 +1,11 @@
 // Well-formed UTF-8 (the Unicode Standard, Table 3-7), in the place of Rust's `str`.
+#![tactic(auto)]
+
 ghost use Rattle.std.specs.Prelude.{◌≡◌};
 ghost use Rattle.utf8.specs.Utf8.{table, row_in, row_from, is_utf8};
 
 // What a lead octet begins: a sequence in which `count` octets follow, the first of them from `low` to `high`, the others from 80 to BF.
-#[derive(Drop)]
+#[derive(Clone, Copy)]
 enum Lead {
     Begins { count: usize, low: u8, high: u8 },
     // No sequence begins so.

@@ -13,7 +13,7 @@ use octets::error::{Error, Outcome};
 pub const ACCESS_ADDRESS: u32 = 0x8E89BED6;
 
 // Whether a packet's CRC is right, or why that cannot be told.
-#[derive(Drop)]
+#[derive(Clone, Copy)]
 pub enum Flag {
     Is(bool),
     Refused(Error),
