@@ -1,5 +1,5 @@
 -- Worked values of channels, maps and hopping, each with where it comes from: `Examples`, proved by `Examples.examples`.
-use Rattle.std.specs.Prelude.{true, false, List, [], ◌∷◌, ◌≡◌, ℕ, ◌%◌, eqb}
+use Rattle.std.specs.Prelude.{true, false, [], ◌∷◌, ◌≡◌, ℕ, ◌%◌, eqb}
 use Rattle.octets.specs.Error.{number_of}
 use Rattle.octets.specs.declared.error.Error.TheVariants.{EmptyMap, NoSuchChannel}
 use Rattle.channels.specs.Count.{count, placed}
