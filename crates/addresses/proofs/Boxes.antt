@@ -10,7 +10,7 @@ use lib.ListN.{get_or}
 use lib.Dec.{eqb}
 use borrow.Author.Tests.{eqb-true, ne_eqb, lt-ltb, le-ltb}
 use Rattle.addresses.specs.Header.{header_of, type_code, pdu_type, is_beacon, allows_adv_data}
-use Rattle.addresses.specs.Laws.{boxes, OwnBits, figure, HeaderFigure, HeaderNumber, TypeCodes, Types}
+use Rattle.addresses.specs.Laws.{boxes, OwnBits, HeaderFigure, HeaderNumber, TypeCodes, Types}
 use Rattle.addresses.specs.declared.header.Header.{Header}
 use Rattle.addresses.specs.declared.header.HeaderMade.TheVariants as made
 use Rattle.addresses.specs.declared.header.PduType.{PduType}

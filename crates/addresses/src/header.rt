@@ -156,6 +156,7 @@ pub enum PduType {
 
 impl PduType {
     // The type of a code.
+    #[tactic(auto, unfolding(crate::specs::Header::pdu_type))]
     pub fn from_u8(value: u8) -> PduType
         ensures { result ≡ pdu_type value }
     {
