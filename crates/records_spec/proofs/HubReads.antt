@@ -14,11 +14,10 @@ use Rattle.octets.specs.declared.error.Error.{Error}
 use Rattle.octets.specs.declared.error.Error.TheVariants.{InvalidLength}
 use Rattle.records_spec.specs.declared.area.Area.{Area}
 use Rattle.records_spec.specs.declared.area.Area.TheVariants as area
-use Rattle.records_spec.specs.declared.area.PaddedArea.{PaddedArea}
 use Rattle.records_spec.specs.declared.area.PaddedArea.TheVariants as padded
 use Rattle.records_spec.specs.Record.{flags_read, uuids_read, data_read, up_to, record_read, first}
 use Rattle.flags.specs.Flags.{named}
-use Rattle.records_spec.specs.Area.{cut, records, reads, with_first, area_of, read_area}
+use Rattle.records_spec.specs.Area.{cut, reads, with_first, area_of, read_area}
 use Rattle.records_spec.specs.Accepted.{GoodRecord, IsList, Tiling, Bad, zero_length, too_few, wrong_flags, odd_list, FirstBad, Verdict}
 use Rattle.records_spec.specs.HubReading.{before_zero, unpadded, is_zeros, ended_by, read_padded, area_in}
 use Rattle.records_spec.specs.HubReads.{Padding, Fault, bad_record, not_zero, PaddedVerdict, HubReads, ZeroLength, took_all, Differs, WithoutSize, Took, PaddedRows}

@@ -16,7 +16,6 @@ use Rattle.octets.proofs.Laws.{parts, written_keeps}
 use Rattle.octets.proofs.Places.{enough, too_few}
 use Rattle.records_spec.specs.declared.ad_structure.AdStructure.{AdStructure}
 use Rattle.records_spec.specs.declared.ad_structure.AdStructure.TheVariants as ad
-use Rattle.octets.specs.declared.error.Outcome.{Outcome}
 use Rattle.octets.specs.declared.error.Outcome.TheVariants as outcome
 use Rattle.records_spec.specs.Record.{record_of}
 use Rattle.records_spec.specs.Write.{record_start, record_len, record_check, data_of, may_write, record_octets, written_to, written_after}

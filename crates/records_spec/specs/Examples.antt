@@ -21,7 +21,6 @@ use Rattle.records_spec.specs.declared.ad_structure.Parsed.TheVariants.{Structur
 use Rattle.records_spec.specs.declared.ad_structure.Read.{Read}
 use Rattle.records_spec.specs.declared.ad_structure.Read.TheVariants.{Record, End}
 use Rattle.records_spec.specs.declared.ad_structure.NextUuid16.TheVariants as next16
-use Rattle.octets.specs.declared.error.Outcome.{Outcome}
 use Rattle.octets.specs.declared.error.Outcome.TheVariants as outcome
 use Rattle.records_spec.specs.Write.{Outline, own_in, lent_check, written_to, written_after}
 use Rattle.records_spec.specs.declared.area.Area.{Area}

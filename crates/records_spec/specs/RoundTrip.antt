@@ -13,7 +13,7 @@
 --   Unwritten s out e                   == rewriting s to `out` is refused with e, and leaves `out`
 --   Rewriting s out                     (Restored.rewriting)            an accepted area with room is restored so, and what is refused
 use Rattle.std.specs.Prelude.{◌≡◌, ℕ, ◌+◌, ◌%◌, ◌<◌, ◌≤◌, length, get_or, take, drop}
-use mathlib.Core.List.{List, [], ◌∷◌, map, flatten}
+use mathlib.Core.List.{List, map, flatten}
 use Rattle.octets.specs.Lists.{All}
 use Rattle.octets.specs.declared.error.Error.{Error}
 use Rattle.octets.specs.declared.error.Error.TheVariants.{Eof}
