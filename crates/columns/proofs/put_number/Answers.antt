@@ -1,26 +1,19 @@
--- `columns::put_number` meets its contract. The loop's invariant: what is still to be written, before what stands there, is what is wanted.
--- Assumes nothing.
-use mathlib.Core.Path.{◌≡◌, refl, sym, ap, ◌∙◌}
-use mathlib.Core.List.{List, ◌++◌, append_assoc, append-nil}
-use Prim.Native.Nat.{ℕ, zero, suc, ◌+◌, ◌-◌, ◌/◌, ◌<◌, ◌≤◌}
-use native.Mathlib.Omega.{arith}
-use lib.ListN.{length, take, drop, length-append, length-take, length-drop, drop_of_length-le}
+use Rattle.std.proofs.Common.{◌≡◌, refl, sym, ap, ◌∙◌, List, ◌++◌, append_assoc, ℕ, zero, suc, ◌-◌, ◌/◌, ◌<◌, ◌≤◌, arith, length, take, drop, length-append, length-drop}
+use lib.ListN.{length-take}
 use lib.Seq.{drop_at}
-use borrow.Author.Rules.{rules}
 use borrow.Author.Tests.{lt-ltb, le-ltb}
 use borrow.Rule.Slice.PartMut.{put_mid}
 use Rattle.columns.specs.Table.{octet_from, ends_as, number_from}
 use Rattle.columns.proofs.Printed.{octet_length}
 use Rattle.columns.proofs.Widths.{part_size, put_part}
-use Rattle.columns.proofs.put_number.Statement.{statement}
-use Rattle.columns.proofs.put_number.Tie as tie
+use Rattle.columns.proofs.put_number.Goals as goal
 
 -- an octet, or fewer than two columns: nothing is left before it
-whole-octet : (t : List ℕ) (w n : ℕ) → n < 256 → number_from t w n ≡ octet_from t w (ends_as n)
+whole_octet : (t : List ℕ) (w n : ℕ) → n < 256 → number_from t w n ≡ octet_from t w (ends_as n)
 unfolding number_from octet_from
-whole-octet t zero n small = refl
-whole-octet t (suc zero) n small = refl
-whole-octet t (suc (suc w)) n small = rw (lt-ltb n 256 small) refl
+whole_octet t zero n small = refl
+whole_octet t (suc zero) n small = refl
+whole_octet t (suc (suc w)) n small = rw (lt-ltb n 256 small) refl
 
 few_columns : (t : List ℕ) (w n : ℕ) → w < 2 → number_from t w n ≡ octet_from t w (ends_as n)
 unfolding number_from octet_from
@@ -41,6 +34,7 @@ wrote : (t out part : List ℕ) (x n : ℕ) {at end : ℕ} → at ≤ end → en
     → part ≡ octet_from t (end - at) (ends_as n)
 wrote t out part x n ordered inside is e = e ∙ (λ i. octet_from t (part_size out ordered inside i) (is i))
 
+-- what the loop's invariant says
 record Progress (table : List ℕ) (n : ℕ) (out₀ out : List ℕ) (left end : ℕ) : Type 0 where
   as_long : length out ≡ length out₀
   inside : end ≤ length out
@@ -73,82 +67,27 @@ module _ {table : List ℕ} {n : ℕ} {out₀ out : List ℕ} {left end : ℕ} (
       }
 
   finished : (part : List ℕ) (x : ℕ) → x ≡ ends_as left → number_from table end left ≡ octet_from table end (ends_as left) → part ≡ octet_from table (length (take (end - 0) (drop 0 out))) x
-      → (length (put_mid 0 (end - 0) out part) ≡ length out₀) × (put_mid 0 (end - 0) out part ≡ number_from table (length out₀) n)
+      → put_mid 0 (end - 0) out part ≡ number_from table (length out₀) n
   finished part x is last e =
       let is-part : part ≡ octet_from table (end - 0) (ends_as left) = wrote table out part x left {at = 0} (omega arith) p.inside is e in
-      let size : length part ≡ end - 0 = ap length is-part ∙ octet_length table (end - 0) (ends_as left) in
       let all : end - 0 ≡ end = omega arith in
-      (kept 0 part (omega arith) size, put_part out part {at = 0} (omega arith) p.inside ∙ ap (λ (l : List ℕ). l ++ drop end out) (is-part ∙ ap (λ (k : ℕ). octet_from table k (ends_as left)) all ∙ sym last) ∙ p.whole)
+      put_part out part {at = 0} (omega arith) p.inside ∙ ap (λ (l : List ℕ). l ++ drop end out) (is-part ∙ ap (λ (k : ℕ). octet_from table k (ends_as left)) all ∙ sym last) ∙ p.whole
 
-abbrev invariant-loop : tie.invariant-loop
-invariant-loop table n out₀ left₀ end₀ out left end = Progress table n out₀ out left end
+pub returns-then-left-lt256 : goal.returns-then-left-lt256
+returns-then-left-lt256 c =
+    let was = c.loop-end.invariant in
+    let p : Progress c.args.table.now c.args.n c.args.out.now c.loop-end.out c.loop-end.left c.loop-end.end = record { as_long = was.as_long; inside = was.inside; whole = was.whole } in
+    finished p _ _ c.ends_as.ensures (whole_octet _ _ _ c.if-left-lt256.true) c.put_octet.ensures
 
-abbrev decreases-loop : tie.decreases-loop
-decreases-loop table n out₀ left₀ end₀ out left end = end
+pub loop-end-preserved : goal.loop-end-preserved
+loop-end-preserved c =
+    let was = c.loop-end.invariant in
+    let p : Progress c.args.table.now c.args.n c.args.out.now c.loop-end.out c.loop-end.left c.loop-end.end = record { as_long = was.as_long; inside = was.inside; whole = was.whole } in
+    let q = advance p _ _ c.loop-end-test.true c.if-left-lt256.false c.ends_as-in-loop-end.ensures c.put_octet-in-loop-end.ensures in
+    record { as_long = q.as_long; inside = q.inside; whole = q.whole }
 
-loop-holds : tie.Need-loop-init invariant-loop decreases-loop
-loop-holds c =
-    let out = c.before.args.out.now in
-    record { as_long = refl; inside = omega arith; whole = rw (drop_of_length-le out {i = length out} (omega arith)) (append-nil _) }
-
-loop-again : tie.Need-loop-preserved invariant-loop decreases-loop
-loop-again c =
-    let call = c.before.before in
-    let ends = call.before.before in
-    let at_test = ends.before in
-    advance at_test.before.before.loop.invariant _ _ at_test.before.loop-test.true at_test.if1.false ends.ends-as2.ensures call.put-octet2.ensures
-
-same_length : tie.Need-same-length invariant-loop decreases-loop
-same_length c =
-    let call = c.before.before in
-    let ends = call.before.before in
-    let at_test = ends.before in
-    (finished at_test.before.before.loop.invariant _ _ ends.ends_as.ensures (whole-octet _ _ _ at_test.if1.true) call.put-octet.ensures).0
-
-returns : tie.Need-returns invariant-loop decreases-loop
+pub returns : goal.returns
 returns c =
-    let call = c.before.before in
-    let ends = call.before.before in
-    let at_test = ends.before in
-    (finished at_test.before.before.loop.invariant _ _ ends.ends_as.ensures (whole-octet _ _ _ at_test.if1.true) call.put-octet.ensures).1
-
-same-length-2 : tie.Need-same-length-2 invariant-loop decreases-loop
-same-length-2 c =
-    let call = c.before.before in
-    let ends = call.before.before in
-    (finished ends.before.before.loop.invariant _ _ ends.ends-as3.ensures (few_columns _ _ _ ends.before.loop-test.false) call.put-octet3.ensures).0
-
-returns-2 : tie.Need-returns-2 invariant-loop decreases-loop
-returns-2 c =
-    let call = c.before.before in
-    let ends = call.before.before in
-    (finished ends.before.before.loop.invariant _ _ ends.ends-as3.ensures (few_columns _ _ _ ends.before.loop-test.false) call.put-octet3.ensures).1
-
-pub put-number-spec : {M : Type 1} → statement M
-put-number-spec =
-    tie.close
-    (tie.spec
-    invariant-loop
-    decreases-loop
-    loop-holds
-    (λ c κs. search rules)
-    (λ c. search rules)
-    (λ c. search rules)
-    (λ c. search rules)
-    (λ c κs. search rules)
-    same_length
-    returns
-    (λ c κs. search rules)
-    (λ c. search rules)
-    (λ c. search rules)
-    (λ c. search rules)
-    (λ c κs. search rules)
-    (λ c. search rules)
-    loop-again
-    (λ c κs. search rules)
-    (λ c. search rules)
-    (λ c. search rules)
-    (λ c. search rules)
-    (λ c κs. search rules)
-    same-length-2
-    returns-2)
+    let was = c.loop-end.invariant in
+    let p : Progress c.args.table.now c.args.n c.args.out.now c.loop-end.out c.loop-end.left c.loop-end.end = record { as_long = was.as_long; inside = was.inside; whole = was.whole } in
+    finished p _ _ c.ends_as-2.ensures (few_columns _ _ _ c.loop-end-test.false) c.put_octet-2.ensures

@@ -1,19 +1,12 @@
--- `columns::put_octets` meets its contract. The loop's invariant: what is written, before what is still to be, is what is wanted. Assumes nothing.
-use mathlib.Core.Path.{◌≡◌, refl, sym, ap, ◌∙◌}
-use mathlib.Core.List.{List, [], ◌∷◌, ◌++◌, append_assoc}
-use Prim.Native.Nat.{ℕ, suc, ◌+◌, ◌-◌, ◌<◌, ◌≤◌}
-use native.Mathlib.Omega.{arith}
-use native.Mathlib.Numerals.{add-one}
-use lib.ListN.{length, get_or, take, drop, length-append, length-take, length-drop, drop_of_length-le, take-append-drop}
-use lib.Seq.{take_at, drop_at, drop-drop, drop-cons}
-use borrow.Author.Rules.{rules}
+use Rattle.std.proofs.Common.{◌≡◌, refl, sym, ap, ◌∙◌, List, [], ◌∷◌, ◌++◌, append_assoc, ℕ, suc, ◌+◌, ◌-◌, ◌<◌, ◌≤◌, arith, add-one, length, get_or, take, drop, length-append, length-drop, drop-cons}
+use lib.ListN.{length-take, drop_of_length-le, take-append-drop}
+use lib.Seq.{take_at, drop_at, drop-drop}
 use borrow.Author.Tests.{le-leb, lt-leb}
 use borrow.Rule.Slice.PartMut.{put_mid}
 use Rattle.columns.specs.Table.{octet_from, octets_from}
 use Rattle.columns.proofs.Printed.{octet_length}
 use Rattle.columns.proofs.Widths.{part_size, put_part}
-use Rattle.columns.proofs.put_octets.Statement.{statement}
-use Rattle.columns.proofs.put_octets.Tie as tie
+use Rattle.columns.proofs.put_octets.Goals as goal
 
 no_room : (t os out : List ℕ) → length out < 4 → octets_from t os out ≡ out
 unfolding octets_from
@@ -24,6 +17,7 @@ one_more : (t os : List ℕ) (o : ℕ) (out : List ℕ) → 4 ≤ length out →
 unfolding octets_from
 one_more t os o out room = rw (le-leb 4 (length out) room) refl
 
+-- what the loop's invariant says
 record Progress (table octets out₀ out : List ℕ) (i at : ℕ) : Type 0 where
   as_long : length out ≡ length out₀
   inside : at ≤ length out
@@ -57,46 +51,28 @@ module _ {table octets out₀ out : List ℕ} {i at : ℕ} (p : Progress table o
   finished : octets_from table (drop i octets) (drop at out) ≡ drop at out → out ≡ octets_from table octets out₀
   finished last = sym (take-append-drop at out) ∙ ap (λ (l : List ℕ). take at out ++ l) (sym last) ∙ p.whole
 
-  all-written : length octets ≤ i → out ≡ octets_from table octets out₀
+  all_written : length octets ≤ i → out ≡ octets_from table octets out₀
   unfolding octets_from
-  all-written end = finished (ap (λ (l : List ℕ). octets_from table l (drop at out)) (drop_of_length-le octets end))
+  all_written end = finished (ap (λ (l : List ℕ). octets_from table l (drop at out)) (drop_of_length-le octets end))
 
   full : length out - at < 4 → out ≡ octets_from table octets out₀
   full few = finished (no_room table (drop i octets) (drop at out) (rw length-drop few))
 
-abbrev invariant-loop : tie.invariant-loop
-invariant-loop table octets out₀ i₀ at₀ out i at = Progress table octets out₀ out i at
+pub returns-then-out-at-lt4 : goal.returns-then-out-at-lt4
+returns-then-out-at-lt4 c =
+    let was = c.loop-i.invariant in
+    let p : Progress c.args.table.now c.args.octets.now c.args.out.now c.loop-i.out c.loop-i.i c.loop-i.at = record { as_long = was.as_long; inside = was.inside; whole = was.whole } in
+    full p c.if-out-at-lt4.true
 
-abbrev decreases-loop : tie.decreases-loop
-decreases-loop table octets out₀ i₀ at₀ out i at = length octets - i
+pub loop-i-preserved : goal.loop-i-preserved
+loop-i-preserved c =
+    let was = c.loop-i.invariant in
+    let p : Progress c.args.table.now c.args.octets.now c.args.out.now c.loop-i.out c.loop-i.i c.loop-i.at = record { as_long = was.as_long; inside = was.inside; whole = was.whole } in
+    let q = advance p _ c.loop-i-test.true c.if-out-at-lt4.false c.put_octet.ensures in
+    record { as_long = q.as_long; inside = q.inside; whole = q.whole }
 
-loop-holds : tie.Need-loop-init invariant-loop decreases-loop
-loop-holds c = record { as_long = refl; inside = omega arith; whole = refl }
-
-loop-again : tie.Need-loop-preserved invariant-loop decreases-loop
-loop-again c =
-    let call = c.before.before in
-    let at_test = call.before.before.before in
-    advance at_test.before.before.loop.invariant _ at_test.before.loop-test.true at_test.if1.false call.put-octet.ensures
-
-pub put-octets-spec : {M : Type 1} → statement M
-put-octets-spec =
-    tie.close
-    (tie.spec
-    invariant-loop
-    decreases-loop
-    loop-holds
-    (λ c. search rules)
-    (λ c. c.before.before.loop.invariant.as_long)
-    (λ c. full c.before.before.loop.invariant c.if1.true)
-    (λ c. search rules)
-    (λ c. search rules)
-    (λ c. search rules)
-    (λ c. search rules)
-    (λ c. search rules)
-    (λ c κs. search rules)
-    (λ c. search rules)
-    (λ c. search rules)
-    loop-again
-    (λ c. c.before.loop.invariant.as_long)
-    (λ c. all-written c.before.loop.invariant c.loop-test.false))
+pub returns : goal.returns
+returns c =
+    let was = c.loop-i.invariant in
+    let p : Progress c.args.table.now c.args.octets.now c.args.out.now c.loop-i.out c.loop-i.i c.loop-i.at = record { as_long = was.as_long; inside = was.inside; whole = was.whole } in
+    all_written p c.loop-i-test.false
