@@ -1,18 +1,20 @@
-// The hub's log from one descriptor to another: octets are read, and what the crate `hub` says is to be written is written.
+// The hub's log from a reader to a writer: octets are read, and what the crate `hub` says is to be written is written.
 //
 // A read or a write that fails ends the run. Nothing is written after it but a line on standard error, which has the item.
 #![tactic(auto)]
 
 mod say;
 
-ghost use Rattle.std.specs.Prelude.{◌≡◌, true, false, ◌&&◌, ◌+◌, ◌<◌, ◌≤◌, leb, length, take};
+ghost use Rattle.std.specs.Prelude.{◌≡◌, true, false, ◌&&◌, ◌+◌, ◌<◌, ◌≤◌, nat_le, length, take, IfOk, OnOk};
 ghost use Rattle.hub.specs.State.{hub_state, block_step};
 ghost use Rattle.hub_spec.specs.Line.{last_size, room_for};
 ghost use Rattle.hub_spec.specs.Log.{octets_left, block_lines, block_of, RunCounts};
 ghost use Rattle.hub_spec.specs.Reads.{NextBlock, Ended};
 
-use descriptors::{Moved, read_more, write_out};
 use hub::{Block, Hub, TakenIn};
+use std::io::{ErrorKind, Read, Write};
+use std::time::Duration;
+use std::{io, thread};
 
 // The octets of the longest item, and of the shortest that is reported; of a report's line, and of the last line.
 const LONGEST: usize = 66;
@@ -39,15 +41,116 @@ pub struct Run {
     pub is_failed: bool,
 }
 
+// Reads to `buf` from `kept` on, and says how many octets it holds then. The first `kept` octets stay. At the end of the input there are no more than these.
+fn read_once<R: Read>(input: &mut R, buf: &mut [u8], kept: usize) -> io::Result<usize>
+    requires { kept < length buf.old }
+    ensures upto { IfOk result (λ upto. (kept ≤ upto) × (upto ≤ length buf.old)) }
+    ensures kept { take kept buf.new ≡ take kept buf.old }
+{
+    let got = input.read(&mut buf[kept..])?;
+    Ok(kept + got)
+}
+
+// The same, made again where a signal interrupts it.
+pub fn read_more<R: Read>(input: &mut R, buf: &mut [u8], kept: usize) -> io::Result<usize>
+    requires { kept < length buf.old }
+    ensures upto { IfOk result (λ upto. (kept ≤ upto) × (upto ≤ length buf.old)) }
+    ensures kept { take kept buf.new ≡ take kept buf.old }
+{
+    for _ in 0..u64::MAX {
+        match read_once(input, buf, kept) {
+            Ok(upto) => return Ok(upto),
+            Err(e) => {
+                if e.kind() != ErrorKind::Interrupted {
+                    return Err(e);
+                }
+            }
+        }
+    }
+    Err(io::Error::from(ErrorKind::Interrupted))
+}
+
+// Waits a millisecond, or less where a signal comes.
+fn wait(rt: &HostRuntime) {
+    thread::sleep(rt, Duration::from_millis(1));
+}
+
+// Whether a write that failed may be tried again: a signal interrupted it, or there is no room yet. Then it waits first.
+fn may_try_again(rt: &HostRuntime, e: &io::Error) -> bool {
+    if e.kind() == ErrorKind::WouldBlock {
+        wait(rt);
+        return true;
+    }
+    e.kind() == ErrorKind::Interrupted
+}
+
+// Writes the octets of s from `done` on, or the first of them, and says how many of its octets are written then.
+fn write_some<W: Write>(
+    rt: &HostRuntime,
+    output: &mut W,
+    s: &[u8],
+    done: usize,
+) -> io::Result<usize>
+    requires { done ≤ length s.now }
+    ensures { IfOk result (λ upto. (done ≤ upto) × (upto ≤ length s.now)) }
+{
+    match output.write(&s[done..]) {
+        Ok(0) => Err(io::Error::from(ErrorKind::WriteZero)),
+        Ok(put) => Ok(done + put),
+        Err(e) => {
+            if may_try_again(rt, &e) {
+                return Ok(done);
+            }
+            Err(e)
+        }
+    }
+}
+
+// Writes all of s, each write from where the one before it stopped, up to a write that fails. `done` says how many of its octets are written then.
+pub fn write_out<W: Write>(
+    rt: &HostRuntime,
+    output: &mut W,
+    s: &[u8],
+    done: &mut usize,
+) -> io::Result<()>
+    ensures most { done.new ≤ length s.now }
+    ensures all { OnOk result (done.new ≡ length s.now) }
+{
+    *done = 0;
+    for _ in 0..u64::MAX {
+        if s.len() <= *done {
+            return Ok(());
+        }
+        *done = write_some(rt, output, s, *done)?;
+    }
+    Err(io::Error::from(ErrorKind::WriteZero))
+}
+
+// How many octets of lines are written, and whether a write failed.
+#[derive(Clone, Copy)]
+struct Moved {
+    upto: usize,
+    is_failed: bool,
+}
+
 // Writes lines, or says at which one writing failed.
-fn write_lines(output: i32, lines: &[u8], has_last: bool) -> Moved
+fn write_lines<W: Write>(rt: &HostRuntime, output: &mut W, lines: &[u8], has_last: bool) -> Moved
     ensures { (result.upto ≤ length lines.now) × (result.is_failed ≡ false → result.upto ≡ length lines.now) }
 {
-    let moved = write_out(output, lines);
-    if moved.is_failed {
-        say::unwritten(lines, moved.upto, has_last);
+    let mut upto = 0;
+    match write_out(rt, output, lines, &mut upto) {
+        Ok(()) => Moved {
+            upto,
+            is_failed: false,
+        },
+        Err(e) => {
+            say::unwritten(rt, lines, upto, has_last, &e);
+            Moved {
+                upto,
+                is_failed: true,
+            }
+        }
     }
-    moved
 }
 
 // A run that ends here, with nothing taken in.
@@ -68,8 +171,9 @@ fn failed(hub: Hub, kept: usize) -> Step
 }
 
 // Takes in the first `filled` octets, and writes what is to be written for them. What is left over of them stands at the front of `buf` then.
-fn log_block(
-    output: i32,
+fn log_block<W: Write>(
+    rt: &HostRuntime,
+    output: &mut W,
     hub: Hub,
     buf: &mut [u8],
     filled: usize,
@@ -82,7 +186,7 @@ fn log_block(
     match hub.take_in(buf, filled, is_end, out) {
         TakenIn::Block(block) => {
             let written = block.written;
-            let moved = write_lines(output, &out[..written], block.is_stopped);
+            let moved = write_lines(rt, output, &out[..written], block.is_stopped);
             Step {
                 block,
                 written: moved.upto,
@@ -95,21 +199,35 @@ fn log_block(
 }
 
 // Reads once, and writes what is to be written then. A read that brings nothing is the end of the input.
-fn log_read(input: i32, output: i32, hub: Hub, kept: usize, buf: &mut [u8], out: &mut [u8]) -> Step
+fn log_read<R: Read, W: Write>(
+    rt: &HostRuntime,
+    input: &mut R,
+    output: &mut W,
+    hub: Hub,
+    kept: usize,
+    buf: &mut [u8],
+    out: &mut [u8],
+) -> Step
     requires { RunCounts (hub_state hub) × ((kept < length buf.old) × (room_for (length buf.old) + last_size ≤ length out.old)) }
     ensures { result.is_failed ≡ false → NextBlock (hub_state hub) (take kept buf.old) (block_step result.block) (take result.block.kept buf.new) out.new result.written }
 {
-    let read = read_more(input, buf, kept);
-    if read.is_failed {
-        say::unread(hub.last_line(kept));
-        return failed(hub, kept);
+    match read_more(input, buf, kept) {
+        Ok(filled) => log_block(rt, output, hub, buf, filled, filled == kept, out),
+        Err(e) => {
+            say::unread(rt, hub.last_line(kept), &e);
+            failed(hub, kept)
+        }
     }
-    let filled = read.upto;
-    log_block(output, hub, buf, filled, filled == kept, out)
 }
 
 // Reads and writes until reading stops. The loop has no count of reads: each one brings an octet of the items that still count, or ends it.
-fn log_input(input: i32, output: i32, buf: &mut [u8], out: &mut [u8]) -> Run
+fn log_input<R: Read, W: Write>(
+    rt: &HostRuntime,
+    input: &mut R,
+    output: &mut W,
+    buf: &mut [u8],
+    out: &mut [u8],
+) -> Run
     requires { (66 ≤ length buf.old) × (room_for (length buf.old) + last_size ≤ length out.old) }
     ensures { result.is_failed ≡ false → Ended (hub_state result.hub) result.written }
 {
@@ -117,7 +235,7 @@ fn log_input(input: i32, output: i32, buf: &mut [u8], out: &mut [u8]) -> Run
     let mut kept = 0;
     let mut written = 0;
     loop {
-        let step = log_read(input, output, hub, kept, buf, out);
+        let step = log_read(rt, input, output, hub, kept, buf, out);
         let block = step.block;
         hub = block.hub;
         kept = block.kept;
@@ -139,7 +257,14 @@ fn log_input(input: i32, output: i32, buf: &mut [u8], out: &mut [u8]) -> Run
     }
 }
 
-// Room for what is to be written for all that `io::large_buffer` holds.
+// Room for 64 KiB of the input.
+fn large_buffer() -> [u8; 65536]
+    ensures { 65536 ≡ length result }
+{
+    [0; 65536]
+}
+
+// Room for what is to be written for all that `large_buffer` holds.
 fn lines_buffer() -> [u8; 283974]
     ensures { 283974 ≡ length result }
 {
@@ -148,7 +273,7 @@ fn lines_buffer() -> [u8; 283974]
 
 // Whether a buffer holds the longest item, and there is room for what is to be written for all that it holds.
 fn has_room(size: usize, space: usize) -> bool
-    ensures { result ≡ leb 66 size && leb (room_for size + last_size) space }
+    ensures { result ≡ nat_le 66 size && nat_le (room_for size + last_size) space }
 {
     if size < LONGEST {
         return false;
@@ -159,13 +284,19 @@ fn has_room(size: usize, space: usize) -> bool
     size / SHORTEST <= (space - LAST) / LINE
 }
 
-// Reads the hub's input from one descriptor to its end, and writes its log to the other, through buffers that are lent. Where they are too small, the run
+// Reads the hub's input from a reader to its end, and writes its log to a writer, through buffers that are lent. Where they are too small, the run
 // fails before it has read.
-pub fn log_through(input: i32, output: i32, buf: &mut [u8], out: &mut [u8]) -> Run
+pub fn log_through<R: Read, W: Write>(
+    rt: &HostRuntime,
+    input: &mut R,
+    output: &mut W,
+    buf: &mut [u8],
+    out: &mut [u8],
+) -> Run
     ensures { result.is_failed ≡ false → Ended (hub_state result.hub) result.written }
 {
     if has_room(buf.len(), out.len()) {
-        return log_input(input, output, buf, out);
+        return log_input(rt, input, output, buf, out);
     }
     Run {
         hub: Hub::new(),
@@ -175,10 +306,10 @@ pub fn log_through(input: i32, output: i32, buf: &mut [u8], out: &mut [u8]) -> R
 }
 
 // The same through buffers of its own, which hold 64 KiB of the input.
-pub fn log_all(input: i32, output: i32) -> Run
+pub fn log_all<R: Read, W: Write>(rt: &HostRuntime, input: &mut R, output: &mut W) -> Run
     ensures { result.is_failed ≡ false → Ended (hub_state result.hub) result.written }
 {
-    let mut buf = io::large_buffer();
+    let mut buf = large_buffer();
     let mut out = lines_buffer();
-    log_input(input, output, &mut buf, &mut out)
+    log_input(rt, input, output, &mut buf, &mut out)
 }

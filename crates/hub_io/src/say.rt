@@ -2,6 +2,8 @@
 ghost use Rattle.std.specs.Prelude.{◌≤◌, length};
 
 use crate::LAST;
+use std::io;
+use std::io::Print;
 
 // The columns of an item's number, which begins each line.
 const NUMBER: usize = 6;
@@ -62,35 +64,42 @@ fn line_start(lines: &[u8], at: usize) -> usize
     i
 }
 
+fn spoken(rt: &HostRuntime, text: &[u8], e: &io::Error) -> io::Result<()> {
+    rt.stderr().write_all(text)?;
+    eprintln!(rt; ": {e}")
+}
+
 // Says what failed, with the number that begins the line of `lines` at `at`, and why in the system's words.
-fn fail(what: &[u8], lines: &[u8], at: usize)
+fn fail(rt: &HostRuntime, what: &[u8], lines: &[u8], at: usize, e: &io::Error)
     requires { at ≤ length lines.now }
 {
     let mut text = [0u8; 80];
     let from = line_start(lines, at);
     let column = octets::bytes::part_of(lines, from, NUMBER);
     let n = spell(what, column, &mut text);
-    os::fail(&text[..n]);
+    let _said = spoken(rt, &text[..n], e);
 }
 
 // A line of the log was not written whole, that at `at`: a report's, or the last one, which is there where `has_last` says so.
-pub(crate) fn unwritten(lines: &[u8], at: usize, has_last: bool)
+pub(crate) fn unwritten(rt: &HostRuntime, lines: &[u8], at: usize, has_last: bool, e: &io::Error)
     requires { at ≤ length lines.now }
 {
     if has_last {
         if lines.len() - at <= LAST {
             fail(
+                rt,
                 b"hublog: writing the last line failed after item ",
                 lines,
                 at,
+                e,
             );
             return;
         }
     }
-    fail(b"hublog: writing failed at item ", lines, at);
+    fail(rt, b"hublog: writing failed at item ", lines, at, e);
 }
 
 // A read failed, when the last line would have been this one.
-pub(crate) fn unread(last: [u8; 15]) {
-    fail(b"hublog: reading failed after item ", &last, 0);
+pub(crate) fn unread(rt: &HostRuntime, last: [u8; 15], e: &io::Error) {
+    fail(rt, b"hublog: reading failed after item ", &last, 0, e);
 }

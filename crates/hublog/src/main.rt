@@ -1,19 +1,19 @@
 // Reads the hub's input from standard input to its end, and prints its log. All that is done is in the crate `hub_io`.
 #![tactic(auto)]
 
-use libc::{STDERR_FILENO, STDIN_FILENO, STDOUT_FILENO};
+use std::{env, io};
 
-fn usage() {
-    io::write_all(
-        STDERR_FILENO,
-        b"usage: hublog < INPUT > LOG\nhublog takes no argument. It reads the hub's input from standard input and prints its log to standard output.\n",
-    );
+fn usage(rt: &HostRuntime) -> io::Result<()> {
+    eprintln!(rt; "usage: hublog < INPUT > LOG")?;
+    eprintln!(rt;
+        "hublog takes no argument. It reads the hub's input from standard input and prints its log to standard output."
+    )
 }
 
-fn main() {
-    if 1 < os::arg_count() {
-        usage();
-        return;
+fn main(rt: HostRuntime) -> io::Result<()> {
+    if 1 < env::args(&rt)?.count() {
+        return usage(&rt);
     }
-    hub_io::log_all(STDIN_FILENO, STDOUT_FILENO);
+    hub_io::log_all(&rt, &mut rt.stdin(), &mut rt.stdout());
+    Ok(())
 }

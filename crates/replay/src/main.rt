@@ -59,11 +59,9 @@ use advertising::pdu_buf::{Built, PduBuf};
 use answers::given::structure;
 use beacon::beacon::{Beacon, BeaconScanner, Broadcast, Report, Scanned};
 use book::{Book, BookCalled, Move, SeatCalled};
-use bytes::scan::find;
 use channels::channel_map::ChannelMap;
 use channels::connection::{Hop, hop_channel};
 use channels::phy::{AdvertisingChannel, AllChannels, DataChannel, Found};
-use libc::{STDERR_FILENO, STDIN_FILENO};
 use lines::{Asked, Fault, Line, ended, read_on};
 use names::{NamePlace, find_name, name};
 use octets::bytes::{ByteWriter, Written, u16_from_le_bytes, u32_from_le_bytes};
@@ -74,25 +72,27 @@ use radio::link::{Answer, Called, Device};
 use records::ad_structure::write_record;
 use records::area::{Area, PaddedArea, read_area, read_padded_area, rewrite_area};
 use settings::{ConnectionSettings, Taken};
+use std::env;
+use std::io::Read;
 use std::num::wrapping_add_u64;
 
 // What is printed of a value
 
-fn refused(out: &mut Page, at: usize, e: Error) -> usize {
-    labelled(out, at, Word::Refused, e.number() as u64)
+fn refused(rt: &HostRuntime, out: &mut Page, at: usize, e: Error) -> usize {
+    labelled(rt, out, at, Word::Refused, e.number() as u64)
 }
 
-fn outcome(out: &mut Page, at: usize, o: Outcome) -> usize {
+fn outcome(rt: &HostRuntime, out: &mut Page, at: usize, o: Outcome) -> usize {
     match o {
-        Outcome::Accepted => say(out, at, Word::Accepted),
-        Outcome::Refused(e) => refused(out, at, e),
+        Outcome::Accepted => say(rt, out, at, Word::Accepted),
+        Outcome::Refused(e) => refused(rt, out, at, e),
     }
 }
 
-fn written(out: &mut Page, at: usize, w: Written) -> usize {
+fn written(rt: &HostRuntime, out: &mut Page, at: usize, w: Written) -> usize {
     match w {
-        Written::To(next) => labelled(out, at, Word::To, next.at as u64),
-        Written::Refused(e) => refused(out, at, e),
+        Written::To(next) => labelled(rt, out, at, Word::To, next.at as u64),
+        Written::Refused(e) => refused(rt, out, at, e),
     }
 }
 
@@ -103,22 +103,22 @@ fn kind(a: DeviceAddress) -> Word {
     Word::Public
 }
 
-fn address(out: &mut Page, at: usize, a: DeviceAddress) -> usize {
+fn address(rt: &HostRuntime, out: &mut Page, at: usize, a: DeviceAddress) -> usize {
     let raw = a.raw();
-    let next = say(out, at, kind(a));
-    octets(out, next, &raw)
+    let next = say(rt, out, at, kind(a));
+    octets(rt, out, next, &raw)
 }
 
-fn header_of(out: &mut Page, at: usize, header: Header) -> usize {
-    hex(out, at, header.to_u16() as u64, 4)
+fn header_of(rt: &HostRuntime, out: &mut Page, at: usize, header: Header) -> usize {
+    hex(rt, out, at, header.to_u16() as u64, 4)
 }
 
-fn on(out: &mut Page, at: usize, channel: AdvertisingChannel) -> usize {
-    labelled(out, at, Word::On, channel.channel() as u64)
+fn on(rt: &HostRuntime, out: &mut Page, at: usize, channel: AdvertisingChannel) -> usize {
+    labelled(rt, out, at, Word::On, channel.channel() as u64)
 }
 
-fn at_instant(out: &mut Page, at: usize, instant: Instant) -> usize {
-    labelled(out, at, Word::At, instant.raw_micros() as u64)
+fn at_instant(rt: &HostRuntime, out: &mut Page, at: usize, instant: Instant) -> usize {
+    labelled(rt, out, at, Word::At, instant.raw_micros() as u64)
 }
 
 // What is read
@@ -209,59 +209,67 @@ fn header_in(s: &[u8], at: usize) -> Header {
 
 // Records
 
-fn area(out: &mut Page, at: usize, s: &[u8]) -> usize {
+fn area(rt: &HostRuntime, out: &mut Page, at: usize, s: &[u8]) -> usize {
     match read_area(s) {
-        Area::Accepted(count) => number(out, at, count as u64),
-        Area::Refused(e) => refused(out, at, e),
+        Area::Accepted(count) => number(rt, out, at, count as u64),
+        Area::Refused(e) => refused(rt, out, at, e),
     }
 }
 
 // How many records, and how many octets they took.
-fn counts(out: &mut Page, at: usize, count: usize, taken: usize) -> usize {
-    let next = labelled(out, at, Word::Records, count as u64);
-    labelled(out, next, Word::Taken, taken as u64)
+fn counts(rt: &HostRuntime, out: &mut Page, at: usize, count: usize, taken: usize) -> usize {
+    let next = labelled(rt, out, at, Word::Records, count as u64);
+    labelled(rt, out, next, Word::Taken, taken as u64)
 }
 
 // The same of an area read as the hub does, and what rewriting those octets answers.
-fn padded(out: &mut Page, at: usize, s: &[u8], lent: &mut [u8]) -> usize {
+fn padded(rt: &HostRuntime, out: &mut Page, at: usize, s: &[u8], lent: &mut [u8]) -> usize {
     match read_padded_area(s) {
         PaddedArea::Accepted(count, taken) => {
-            let next = counts(out, at, count, taken);
-            written(out, next, rewrite_area(start(s, taken), lent))
+            let next = counts(rt, out, at, count, taken);
+            written(rt, out, next, rewrite_area(start(s, taken), lent))
         }
-        PaddedArea::Refused(e) => refused(out, at, e),
+        PaddedArea::Refused(e) => refused(rt, out, at, e),
     }
 }
 
 // From where to where a name goes in its area, and its octets.
-fn lies(out: &mut Page, at: usize, start: usize, len: usize, name: &[u8]) -> usize {
-    let mut next = labelled(out, at, Word::At, start as u64);
+fn lies(
+    rt: &HostRuntime,
+    out: &mut Page,
+    at: usize,
+    start: usize,
+    len: usize,
+    name: &[u8],
+) -> usize {
+    let mut next = labelled(rt, out, at, Word::At, start as u64);
     next = labelled(
+        rt,
         out,
         next,
         Word::To,
         wrapping_add_u64(start as u64, len as u64),
     );
-    octets(out, next, name)
+    octets(rt, out, next, name)
 }
 
 // The octets by `name`, so that it runs too.
 fn named<'a>(out: &mut Page, at: usize, advertisement: &'a [u8], reply: &'a [u8]) -> usize {
     match find_name(advertisement, reply) {
         NamePlace::InReply { start, len } => {
-            let next = text(out, at, b" reply");
-            lies(out, next, start, len, name(advertisement, reply))
+            let next = text(rt, out, at, b" reply");
+            lies(rt, out, next, start, len, name(advertisement, reply))
         }
         NamePlace::InAdvertisement { start, len } => {
-            let next = text(out, at, b" advertisement");
-            lies(out, next, start, len, name(advertisement, reply))
+            let next = text(rt, out, at, b" advertisement");
+            lies(rt, out, next, start, len, name(advertisement, reply))
         }
-        NamePlace::Refused(e) => refused(out, at, e),
+        NamePlace::Refused(e) => refused(rt, out, at, e),
     }
 }
 
 // An advertisement of so many octets, and the reply after it.
-fn two_areas(out: &mut Page, at: usize, size: usize, areas: &[u8]) -> usize {
+fn two_areas(rt: &HostRuntime, out: &mut Page, at: usize, size: usize, areas: &[u8]) -> usize {
     named(out, at, start(areas, size), rest(areas, size))
 }
 
@@ -276,85 +284,85 @@ fn write(s: &[u8], lent: &mut [u8]) -> Written {
 
 // PDUs
 
-fn timing(out: &mut Page, at: usize, d: ConnectRequestData) -> usize {
-    let mut next = number(out, at, d.win_size() as u64);
-    next = number(out, next, d.win_offset() as u64);
-    next = number(out, next, d.interval() as u64);
-    next = number(out, next, d.slave_latency() as u64);
-    number(out, next, d.supervision_timeout() as u64)
+fn timing(rt: &HostRuntime, out: &mut Page, at: usize, d: ConnectRequestData) -> usize {
+    let mut next = number(rt, out, at, d.win_size() as u64);
+    next = number(rt, out, next, d.win_offset() as u64);
+    next = number(rt, out, next, d.interval() as u64);
+    next = number(rt, out, next, d.slave_latency() as u64);
+    number(rt, out, next, d.supervision_timeout() as u64)
 }
 
-fn hops(out: &mut Page, at: usize, d: ConnectRequestData) -> usize {
+fn hops(rt: &HostRuntime, out: &mut Page, at: usize, d: ConnectRequestData) -> usize {
     let map = d.channel_map();
     let raw = map.to_raw();
-    let next = octets(out, at, &raw);
-    number(out, next, d.hop() as u64)
+    let next = octets(rt, out, at, &raw);
+    number(rt, out, next, d.hop() as u64)
 }
 
-fn request(out: &mut Page, at: usize, d: ConnectRequestData) -> usize {
-    let mut next = hex(out, at, d.access_address() as u64, 8);
-    next = hex(out, next, d.crc_init() as u64, 6);
-    next = timing(out, next, d);
-    hops(out, next, d)
+fn request(rt: &HostRuntime, out: &mut Page, at: usize, d: ConnectRequestData) -> usize {
+    let mut next = hex(rt, out, at, d.access_address() as u64, 8);
+    next = hex(rt, out, next, d.crc_init() as u64, 6);
+    next = timing(rt, out, next, d);
+    hops(rt, out, next, d)
 }
 
 // The counts of settings, in the order of a request's fields.
-fn counted(out: &mut Page, at: usize, s: ConnectionSettings) -> usize {
-    let mut next = number(out, at, s.win_size() as u64);
-    next = number(out, next, s.win_offset() as u64);
-    next = number(out, next, s.interval() as u64);
-    next = number(out, next, s.slave_latency() as u64);
-    next = number(out, next, s.supervision_timeout() as u64);
+fn counted(rt: &HostRuntime, out: &mut Page, at: usize, s: ConnectionSettings) -> usize {
+    let mut next = number(rt, out, at, s.win_size() as u64);
+    next = number(rt, out, next, s.win_offset() as u64);
+    next = number(rt, out, next, s.interval() as u64);
+    next = number(rt, out, next, s.slave_latency() as u64);
+    next = number(rt, out, next, s.supervision_timeout() as u64);
     let map = s.channel_map();
     let raw = map.to_raw();
-    next = octets(out, next, &raw);
-    number(out, next, s.hop() as u64)
+    next = octets(rt, out, next, &raw);
+    number(rt, out, next, s.hop() as u64)
 }
 
-fn settings(out: &mut Page, at: usize, t: Taken) -> usize {
+fn settings(rt: &HostRuntime, out: &mut Page, at: usize, t: Taken) -> usize {
     let outcome = t.outcome;
     match outcome {
-        Outcome::Accepted => counted(out, at, t.settings),
-        Outcome::Refused(e) => refused(out, at, e),
+        Outcome::Accepted => counted(rt, out, at, t.settings),
+        Outcome::Refused(e) => refused(rt, out, at, e),
     }
 }
 
 // After the sender: a receiver, and a connect request's fields; or records.
-fn behind_sender(out: &mut Page, at: usize, p: Pdu) -> usize {
+fn behind_sender(rt: &HostRuntime, out: &mut Page, at: usize, p: Pdu) -> usize {
     let place = p.adv_data;
     if p.has_receiver() {
-        let next = say(out, at, Word::To);
-        return address(out, next, p.receiver());
+        let next = say(rt, out, at, Word::To);
+        return address(rt, out, next, p.receiver());
     }
-    labelled(out, at, Word::Records, place.count as u64)
+    labelled(rt, out, at, Word::Records, place.count as u64)
 }
 
-fn pdu(out: &mut Page, at: usize, p: Pdu) -> usize {
+fn pdu(rt: &HostRuntime, out: &mut Page, at: usize, p: Pdu) -> usize {
     let ty = p.ty();
-    let mut next = labelled(out, at, Word::Type, ty.to_u8() as u64);
-    next = address(out, next, p.sender());
-    next = behind_sender(out, next, p);
+    let mut next = labelled(rt, out, at, Word::Type, ty.to_u8() as u64);
+    next = address(rt, out, next, p.sender());
+    next = behind_sender(rt, out, next, p);
     let lldata = p.lldata;
     match ty {
-        PduType::ConnectReq => request(out, next, lldata),
+        PduType::ConnectReq => request(rt, out, next, lldata),
         _ => next,
     }
 }
 
-fn payload(out: &mut Page, at: usize, header: Header, s: &[u8]) -> usize {
+fn payload(rt: &HostRuntime, out: &mut Page, at: usize, header: Header, s: &[u8]) -> usize {
     let decoded = Pdu::from_header_and_payload(header, s);
     let found = decoded.outcome;
     let p = decoded.pdu;
     match found {
-        Outcome::Accepted => pdu(out, at, p),
-        Outcome::Refused(e) => refused(out, at, e),
+        Outcome::Accepted => pdu(rt, out, at, p),
+        Outcome::Refused(e) => refused(rt, out, at, e),
     }
 }
 
-fn decode(out: &mut Page, at: usize, s: &[u8]) -> usize {
+fn decode(rt: &HostRuntime, out: &mut Page, at: usize, s: &[u8]) -> usize {
     match Header::parse(s) {
-        HeaderMade::Header(header) => payload(out, at, header, rest(s, 2)),
-        HeaderMade::Refused(e) => refused(out, at, e),
+        HeaderMade::Header(header) => payload(rt, out, at, header, rest(s, 2)),
+        HeaderMade::Refused(e) => refused(rt, out, at, e),
     }
 }
 
@@ -369,109 +377,115 @@ fn built(ty: u8, a: DeviceAddress, records: &[u8]) -> Built {
 }
 
 // The header of a PDU and its payload.
-fn sent(out: &mut Page, at: usize, p: PduBuf) -> usize {
+fn sent(rt: &HostRuntime, out: &mut Page, at: usize, p: PduBuf) -> usize {
     let mut payload = [0u8; 37];
     p.write_payload(&mut payload);
-    let next = hex(out, at, p.header().to_u16() as u64, 4);
-    octets(out, next, &payload)
+    let next = hex(rt, out, at, p.header().to_u16() as u64, 4);
+    octets(rt, out, next, &payload)
 }
 
-fn build(out: &mut Page, at: usize, s: &[u8]) -> usize {
+fn build(rt: &HostRuntime, out: &mut Page, at: usize, s: &[u8]) -> usize {
     let b = built(octet(s, 0), address_in(rest(s, 1)), rest(s, 8));
     let found = b.outcome;
     let p = b.pdu;
-    let next = outcome(out, at, found);
-    sent(out, next, p)
+    let next = outcome(rt, out, at, found);
+    sent(rt, out, next, p)
 }
 
-fn set_header(out: &mut Page, at: usize, s: &[u8]) -> usize {
+fn set_header(rt: &HostRuntime, out: &mut Page, at: usize, s: &[u8]) -> usize {
     let header = header_in(s, 3)
         .set_tx_add(octet(s, 0) == 1)
         .set_rx_add(octet(s, 1) == 1);
     match header.set_payload_length(octet(s, 2)) {
-        HeaderMade::Header(h) => hex(out, at, h.to_u16() as u64, 4),
-        HeaderMade::Refused(e) => refused(out, at, e),
+        HeaderMade::Header(h) => hex(rt, out, at, h.to_u16() as u64, 4),
+        HeaderMade::Refused(e) => refused(rt, out, at, e),
     }
 }
 
 // Channels
 
-fn channel(out: &mut Page, at: usize, c: DataChannel) -> usize {
-    let mut next = number(out, at, c.index() as u64);
-    next = number(out, next, c.rf_channel() as u64);
-    next = number(out, next, c.freq() as u64);
-    number(out, next, c.whitening_iv() as u64)
+fn channel(rt: &HostRuntime, out: &mut Page, at: usize, c: DataChannel) -> usize {
+    let mut next = number(rt, out, at, c.index() as u64);
+    next = number(rt, out, next, c.rf_channel() as u64);
+    next = number(rt, out, next, c.freq() as u64);
+    number(rt, out, next, c.whitening_iv() as u64)
 }
 
-fn data_channel(out: &mut Page, at: usize, s: &[u8]) -> usize {
+fn data_channel(rt: &HostRuntime, out: &mut Page, at: usize, s: &[u8]) -> usize {
     match DataChannel::new(octet(s, 0)) {
-        Found::Channel(c) => channel(out, at, c),
-        Found::Refused(e) => refused(out, at, e),
+        Found::Channel(c) => channel(rt, out, at, c),
+        Found::Refused(e) => refused(rt, out, at, e),
     }
 }
 
-fn map(out: &mut Page, at: usize, s: &[u8]) -> usize {
+fn map(rt: &HostRuntime, out: &mut Page, at: usize, s: &[u8]) -> usize {
     let m = map_in(s);
     let raw = m.to_raw();
-    let next = number(out, at, m.num_used_channels() as u64);
-    octets(out, next, &raw)
+    let next = number(rt, out, at, m.num_used_channels() as u64);
+    octets(rt, out, next, &raw)
 }
 
-fn hopped(out: &mut Page, at: usize, unmapped: u8, c: DataChannel) -> usize {
-    let next = number(out, at, unmapped as u64);
-    number(out, next, c.index() as u64)
+fn hopped(rt: &HostRuntime, out: &mut Page, at: usize, unmapped: u8, c: DataChannel) -> usize {
+    let next = number(rt, out, at, unmapped as u64);
+    number(rt, out, next, c.index() as u64)
 }
 
-fn hop(out: &mut Page, at: usize, s: &[u8]) -> usize {
+fn hop(rt: &HostRuntime, out: &mut Page, at: usize, s: &[u8]) -> usize {
     match hop_channel(map_in(s), octet(s, 5), octet(s, 6)) {
-        Hop::To { unmapped, channel } => hopped(out, at, unmapped, channel),
-        Hop::Refused(e) => refused(out, at, e),
+        Hop::To { unmapped, channel } => hopped(rt, out, at, unmapped, channel),
+        Hop::Refused(e) => refused(rt, out, at, e),
     }
 }
 
 // Beacon and scanner
 
-fn transmit(out: &mut Page, at: usize, header: Header, all: AllChannels) -> usize {
+fn transmit(
+    rt: &HostRuntime,
+    out: &mut Page,
+    at: usize,
+    header: Header,
+    all: AllChannels,
+) -> usize {
     let first = all.first;
     let second = all.second;
     let third = all.third;
-    let mut next = header_of(out, at, header);
-    next = on(out, next, first);
-    next = on(out, next, second);
-    on(out, next, third)
+    let mut next = header_of(rt, out, at, header);
+    next = on(rt, out, next, first);
+    next = on(rt, out, next, second);
+    on(rt, out, next, third)
 }
 
-fn broadcast(out: &mut Page, at: usize, b: Broadcast) -> usize {
+fn broadcast(rt: &HostRuntime, out: &mut Page, at: usize, b: Broadcast) -> usize {
     match b {
-        Broadcast::Transmit(header, all) => transmit(out, at, header, all),
-        Broadcast::Refused(e) => refused(out, at, e),
+        Broadcast::Transmit(header, all) => transmit(rt, out, at, header, all),
+        Broadcast::Refused(e) => refused(rt, out, at, e),
     }
 }
 
-fn beacon(out: &mut Page, at: usize, s: &[u8], lent: &mut [u8]) -> usize {
+fn beacon(rt: &HostRuntime, out: &mut Page, at: usize, s: &[u8], lent: &mut [u8]) -> usize {
     let made = Beacon::new(address_in(s), rest(s, 8));
     let found = made.outcome;
     let b = made.beacon;
-    let next = outcome(out, at, found);
-    broadcast(out, next, b.broadcast(lent))
+    let next = outcome(rt, out, at, found);
+    broadcast(rt, out, next, b.broadcast(lent))
 }
 
-fn report(out: &mut Page, at: usize, scanned: Scanned, s: &[u8]) -> usize {
+fn report(rt: &HostRuntime, out: &mut Page, at: usize, scanned: Scanned, s: &[u8]) -> usize {
     let found = scanned.report;
     let sender = scanned.sender;
     let place = scanned.adv_data;
     match found {
         Report::Beacon => {
-            let mut next = address(out, at, sender);
-            next = counts(out, next, place.count, scanned.taken);
-            octets(out, next, scanned.advertising_data(s))
+            let mut next = address(rt, out, at, sender);
+            next = counts(rt, out, next, place.count, scanned.taken);
+            octets(rt, out, next, scanned.advertising_data(s))
         }
-        Report::Nothing => say(out, at, Word::Nothing),
-        Report::Refused(e) => refused(out, at, e),
+        Report::Nothing => say(rt, out, at, Word::Nothing),
+        Report::Refused(e) => refused(rt, out, at, e),
     }
 }
 
-fn scan(out: &mut Page, at: usize, s: &[u8]) -> usize {
+fn scan(rt: &HostRuntime, out: &mut Page, at: usize, s: &[u8]) -> usize {
     let scanner = BeaconScanner::new();
     let payload = rest(s, 3);
     let scanned = scanner.process_adv_packet(
@@ -480,12 +494,13 @@ fn scan(out: &mut Page, at: usize, s: &[u8]) -> usize {
         octet(s, 0) == 1,
         &payload[..0],
     );
-    report(out, at, scanned, payload)
+    report(rt, out, at, scanned, payload)
 }
 
 // Calls on a device
 
 fn first_event(
+    rt: &HostRuntime,
     out: &mut Page,
     at: usize,
     channel: DataChannel,
@@ -493,52 +508,59 @@ fn first_event(
     access_address: u32,
     crc_init: u32,
 ) -> usize {
-    let mut next = number(out, at, channel.index() as u64);
-    next = at_instant(out, next, instant);
-    next = hex(out, next, access_address as u64, 8);
-    hex(out, next, crc_init as u64, 6)
+    let mut next = number(rt, out, at, channel.index() as u64);
+    next = at_instant(rt, out, next, instant);
+    next = hex(rt, out, next, access_address as u64, 8);
+    hex(rt, out, next, crc_init as u64, 6)
 }
 
-fn response(out: &mut Page, at: usize, header: Header, channel: AdvertisingChannel) -> usize {
-    let next = header_of(out, at, header);
-    on(out, next, channel)
+fn response(
+    rt: &HostRuntime,
+    out: &mut Page,
+    at: usize,
+    header: Header,
+    channel: AdvertisingChannel,
+) -> usize {
+    let next = header_of(rt, out, at, header);
+    on(rt, out, next, channel)
 }
 
 fn advertisement(
+    rt: &HostRuntime,
     out: &mut Page,
     at: usize,
     header: Header,
     channel: AdvertisingChannel,
     next_adv: Instant,
 ) -> usize {
-    let next = response(out, at, header, channel);
-    at_instant(out, next, next_adv)
+    let next = response(rt, out, at, header, channel);
+    at_instant(rt, out, next, next_adv)
 }
 
-fn listening(out: &mut Page, at: usize, channel: AdvertisingChannel) -> usize {
-    let next = say(out, at, Word::Listens);
-    on(out, next, channel)
+fn listening(rt: &HostRuntime, out: &mut Page, at: usize, channel: AdvertisingChannel) -> usize {
+    let next = say(rt, out, at, Word::Listens);
+    on(rt, out, next, channel)
 }
 
-fn answer(out: &mut Page, at: usize, a: Answer) -> usize {
+fn answer(rt: &HostRuntime, out: &mut Page, at: usize, a: Answer) -> usize {
     match a {
-        Answer::Refused(e) => refused(out, at, e),
+        Answer::Refused(e) => refused(rt, out, at, e),
         Answer::Sent {
             header,
             channel,
             next_adv,
-        } => advertisement(out, at, header, channel, next_adv),
-        Answer::Listen(channel) => listening(out, at, channel),
-        Answer::Respond { header, channel } => response(out, at, header, channel),
+        } => advertisement(rt, out, at, header, channel, next_adv),
+        Answer::Listen(channel) => listening(rt, out, at, channel),
+        Answer::Respond { header, channel } => response(rt, out, at, header, channel),
         Answer::FirstEvent {
             channel,
             at: instant,
             access_address,
             crc_init,
-        } => first_event(out, at, channel, instant, access_address, crc_init),
-        Answer::NextEvent(channel) => number(out, at, channel.index() as u64),
-        Answer::Stopped => say(out, at, Word::Stopped),
-        Answer::ScanDataSet => say(out, at, Word::Set),
+        } => first_event(rt, out, at, channel, instant, access_address, crc_init),
+        Answer::NextEvent(channel) => number(rt, out, at, channel.index() as u64),
+        Answer::Stopped => say(rt, out, at, Word::Stopped),
+        Answer::ScanDataSet => say(rt, out, at, Word::Set),
     }
 }
 
@@ -584,36 +606,43 @@ struct Step {
 }
 
 // Those that need no device and are lent nothing.
-fn look(out: &mut Page, at: usize, letter: u8, s: &[u8]) -> usize {
+fn look(rt: &HostRuntime, out: &mut Page, at: usize, letter: u8, s: &[u8]) -> usize {
     match letter {
-        b'a' => area(out, at, s),
-        b'b' => build(out, at, s),
-        b'c' => scan(out, at, s),
-        b'd' => decode(out, at, s),
-        _ => work_out(out, at, letter, s),
+        b'a' => area(rt, out, at, s),
+        b'b' => build(rt, out, at, s),
+        b'c' => scan(rt, out, at, s),
+        b'd' => decode(rt, out, at, s),
+        _ => work_out(rt, out, at, letter, s),
     }
 }
 
-fn work_out(out: &mut Page, at: usize, letter: u8, s: &[u8]) -> usize {
+fn work_out(rt: &HostRuntime, out: &mut Page, at: usize, letter: u8, s: &[u8]) -> usize {
     match letter {
-        b'g' => set_header(out, at, s),
-        b'h' => hop(out, at, s),
-        b'i' => data_channel(out, at, s),
-        b'l' => two_areas(out, at, octet(s, 0) as usize, rest(s, 1)),
-        b'm' => map(out, at, s),
-        b'q' => settings(out, at, ConnectionSettings::from_octets(lldata_in(s))),
+        b'g' => set_header(rt, out, at, s),
+        b'h' => hop(rt, out, at, s),
+        b'i' => data_channel(rt, out, at, s),
+        b'l' => two_areas(rt, out, at, octet(s, 0) as usize, rest(s, 1)),
+        b'm' => map(rt, out, at, s),
+        b'q' => settings(rt, out, at, ConnectionSettings::from_octets(lldata_in(s))),
         _ => at,
     }
 }
 
 // Those that need no device.
-fn ask(out: &mut Page, at: usize, letter: u8, s: &[u8], lent: &mut [u8]) -> usize {
+fn ask(
+    rt: &HostRuntime,
+    out: &mut Page,
+    at: usize,
+    letter: u8,
+    s: &[u8],
+    lent: &mut [u8],
+) -> usize {
     match letter {
-        b'k' => beacon(out, at, s, lent),
-        b'r' => written(out, at, rewrite_area(rest(s, 1), lent)),
-        b'w' => written(out, at, write(s, lent)),
-        b'z' => padded(out, at, rest(s, 1), lent),
-        _ => look(out, at, letter, s),
+        b'k' => beacon(rt, out, at, s, lent),
+        b'r' => written(rt, out, at, rewrite_area(rest(s, 1), lent)),
+        b'w' => written(rt, out, at, write(s, lent)),
+        b'z' => padded(rt, out, at, rest(s, 1), lent),
+        _ => look(rt, out, at, letter, s),
     }
 }
 
@@ -643,46 +672,54 @@ fn room_at(letter: u8) -> usize {
 }
 
 // A call on the device, which hands on another one.
-fn take_call(out: &mut Page, at: usize, h: Held, letter: u8, s: &[u8], lent: &mut [u8]) -> Step {
+fn take_call(
+    rt: &HostRuntime,
+    out: &mut Page,
+    at: usize,
+    h: Held,
+    letter: u8,
+    s: &[u8],
+    lent: &mut [u8],
+) -> Step {
     let called = call(h.device, letter, s, lent);
     let a = called.answer;
     let device = called.device;
     let book = h.book;
     Step {
         held: Held { device, book },
-        at: answer(out, at, a),
+        at: answer(rt, out, at, a),
     }
 }
 
 // Calls on the book
 
-fn seating(out: &mut Page, at: usize, o: Outcome, seat: usize) -> usize {
+fn seating(rt: &HostRuntime, out: &mut Page, at: usize, o: Outcome, seat: usize) -> usize {
     match o {
-        Outcome::Accepted => labelled(out, at, Word::Seat, seat as u64),
-        Outcome::Refused(e) => refused(out, at, e),
+        Outcome::Accepted => labelled(rt, out, at, Word::Seat, seat as u64),
+        Outcome::Refused(e) => refused(rt, out, at, e),
     }
 }
 
-fn played(out: &mut Page, at: usize, word: Word, m: Move) -> usize {
+fn played(rt: &HostRuntime, out: &mut Page, at: usize, word: Word, m: Move) -> usize {
     let all = m.octets;
-    let next = say(out, at, word);
-    octets(out, next, start(&all, m.len))
+    let next = say(rt, out, at, word);
+    octets(rt, out, next, start(&all, m.len))
 }
 
-fn seated(out: &mut Page, at: usize, b: Book, n: usize) -> usize {
+fn seated(rt: &HostRuntime, out: &mut Page, at: usize, b: Book, n: usize) -> usize {
     let seat = b.read_seat(n);
     if seat.is_filled {
-        return address(out, at, seat.address);
+        return address(rt, out, at, seat.address);
     }
-    say(out, at, Word::Nothing)
+    say(rt, out, at, Word::Nothing)
 }
 
-fn seat_read(out: &mut Page, at: usize, b: Book, n: usize) -> usize {
-    let mut next = seated(out, at, b, n);
-    next = played(out, next, Word::Open, b.open_move(n));
-    next = played(out, next, Word::Closed, b.closed_move(n));
-    next = labelled(out, next, Word::Turn, b.open_turn() as u64);
-    labelled(out, next, Word::Company, b.company() as u64)
+fn seat_read(rt: &HostRuntime, out: &mut Page, at: usize, b: Book, n: usize) -> usize {
+    let mut next = seated(rt, out, at, b, n);
+    next = played(rt, out, next, Word::Open, b.open_move(n));
+    next = played(rt, out, next, Word::Closed, b.closed_move(n));
+    next = labelled(rt, out, next, Word::Turn, b.open_turn() as u64);
+    labelled(rt, out, next, Word::Company, b.company() as u64)
 }
 
 // A book after a call, and the place after the answer.
@@ -692,21 +729,21 @@ struct Booked {
     at: usize,
 }
 
-fn take_seat(out: &mut Page, at: usize, called: SeatCalled) -> Booked {
+fn take_seat(rt: &HostRuntime, out: &mut Page, at: usize, called: SeatCalled) -> Booked {
     let o = called.outcome;
     let book = called.book;
     Booked {
         book,
-        at: seating(out, at, o, called.seat),
+        at: seating(rt, out, at, o, called.seat),
     }
 }
 
-fn take_called(out: &mut Page, at: usize, called: BookCalled) -> Booked {
+fn take_called(rt: &HostRuntime, out: &mut Page, at: usize, called: BookCalled) -> Booked {
     let o = called.outcome;
     let book = called.book;
     Booked {
         book,
-        at: outcome(out, at, o),
+        at: outcome(rt, out, at, o),
     }
 }
 
@@ -722,26 +759,26 @@ fn close_turns(b: Book, times: u16) -> BookCalled {
     called
 }
 
-fn take_book(out: &mut Page, at: usize, b: Book, s: &[u8]) -> Booked {
+fn take_book(rt: &HostRuntime, out: &mut Page, at: usize, b: Book, s: &[u8]) -> Booked {
     let n = u16_from_le_bytes(octet(s, 1), octet(s, 2));
     match octet(s, 0) {
         0 => Booked {
             book: Book::new(n),
             at,
         },
-        1 => take_seat(out, at, b.seat(address_in(rest(s, 1)))),
-        2 => take_called(out, at, b.report(address_in(rest(s, 1)), rest(s, 8))),
-        3 => take_called(out, at, close_turns(b, n)),
+        1 => take_seat(rt, out, at, b.seat(address_in(rest(s, 1)))),
+        2 => take_called(rt, out, at, b.report(address_in(rest(s, 1)), rest(s, 8))),
+        3 => take_called(rt, out, at, close_turns(b, n)),
         _ => Booked {
             book: b,
-            at: seat_read(out, at, b, n as usize),
+            at: seat_read(rt, out, at, b, n as usize),
         },
     }
 }
 
-fn take_on_book(out: &mut Page, at: usize, h: Held, s: &[u8]) -> Step {
+fn take_on_book(rt: &HostRuntime, out: &mut Page, at: usize, h: Held, s: &[u8]) -> Step {
     let device = h.device;
-    let booked = take_book(out, at, h.book, s);
+    let booked = take_book(rt, out, at, h.book, s);
     let book = booked.book;
     Step {
         held: Held { device, book },
@@ -749,12 +786,20 @@ fn take_on_book(out: &mut Page, at: usize, h: Held, s: &[u8]) -> Step {
     }
 }
 
-fn take(out: &mut Page, at: usize, h: Held, letter: u8, s: &[u8], lent: &mut [u8]) -> Step {
+fn take(
+    rt: &HostRuntime,
+    out: &mut Page,
+    at: usize,
+    h: Held,
+    letter: u8,
+    s: &[u8],
+    lent: &mut [u8],
+) -> Step {
     if is_call(letter) {
-        return take_call(out, at, h, letter, s, lent);
+        return take_call(rt, out, at, h, letter, s, lent);
     }
     if letter == b'o' {
-        return take_on_book(out, at, h, s);
+        return take_on_book(rt, out, at, h, s);
     }
     if letter == b'n' {
         let book = h.book;
@@ -768,7 +813,7 @@ fn take(out: &mut Page, at: usize, h: Held, letter: u8, s: &[u8], lent: &mut [u8
     }
     Step {
         held: h,
-        at: ask(out, at, letter, s, lent),
+        at: ask(rt, out, at, letter, s, lent),
     }
 }
 
@@ -783,14 +828,15 @@ fn room_of(said: u8) -> usize
 }
 
 // The octets that were lent, where some were.
-fn show_lent(out: &mut Page, at: usize, letter: u8, lent: &[u8]) -> usize {
+fn show_lent(rt: &HostRuntime, out: &mut Page, at: usize, letter: u8, lent: &[u8]) -> usize {
     if is_lent(letter) {
-        return octets(out, at, lent);
+        return octets(rt, out, at, lent);
     }
     at
 }
 
 fn take_and_show(
+    rt: &HostRuntime,
     out: &mut Page,
     at: usize,
     h: Held,
@@ -798,19 +844,19 @@ fn take_and_show(
     s: &[u8],
     lent: &mut [u8],
 ) -> Step {
-    let step = take(out, at, h, letter, s, lent);
+    let step = take(rt, out, at, h, letter, s, lent);
     let held = step.held;
     Step {
         held,
-        at: show_lent(out, step.at, letter, lent),
+        at: show_lent(rt, out, step.at, letter, lent),
     }
 }
 
-fn serve(out: &mut Page, at: usize, h: Held, letter: u8, s: &[u8]) -> Step {
+fn serve(rt: &HostRuntime, out: &mut Page, at: usize, h: Held, letter: u8, s: &[u8]) -> Step {
     let mut lent = [0xFFu8; 320];
     let room = room_of(octet(s, room_at(letter)));
-    let next = put(out, at, letter);
-    take_and_show(out, next, h, letter, s, &mut lent[..room])
+    let next = put(rt, out, at, letter);
+    take_and_show(rt, out, next, h, letter, s, &mut lent[..room])
 }
 
 // Lines
@@ -827,12 +873,12 @@ fn why(fault: Fault) -> [u8; 26] {
     }
 }
 
-fn wrong(out: &mut Page, at: usize, n: u64, fault: Fault) -> usize {
+fn wrong(rt: &HostRuntime, out: &mut Page, at: usize, n: u64, fault: Fault) -> usize {
     let words = why(fault);
-    let mut next = labelled(out, at, Word::Request, n);
-    next = put(out, next, b':');
-    next = put(out, next, b' ');
-    text(out, next, &words)
+    let mut next = labelled(rt, out, at, Word::Request, n);
+    next = put(rt, out, next, b':');
+    next = put(rt, out, next, b' ');
+    text(rt, out, next, &words)
 }
 
 // Where a run stands: what is held, the line that is read, how many lines are answered, and the place in the output.
@@ -845,34 +891,49 @@ struct Run {
 }
 
 // What line n asks.
-fn answer_line(out: &mut Page, at: usize, h: Held, line: Asked, n: u64, args: &[u8; 320]) -> Step {
+fn answer_line(
+    rt: &HostRuntime,
+    out: &mut Page,
+    at: usize,
+    h: Held,
+    line: Asked,
+    n: u64,
+    args: &[u8; 320],
+) -> Step {
     match line {
         Asked::Nothing => Step { held: h, at },
-        Asked::Request(letter, count) => serve(out, at, h, letter, start(args, count)),
+        Asked::Request(letter, count) => serve(rt, out, at, h, letter, start(args, count)),
         Asked::Wrong(fault) => Step {
             held: h,
-            at: wrong(out, at, n, fault),
+            at: wrong(rt, out, at, n, fault),
         },
     }
 }
 
 // The line ends.
-fn end_line(run: Run, args: &[u8; 320], out: &mut Page) -> Run {
+fn end_line(rt: &HostRuntime, run: Run, args: &[u8; 320], out: &mut Page) -> Run {
     let n = wrapping_add_u64(run.lines, 1);
     let before = run.held;
     let line = run.line;
-    let step = answer_line(out, run.at, before, ended(line), n, args);
+    let step = answer_line(rt, out, run.at, before, ended(line), n, args);
     let held = step.held;
     Run {
         held,
         line: Line::Start,
         lines: n,
-        at: put(out, step.at, b'\n'),
+        at: put(rt, out, step.at, b'\n'),
     }
 }
 
 // Takes in some of a line, or the last of it.
-fn go_on(run: Run, s: &[u8], is_last: bool, args: &mut [u8; 320], out: &mut Page) -> Run {
+fn go_on(
+    rt: &HostRuntime,
+    run: Run,
+    s: &[u8],
+    is_last: bool,
+    args: &mut [u8; 320],
+    out: &mut Page,
+) -> Run {
     let held = run.held;
     let before = run.line;
     let line = read_on(before, s, args);
@@ -883,18 +944,31 @@ fn go_on(run: Run, s: &[u8], is_last: bool, args: &mut [u8; 320], out: &mut Page
         at: run.at,
     };
     if is_last {
-        return end_line(read, args, out);
+        return end_line(rt, read, args, out);
     }
     read
 }
 
+// Where the line ends that begins at `from`: at the first line end from there on, or else at the end of s.
+fn line_end(s: &[u8], from: usize) -> usize
+    requires { from ≤ length s.now }
+    ensures { (from ≤ result) × (result ≤ length s.now) }
+{
+    for i in from..s.len() {
+        if s[i] == b'\n' {
+            return i;
+        }
+    }
+    s.len()
+}
+
 // Takes in some of the input, line by line.
-fn take_in(run: Run, s: &[u8], args: &mut [u8; 320], out: &mut Page) -> Run {
+fn take_in(rt: &HostRuntime, run: Run, s: &[u8], args: &mut [u8; 320], out: &mut Page) -> Run {
     let mut after = run;
     let mut from = 0;
     while from < s.len() {
-        let end = find(s, from, s.len(), b'\n');
-        after = go_on(after, &s[from..end], end < s.len(), args, out);
+        let end = line_end(s, from);
+        after = go_on(rt, after, &s[from..end], end < s.len(), args, out);
         if s.len() <= end {
             return after;
         }
@@ -916,35 +990,41 @@ fn placed(run: Run, at: usize) -> Run {
 }
 
 // At the end of the input a line that has begun ends too.
-fn end_input(run: Run, args: &[u8; 320], out: &mut Page) -> Run {
+fn end_input(rt: &HostRuntime, run: Run, args: &[u8; 320], out: &mut Page) -> Run {
     let line = run.line;
     match line {
         Line::Start => placed(run, STOPPED),
         _ => {
-            let last = end_line(run, args, out);
-            flush(out, last.at);
+            let last = end_line(rt, run, args, out);
+            flush(rt, out, last.at);
             placed(last, STOPPED)
         }
     }
 }
 
 // Answers what was read: nothing is, at the end of the input.
-fn take_read(run: Run, s: &[u8], args: &mut [u8; 320], out: &mut Page) -> Run {
+fn take_read(rt: &HostRuntime, run: Run, s: &[u8], args: &mut [u8; 320], out: &mut Page) -> Run {
     if s.len() == 0 {
-        return end_input(run, args, out);
+        return end_input(rt, run, args, out);
     }
-    let after = take_in(run, s, args, out);
-    placed(after, flush(out, after.at))
+    let after = take_in(rt, run, s, args, out);
+    placed(after, flush(rt, out, after.at))
 }
 
-fn next_turn(run: Run, input: &mut [u8], args: &mut [u8; 320], out: &mut Page) -> Run {
-    let got = libc::read(STDIN_FILENO, input);
-    if got < 0 {
-        os::fail(b"replay: standard input");
-        return placed(run, STOPPED);
+fn next_turn(
+    rt: &HostRuntime,
+    run: Run,
+    input: &mut [u8],
+    args: &mut [u8; 320],
+    out: &mut Page,
+) -> Run {
+    match rt.stdin().read(input) {
+        Ok(n) => take_read(rt, run, &input[..n], args, out),
+        Err(e) => {
+            let _told = eprintln!(rt; "replay: standard input: {e}");
+            placed(run, STOPPED)
+        }
     }
-    let n = io::count(got, input);
-    take_read(run, &input[..n], args, out)
 }
 
 fn new_run() -> Run {
@@ -961,25 +1041,25 @@ fn new_run() -> Run {
 }
 
 // A proved loop has to end, and nothing says that the input does. So the loop counts its turns down, from a number that no run uses up.
-fn replay(input: &mut [u8], args: &mut [u8; 320], out: &mut Page) {
+fn replay(rt: &HostRuntime, input: &mut [u8], args: &mut [u8; 320], out: &mut Page) {
     let mut run = new_run();
     let mut turns = u64::MAX;
     while 0 < turns {
         turns -= 1;
-        run = next_turn(run, input, args, out);
+        run = next_turn(rt, run, input, args, out);
         if run.at == STOPPED {
             return;
         }
     }
 }
 
-fn main() {
-    if 1 < os::arg_count() {
-        io::write_all(STDERR_FILENO, b"usage: replay < requests\n");
-        return;
+fn main(rt: HostRuntime) -> std::io::Result<()> {
+    if 1 < env::args(&rt)?.count() {
+        return eprintln!(rt; "usage: replay < requests");
     }
     let mut input = io::large_buffer();
     let mut out = io::large_buffer();
     let mut args = [0u8; 320];
-    replay(&mut input, &mut args, &mut out);
+    replay(&rt, &mut input, &mut args, &mut out);
+    Ok(())
 }

@@ -2,8 +2,6 @@
 // written out on the way. Where that fails, standard error has a line that says so, and the place is `STOPPED` from there on: nothing more is printed.
 ghost use Rattle.std.specs.Prelude.{◌≡◌, ◌+◌, ◌<◌, if◌then◌else◌, nat_lt, slice_set};
 
-use libc::STDOUT_FILENO;
-
 // The buffer. All of it is lent from function to function.
 pub type Page = [u8; 65536];
 
@@ -62,19 +60,21 @@ fn spelled(word: Word) -> [u8; 9] {
 }
 
 // Writes out what stands before `at`, and answers where to go on.
-pub(crate) fn flush(out: &[u8], at: usize) -> usize {
+pub(crate) fn flush(rt: &HostRuntime, out: &[u8], at: usize) -> usize {
     if out.len() < at {
         return at;
     }
-    if io::write_all(STDOUT_FILENO, &out[..at]) {
-        return 0;
+    match rt.write_all(&out[..at]) {
+        Ok(()) => 0,
+        Err(e) => {
+            let _told = eprintln!(rt; "replay: standard output: {e}");
+            STOPPED
+        }
     }
-    os::fail(b"replay: standard output");
-    STOPPED
 }
 
 // An octet, where there is room for it.
-fn put_here(out: &mut Page, at: usize, b: u8) -> usize
+fn put_here(rt: &HostRuntime, out: &mut Page, at: usize, b: u8) -> usize
     ensures { (result ≡ (if nat_lt at 65536 then at + 1 else at)) × (out.new ≡ (if nat_lt at 65536 then slice_set out.old at b else out.old)) }
 {
     if at < 65536 {
@@ -85,47 +85,47 @@ fn put_here(out: &mut Page, at: usize, b: u8) -> usize
 }
 
 // An octet. Where there is room for it, nothing else of the buffer changes.
-pub(crate) fn put(out: &mut Page, at: usize, b: u8) -> usize
+pub(crate) fn put(rt: &HostRuntime, out: &mut Page, at: usize, b: u8) -> usize
     ensures { at < 65536 → (result ≡ at + 1) × (out.new ≡ slice_set out.old at b) }
 {
     if at < 65536 {
-        return put_here(out, at, b);
+        return put_here(rt, out, at, b);
     }
-    let next = flush(out, at);
-    put_here(out, next, b)
+    let next = flush(rt, out, at);
+    put_here(rt, out, next, b)
 }
 
 // A text, whose end may be filled up with 0.
-pub(crate) fn text(out: &mut Page, at: usize, s: &[u8]) -> usize {
-    each(out, at, s, Form::Letter)
+pub(crate) fn text(rt: &HostRuntime, out: &mut Page, at: usize, s: &[u8]) -> usize {
+    each(rt, out, at, s, Form::Letter)
 }
 
 // A word.
-pub(crate) fn say(out: &mut Page, at: usize, word: Word) -> usize {
+pub(crate) fn say(rt: &HostRuntime, out: &mut Page, at: usize, word: Word) -> usize {
     let letters = spelled(word);
-    text(out, at, &letters)
+    text(rt, out, at, &letters)
 }
 
 // A space and a number.
-pub(crate) fn number(out: &mut Page, at: usize, n: u64) -> usize {
+pub(crate) fn number(rt: &HostRuntime, out: &mut Page, at: usize, n: u64) -> usize {
     let mut digits = [0u8; 20];
     let k = io::decimal(n, &mut digits);
-    let next = put(out, at, b' ');
-    text(out, next, &digits[..k])
+    let next = put(rt, out, at, b' ');
+    text(rt, out, next, &digits[..k])
 }
 
 // A word and a number.
-pub(crate) fn labelled(out: &mut Page, at: usize, word: Word, n: u64) -> usize {
-    let next = say(out, at, word);
-    number(out, next, n)
+pub(crate) fn labelled(rt: &HostRuntime, out: &mut Page, at: usize, word: Word, n: u64) -> usize {
+    let next = say(rt, out, at, word);
+    number(rt, out, next, n)
 }
 
 // A space and a number of so many hexadecimal digits.
-pub(crate) fn hex(out: &mut Page, at: usize, n: u64, width: usize) -> usize {
+pub(crate) fn hex(rt: &HostRuntime, out: &mut Page, at: usize, n: u64, width: usize) -> usize {
     let mut digits = [0u8; 16];
     let k = io::hex(n, width, &mut digits);
-    let next = put(out, at, b' ');
-    text(out, next, &digits[..k])
+    let next = put(rt, out, at, b' ');
+    text(rt, out, next, &digits[..k])
 }
 
 // The digit of a number below 16.
@@ -137,14 +137,14 @@ fn digit(n: u8) -> u8 {
 }
 
 // A space and an octet.
-fn pair(out: &mut Page, at: usize, b: u8) -> usize {
-    let mut next = put(out, at, b' ');
-    next = put(out, next, digit(b / 16));
-    put(out, next, digit(b % 16))
+fn pair(rt: &HostRuntime, out: &mut Page, at: usize, b: u8) -> usize {
+    let mut next = put(rt, out, at, b' ');
+    next = put(rt, out, next, digit(b / 16));
+    put(rt, out, next, digit(b % 16))
 }
 
-pub(crate) fn octets(out: &mut Page, at: usize, s: &[u8]) -> usize {
-    each(out, at, s, Form::Digits)
+pub(crate) fn octets(rt: &HostRuntime, out: &mut Page, at: usize, s: &[u8]) -> usize {
+    each(rt, out, at, s, Form::Digits)
 }
 
 // How an octet is printed: as a letter, where it is one, or as a space and two digits.
@@ -154,24 +154,24 @@ enum Form {
     Digits,
 }
 
-fn letter(out: &mut Page, at: usize, b: u8) -> usize {
+fn letter(rt: &HostRuntime, out: &mut Page, at: usize, b: u8) -> usize {
     if b == 0 {
         return at;
     }
-    put(out, at, b)
+    put(rt, out, at, b)
 }
 
-fn one(out: &mut Page, at: usize, b: u8, form: Form) -> usize {
+fn one(rt: &HostRuntime, out: &mut Page, at: usize, b: u8, form: Form) -> usize {
     match form {
-        Form::Letter => letter(out, at, b),
-        Form::Digits => pair(out, at, b),
+        Form::Letter => letter(rt, out, at, b),
+        Form::Digits => pair(rt, out, at, b),
     }
 }
 
-fn each(out: &mut Page, at: usize, s: &[u8], form: Form) -> usize {
+fn each(rt: &HostRuntime, out: &mut Page, at: usize, s: &[u8], form: Form) -> usize {
     let mut next = at;
     for i in 0..s.len() {
-        next = one(out, next, s[i], form);
+        next = one(rt, out, next, s[i], form);
     }
     next
 }

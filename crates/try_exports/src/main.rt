@@ -45,298 +45,323 @@ use exports::packets::{
 use exports::scans::{Listened, board_scanner_call};
 use flags::Flags;
 use items::{CRC_BAD, CRC_GOOD, TICK};
-use libc::STDOUT_FILENO;
 use records::ad_structure::Type;
+use std::io;
 use whitening::crc::{CRC_POLY, CRC_PRESET};
 use whitening::packet::ACCESS_ADDRESS;
 
-fn text(s: &[u8]) {
-    io::write_all(STDOUT_FILENO, s);
+fn text(rt: &HostRuntime, s: &[u8]) -> io::Result<()> {
+    rt.write_all(s)
 }
 
-fn number(n: u64) {
-    text(b" ");
-    io::print_decimal(STDOUT_FILENO, n);
+fn number(rt: &HostRuntime, n: u64) -> io::Result<()> {
+    text(rt, b" ")?;
+    print!(rt; "{n}")
 }
 
-fn small(n: u8) {
-    number(n as u64);
+fn small(rt: &HostRuntime, n: u8) -> io::Result<()> {
+    number(rt, n as u64)
 }
 
-fn short(n: u16) {
-    number(n as u64);
+fn short(rt: &HostRuntime, n: u16) -> io::Result<()> {
+    number(rt, n as u64)
 }
 
-fn word(n: u32) {
-    number(n as u64);
+fn word(rt: &HostRuntime, n: u32) -> io::Result<()> {
+    number(rt, n as u64)
 }
 
-fn size(n: usize) {
-    number(n as u64);
+fn size(rt: &HostRuntime, n: usize) -> io::Result<()> {
+    number(rt, n as u64)
 }
 
-fn hex(n: u64, digits: usize) {
-    text(b" ");
-    io::print_hex(STDOUT_FILENO, n, digits);
+fn hex(rt: &HostRuntime, n: u64, digits: usize) -> io::Result<()> {
+    text(rt, b" ")?;
+    print!(rt; "{n:0digits$x}")
 }
 
-fn is(b: bool) {
+fn is(rt: &HostRuntime, b: bool) -> io::Result<()> {
     if b {
-        text(b" 1");
+        text(rt, b" 1")?;
     } else {
-        text(b" 0");
+        text(rt, b" 0")?;
     }
+    Ok(())
 }
 
-fn hex16(n: u16, digits: usize) {
-    hex(n as u64, digits);
+fn hex16(rt: &HostRuntime, n: u16, digits: usize) -> io::Result<()> {
+    hex(rt, n as u64, digits)
 }
 
-fn hex32(n: u32, digits: usize) {
-    hex(n as u64, digits);
+fn hex32(rt: &HostRuntime, n: u32, digits: usize) -> io::Result<()> {
+    hex(rt, n as u64, digits)
 }
 
 // Octets as pairs of hexadecimal digits.
-fn octets_of(s: &[u8]) {
+fn octets_of(rt: &HostRuntime, s: &[u8]) -> io::Result<()> {
     for i in 0..s.len() {
-        octet(s[i]);
+        octet(rt, s[i])?;
     }
+    Ok(())
 }
 
-fn octet(b: u8) {
-    text(b" ");
-    io::print_hex(STDOUT_FILENO, b as u64, 2);
+fn octet(rt: &HostRuntime, b: u8) -> io::Result<()> {
+    text(rt, b" ")?;
+    print!(rt; "{b:02x}")
 }
 
-fn answer(g: Got) {
-    small(g.number);
-    size(g.first);
-    size(g.second);
+fn answer(rt: &HostRuntime, g: Got) -> io::Result<()> {
+    small(rt, g.number)?;
+    size(rt, g.first)?;
+    size(rt, g.second)
 }
 
-fn got(name: &[u8], g: Got) {
-    text(name);
-    answer(g);
-    text(b"\n");
+fn got(rt: &HostRuntime, name: &[u8], g: Got) -> io::Result<()> {
+    text(rt, name)?;
+    answer(rt, g)?;
+    text(rt, b"\n")
 }
 
-fn wrote(name: &[u8], g: Got, out: &[u8]) {
-    text(name);
-    answer(g);
-    octets_of(out);
-    text(b"\n");
+fn wrote(rt: &HostRuntime, name: &[u8], g: Got, out: &[u8]) -> io::Result<()> {
+    text(rt, name)?;
+    answer(rt, g)?;
+    octets_of(rt, out)?;
+    text(rt, b"\n")
 }
 
-fn octets(name: &[u8], s: &[u8]) {
-    text(name);
-    octets_of(s);
-    text(b"\n");
+fn octets(rt: &HostRuntime, name: &[u8], s: &[u8]) -> io::Result<()> {
+    text(rt, name)?;
+    octets_of(rt, s)?;
+    text(rt, b"\n")
 }
 
-fn value(name: &[u8], n: u32) {
-    text(name);
-    word(n);
-    text(b"\n");
+fn value(rt: &HostRuntime, name: &[u8], n: u32) -> io::Result<()> {
+    text(rt, name)?;
+    word(rt, n)?;
+    text(rt, b"\n")
 }
 
-fn channel(name: &[u8], c: Channel) {
-    text(name);
-    small(c.number);
-    small(c.index);
-    small(c.rf_channel);
-    small(c.whitening_iv);
-    short(c.freq);
-    text(b"\n");
+fn channel(rt: &HostRuntime, name: &[u8], c: Channel) -> io::Result<()> {
+    text(rt, name)?;
+    small(rt, c.number)?;
+    small(rt, c.index)?;
+    small(rt, c.rf_channel)?;
+    small(rt, c.whitening_iv)?;
+    short(rt, c.freq)?;
+    text(rt, b"\n")
 }
 
-fn map(name: &[u8], m: Map) {
-    text(name);
+fn map(rt: &HostRuntime, name: &[u8], m: Map) -> io::Result<()> {
+    text(rt, name)?;
     let raw = m.raw;
-    octets_of(&raw);
-    small(m.count);
-    text(b"\n");
+    octets_of(rt, &raw)?;
+    small(rt, m.count)?;
+    text(rt, b"\n")
 }
 
-fn leaves() {
-    text(b"board_utf8");
-    is(board_utf8(b"\x00\x01\x02\x03\x04\x05\x06\x07"));
-    text(b"\n");
+fn leaves(rt: &HostRuntime) -> io::Result<()> {
+    text(rt, b"board_utf8")?;
+    is(rt, board_utf8(b"\x00\x01\x02\x03\x04\x05\x06\x07"))?;
+    text(rt, b"\n")?;
     let full = board_uuid16(0x180F).octets;
-    octets(b"board_uuid16", &full);
+    octets(rt, b"board_uuid16", &full)?;
     let full = board_uuid32(0x12345678).octets;
-    octets(b"board_uuid32", &full);
-    value(b"board_later", board_later(0xFFFFFFFF, 101));
-    value(b"board_since", board_since(100, 0xFFFFFFFF));
-    channel(b"board_advertising_channel", board_advertising_channel(1));
-    channel(b"board_data_channel", board_data_channel(11));
+    octets(rt, b"board_uuid32", &full)?;
+    value(rt, b"board_later", board_later(0xFFFFFFFF, 101))?;
+    value(rt, b"board_since", board_since(100, 0xFFFFFFFF))?;
+    channel(
+        rt,
+        b"board_advertising_channel",
+        board_advertising_channel(1),
+    )?;
+    channel(rt, b"board_data_channel", board_data_channel(11))
 }
 
-fn maps() {
+fn maps(rt: &HostRuntime) -> io::Result<()> {
     let mark = [0xFFu8, 0xFF, 0xFF, 0xFF, 0xFF];
-    map(b"board_map", board_map(&mark));
-    map(b"board_all_channels", board_all_channels());
+    map(rt, b"board_map", board_map(&mark))?;
+    map(rt, b"board_all_channels", board_all_channels())?;
     let two = [0x0Au8, 0, 0, 0, 0];
-    got(b"board_is_used", board_is_used(&two, 3));
-    got(b"board_by_index", board_by_index(&two, 1));
-    got(b"board_hop", board_hop(&two, 0, 5));
-    text(b"board_discoverable_flags");
-    small(board_discoverable_flags());
-    text(b"\nboard_broadcast_flags");
-    small(board_broadcast_flags());
-    text(b"\n");
+    got(rt, b"board_is_used", board_is_used(&two, 3))?;
+    got(rt, b"board_by_index", board_by_index(&two, 1))?;
+    got(rt, b"board_hop", board_hop(&two, 0, 5))?;
+    text(rt, b"board_discoverable_flags")?;
+    small(rt, board_discoverable_flags())?;
+    text(rt, b"\nboard_broadcast_flags")?;
+    small(rt, board_broadcast_flags())?;
+    text(rt, b"\n")
 }
 
-fn place(start: usize, len: usize, count: usize) {
-    size(start);
-    size(len);
-    size(count);
+fn place(rt: &HostRuntime, start: usize, len: usize, count: usize) -> io::Result<()> {
+    size(rt, start)?;
+    size(rt, len)?;
+    size(rt, count)
 }
 
-fn times(win_size: u32, win_offset: u32, window_end: u32, interval: u32) {
-    word(win_size);
-    word(win_offset);
-    word(window_end);
-    word(interval);
+fn times(
+    rt: &HostRuntime,
+    win_size: u32,
+    win_offset: u32,
+    window_end: u32,
+    interval: u32,
+) -> io::Result<()> {
+    word(rt, win_size)?;
+    word(rt, win_offset)?;
+    word(rt, window_end)?;
+    word(rt, interval)
 }
 
-fn address(random: bool, octets: [u8; 6]) {
-    is(random);
-    octets_of(&octets);
+fn address(rt: &HostRuntime, random: bool, octets: [u8; 6]) -> io::Result<()> {
+    is(rt, random)?;
+    octets_of(rt, &octets)
 }
 
-fn hops(map: [u8; 5], count: u8, hop: u8) {
-    octets_of(&map);
-    small(count);
-    small(hop);
+fn hops(rt: &HostRuntime, map: [u8; 5], count: u8, hop: u8) -> io::Result<()> {
+    octets_of(rt, &map)?;
+    small(rt, count)?;
+    small(rt, hop)
 }
 
-fn packet(name: &[u8], p: Packet) {
+fn packet(rt: &HostRuntime, name: &[u8], p: Packet) -> io::Result<()> {
     let sender = p.sender;
     let receiver = p.receiver;
     let map = p.map;
-    text(name);
-    small(p.number);
-    small(p.ty);
-    address(p.sender_random, sender);
-    is(p.has_receiver);
-    address(p.receiver_random, receiver);
-    place(p.start, p.len, p.count);
-    hex32(p.access_address, 1);
-    hex32(p.crc_init, 1);
-    times(p.win_size, p.win_offset, p.window_end, p.interval);
-    short(p.latency);
-    word(p.timeout);
-    hops(map, p.map_count, p.hop);
-    small(p.sca);
-    text(b"\n");
+    text(rt, name)?;
+    small(rt, p.number)?;
+    small(rt, p.ty)?;
+    address(rt, p.sender_random, sender)?;
+    is(rt, p.has_receiver)?;
+    address(rt, p.receiver_random, receiver)?;
+    place(rt, p.start, p.len, p.count)?;
+    hex32(rt, p.access_address, 1)?;
+    hex32(rt, p.crc_init, 1)?;
+    times(rt, p.win_size, p.win_offset, p.window_end, p.interval)?;
+    short(rt, p.latency)?;
+    word(rt, p.timeout)?;
+    hops(rt, map, p.map_count, p.hop)?;
+    small(rt, p.sca)?;
+    text(rt, b"\n")
 }
 
-fn frame(name: &[u8], f: Frame) {
-    text(name);
-    small(f.number);
-    hex16(f.header, 4);
+fn frame(rt: &HostRuntime, name: &[u8], f: Frame) -> io::Result<()> {
+    text(rt, name)?;
+    small(rt, f.number)?;
+    hex16(rt, f.header, 4)?;
     let payload = f.payload;
-    octets_of(&payload);
-    text(b"\n");
+    octets_of(rt, &payload)?;
+    text(rt, b"\n")
 }
 
-fn header() {
+fn header(rt: &HostRuntime) -> io::Result<()> {
     let h = board_header(b"\x42\x09");
-    text(b"board_header");
-    small(h.number);
-    hex16(h.raw, 4);
-    small(h.ty);
-    is(h.tx_add);
-    is(h.rx_add);
-    small(h.length);
-    is(h.is_beacon);
-    is(h.allows_adv_data);
-    text(b"\n");
+    text(rt, b"board_header")?;
+    small(rt, h.number)?;
+    hex16(rt, h.raw, 4)?;
+    small(rt, h.ty)?;
+    is(rt, h.tx_add)?;
+    is(rt, h.rx_add)?;
+    small(rt, h.length)?;
+    is(rt, h.is_beacon)?;
+    is(rt, h.allows_adv_data)?;
+    text(rt, b"\n")
 }
 
-fn packets() {
+fn packets(rt: &HostRuntime) -> io::Result<()> {
     packet(
+        rt,
         b"board_decode",
         board_decode(b"\x42\x09", b"\x01\x02\x03\x04\x05\xC6\x02\x01\x06"),
-    );
+    )?;
     packet(
+        rt,
         b"board_read_pdu",
         board_read_pdu(
             b"\x85\x22\x11\x12\x13\x14\x15\x16\x01\x02\x03\x04\x05\x06\xD6\xBE\x89\x8E\x56\x34\x12\x02\x03\x00\x18\x00\x07\x00\x64\x00\x0A\x00\x00\x00\x00\xA5",
             0,
         ),
-    );
+    )
 }
 
-fn headers() {
-    header();
-    got(b"board_new_header", board_new_header(2, true, false, 9));
+fn headers(rt: &HostRuntime) -> io::Result<()> {
+    header(rt)?;
+    got(rt, b"board_new_header", board_new_header(2, true, false, 9))?;
     got(
+        rt,
         b"board_set_header",
         board_set_header(b"\x42\x09", false, true, 38),
-    );
+    )?;
     got(
+        rt,
         b"board_read_header",
         board_read_header(b"\x00\x01\x02\x03\x04\x05\x06\x07", 1),
-    );
+    )?;
     let mut out = [0xFFu8; 16];
     let g = board_write_header(&mut out, 1, b"\x42\x09");
-    wrote(b"board_write_header", g, &out);
+    wrote(rt, b"board_write_header", g, &out)
 }
 
-fn builders() {
+fn builders(rt: &HostRuntime) -> io::Result<()> {
     let own = [1u8, 2, 3, 4, 5, 0xC6];
     let other = [1u8, 2, 3, 4, 5, 6];
-    frame(b"board_build", board_build(1, &own, true, b"\x02\x01\x06"));
     frame(
+        rt,
+        b"board_build",
+        board_build(1, &own, true, b"\x02\x01\x06"),
+    )?;
+    frame(
+        rt,
         b"board_build_directed",
         board_build_directed(&own, true, &other, false),
-    );
+    )
 }
 
-fn filters() {
+fn filters(rt: &HostRuntime) -> io::Result<()> {
     let own = [1u8, 2, 3, 4, 5, 0xC6];
     let other = [1u8, 2, 3, 4, 5, 6];
     let list = b"\x01\x01\x02\x03\x04\x05\xC6";
-    got(b"board_whitelist", board_whitelist(list, &own, true));
+    got(rt, b"board_whitelist", board_whitelist(list, &own, true))?;
     got(
+        rt,
         b"board_may_scan",
         board_may_scan(true, false, list, &other, true),
-    );
+    )?;
     got(
+        rt,
         b"board_may_connect",
         board_may_connect(true, false, list, &other, true),
-    );
+    )?;
     got(
+        rt,
         b"board_should_scan",
         board_should_scan(true, list, &own, true),
-    );
+    )
 }
 
-fn structure(name: &[u8], r: Structure) {
-    text(name);
-    small(r.number);
-    small(r.kind);
-    is(r.complete);
-    hex16(r.value, 1);
-    size(r.start);
-    size(r.len);
-    size(r.next);
-    text(b"\n");
+fn structure(rt: &HostRuntime, name: &[u8], r: Structure) -> io::Result<()> {
+    text(rt, name)?;
+    small(rt, r.number)?;
+    small(rt, r.kind)?;
+    is(rt, r.complete)?;
+    hex16(rt, r.value, 1)?;
+    size(rt, r.start)?;
+    size(rt, r.len)?;
+    size(rt, r.next)?;
+    text(rt, b"\n")
 }
 
-fn areas() {
+fn areas(rt: &HostRuntime) -> io::Result<()> {
     let area = b"\x02\x01\x06\x05\x03\x0F\x18\x0A\x18";
-    got(b"board_area", board_area(area));
+    got(rt, b"board_area", board_area(area))?;
     got(
+        rt,
         b"board_padded_area",
         board_padded_area(b"\x02\x01\x86\x03\x09\x47\x6F\x00\x00\x00"),
-    );
-    structure(b"board_record", board_record(area, 0));
-    structure(b"board_known", board_known(area, 3));
+    )?;
+    structure(rt, b"board_record", board_record(area, 0))?;
+    structure(rt, b"board_known", board_known(area, 3))
 }
 
-fn rewrites() {
+fn rewrites(rt: &HostRuntime) -> io::Result<()> {
     let area = b"\x02\x01\x06\x05\x03\x0F\x18\x0A\x18";
     let mut out = [0xFFu8; 16];
     let g = board_write(
@@ -349,187 +374,196 @@ fn rewrites() {
         1,
         &mut out,
     );
-    wrote(b"board_write", g, &out);
+    wrote(rt, b"board_write", g, &out)?;
     let mut out = [0xFFu8; 16];
     let g = board_rewrite(area, &mut out);
-    wrote(b"board_rewrite", g, &out);
-    got(b"board_uuid_at", board_uuid_at(b"\x0F\x18\x0A\x18", 2));
+    wrote(rt, b"board_rewrite", g, &out)?;
+    got(rt, b"board_uuid_at", board_uuid_at(b"\x0F\x18\x0A\x18", 2))
 }
 
-fn flags() {
-    print_flags(0x86);
+fn flags(rt: &HostRuntime) -> io::Result<()> {
+    print_flags(rt, 0x86)
 }
 
-fn print_flags(bits: u8) {
+fn print_flags(rt: &HostRuntime, bits: u8) -> io::Result<()> {
     let f = board_flags(bits);
-    text(b"board_flags");
-    small(f.bits);
-    is(f.classic);
-    is(f.limited);
-    is(f.general);
-    is(f.controller);
-    is(f.host);
-    text(b"\n");
+    text(rt, b"board_flags")?;
+    small(rt, f.bits)?;
+    is(rt, f.classic)?;
+    is(rt, f.limited)?;
+    is(rt, f.general)?;
+    is(rt, f.controller)?;
+    is(rt, f.host)?;
+    text(rt, b"\n")
 }
 
-fn reads() {
+fn reads(rt: &HostRuntime) -> io::Result<()> {
     let bits = b"\x00\x01\x02\x03\x04\x05\x06\x07";
-    got(b"board_skip", board_skip(bits, 3, 5));
-    got(b"board_bytes_left", board_bytes_left(bits, 8));
+    got(rt, b"board_skip", board_skip(bits, 3, 5))?;
+    got(rt, b"board_bytes_left", board_bytes_left(bits, 8))?;
     let p = board_read_slice(bits, 3, 2);
-    text(b"board_read_slice");
-    small(p.number);
-    size(p.start);
-    size(p.len);
-    size(p.next);
-    text(b"\n");
-    got(b"board_read_u8", board_read_u8(bits, 7));
-    got(b"board_read_u16_le", board_read_u16_le(bits, 1));
-    got(b"board_read_u32_le", board_read_u32_le(bits, 5));
+    text(rt, b"board_read_slice")?;
+    small(rt, p.number)?;
+    size(rt, p.start)?;
+    size(rt, p.len)?;
+    size(rt, p.next)?;
+    text(rt, b"\n")?;
+    got(rt, b"board_read_u8", board_read_u8(bits, 7))?;
+    got(rt, b"board_read_u16_le", board_read_u16_le(bits, 1))?;
+    got(rt, b"board_read_u32_le", board_read_u32_le(bits, 5))
 }
 
-fn arrays() {
+fn arrays(rt: &HostRuntime) -> io::Result<()> {
     let bits = b"\x00\x01\x02\x03\x04\x05\x06\x07";
     let mut out = [0xFFu8; 3];
     let g = board_read_into(bits, 1, &mut out);
-    wrote(b"board_read_into", g, &out);
+    wrote(rt, b"board_read_into", g, &out)?;
     let five = board_read_array5(bits, 1);
-    part(b"board_read_array5", five.number, five.next);
+    part(rt, b"board_read_array5", five.number, five.next)?;
     let s = five.octets;
-    octets(b"", &s);
+    octets(rt, b"", &s)?;
     let six = board_read_array6(bits, 1);
-    part(b"board_read_array6", six.number, six.next);
+    part(rt, b"board_read_array6", six.number, six.next)?;
     let s = six.octets;
-    octets(b"", &s);
+    octets(rt, b"", &s)
 }
 
-fn uuids() {
+fn uuids(rt: &HostRuntime) -> io::Result<()> {
     let bits = b"\x00\x01\x02\x03\x04\x05\x06\x07";
-    got(b"board_read_uuid16", board_read_uuid16(bits, 1));
-    got(b"board_read_uuid32", board_read_uuid32(bits, 1));
+    got(rt, b"board_read_uuid16", board_read_uuid16(bits, 1))?;
+    got(rt, b"board_read_uuid32", board_read_uuid32(bits, 1))?;
     let uuid = board_read_uuid128(
         b"\x00\x01\x02\x03\x04\x05\x06\x07\x08\x09\x0A\x0B\x0C\x0D\x0E\x0F",
         0,
     );
-    part(b"board_read_uuid128", uuid.number, uuid.next);
+    part(rt, b"board_read_uuid128", uuid.number, uuid.next)?;
     let s = uuid.octets;
-    octets(b"", &s);
+    octets(rt, b"", &s)
 }
 
-fn part(name: &[u8], refusal: u8, next: usize) {
-    text(name);
-    small(refusal);
-    size(next);
+fn part(rt: &HostRuntime, name: &[u8], refusal: u8, next: usize) -> io::Result<()> {
+    text(rt, name)?;
+    small(rt, refusal)?;
+    size(rt, next)
 }
 
-fn writes() {
+fn writes(rt: &HostRuntime) -> io::Result<()> {
     let bits = b"\x00\x01\x02\x03\x04\x05\x06\x07";
-    got(b"board_write_skip", board_write_skip(bits, 9, 0));
-    text(b"board_space_left");
-    size(board_space_left(bits, 3));
-    text(b"\n");
+    got(rt, b"board_write_skip", board_write_skip(bits, 9, 0))?;
+    text(rt, b"board_space_left")?;
+    size(rt, board_space_left(bits, 3))?;
+    text(rt, b"\n")?;
     let mut out = [0xFFu8; 16];
     let g = board_write_slice(&mut out, 14, b"\x42\x09");
-    wrote(b"board_write_slice", g, &out);
+    wrote(rt, b"board_write_slice", g, &out)?;
     let mut out = [0xFFu8; 16];
     let g = board_write_slice_truncate(&mut out, 15, b"\x42\x09");
-    wrote(b"board_write_slice_truncate", g, &out);
+    wrote(rt, b"board_write_slice_truncate", g, &out)
 }
 
-fn number_writes() {
+fn number_writes(rt: &HostRuntime) -> io::Result<()> {
     let mut out = [0xFFu8; 16];
     let g = board_write_u8(&mut out, 1, 0x12);
-    wrote(b"board_write_u8", g, &out);
+    wrote(rt, b"board_write_u8", g, &out)?;
     let mut out = [0xFFu8; 16];
     let g = board_write_u16_le(&mut out, 1, 0x1234);
-    wrote(b"board_write_u16_le", g, &out);
+    wrote(rt, b"board_write_u16_le", g, &out)?;
     let mut out = [0xFFu8; 16];
     let g = board_write_u32_le(&mut out, 1, 0x12345678);
-    wrote(b"board_write_u32_le", g, &out);
+    wrote(rt, b"board_write_u32_le", g, &out)
 }
 
-fn uuid_writes() {
+fn uuid_writes(rt: &HostRuntime) -> io::Result<()> {
     let mut out = [0xFFu8; 16];
     let g = board_write_uuid16(&mut out, 1, 0x180F);
-    wrote(b"board_write_uuid16", g, &out);
+    wrote(rt, b"board_write_uuid16", g, &out)?;
     let mut out = [0xFFu8; 16];
     let g = board_write_uuid32(&mut out, 1, 0x12345678);
-    wrote(b"board_write_uuid32", g, &out);
+    wrote(rt, b"board_write_uuid32", g, &out)?;
     let full = [0u8, 1, 2, 3, 4, 5, 6, 7, 8, 9, 10, 11, 12, 13, 14, 15];
     let mut out = [0xFFu8; 16];
     let g = board_write_uuid128(&mut out, 0, &full);
-    wrote(b"board_write_uuid128", g, &out);
+    wrote(rt, b"board_write_uuid128", g, &out)
 }
 
-fn listened(l: Listened) {
-    text(b"board_scanner_call");
-    small(l.number);
-    is(l.reported);
+fn listened(rt: &HostRuntime, l: Listened) -> io::Result<()> {
+    text(rt, b"board_scanner_call")?;
+    small(rt, l.number)?;
+    is(rt, l.reported)?;
     let sender = l.sender;
-    address(l.random, sender);
-    place(l.start, l.len, l.count);
-    size(l.taken);
-    small(l.channel);
-    word(l.next);
-    text(b"\n");
+    address(rt, l.random, sender)?;
+    place(rt, l.start, l.len, l.count)?;
+    size(rt, l.taken)?;
+    small(rt, l.channel)?;
+    word(rt, l.next)?;
+    text(rt, b"\n")
 }
 
-fn beacon() {
+fn beacon(rt: &HostRuntime) -> io::Result<()> {
     let own = [1u8, 2, 3, 4, 5, 0xC6];
     let mut out = [0xFFu8; 16];
     let s = board_beacon(&own, true, b"\x02\x01\x06", &mut out);
-    text(b"board_beacon");
-    small(s.number);
-    hex16(s.header, 4);
-    small(s.first);
-    small(s.second);
-    small(s.third);
-    octets(b"", &out);
-    got(b"board_scanner", board_scanner(100, 20, 2));
+    text(rt, b"board_beacon")?;
+    small(rt, s.number)?;
+    hex16(rt, s.header, 4)?;
+    small(rt, s.first)?;
+    small(rt, s.second)?;
+    small(rt, s.third)?;
+    octets(rt, b"", &out)?;
+    got(rt, b"board_scanner", board_scanner(100, 20, 2))
 }
 
-fn scan() {
+fn scan(rt: &HostRuntime) -> io::Result<()> {
     let list = b"\x01\x01\x02\x03\x04\x05\xC6";
-    heard(board_scan(
-        true,
-        list,
-        1,
-        b"\x42\x09",
-        b"\x01\x02\x03\x04\x05\xC6\x02\x01\x06",
-        true,
-    ));
+    heard(
+        rt,
+        board_scan(
+            true,
+            list,
+            1,
+            b"\x42\x09",
+            b"\x01\x02\x03\x04\x05\xC6\x02\x01\x06",
+            true,
+        ),
+    )
 }
 
-fn heard(h: Heard) {
-    text(b"board_scan");
-    small(h.number);
-    is(h.reported);
+fn heard(rt: &HostRuntime, h: Heard) -> io::Result<()> {
+    text(rt, b"board_scan")?;
+    small(rt, h.number)?;
+    is(rt, h.reported)?;
     let sender = h.sender;
-    address(h.random, sender);
-    place(h.start, h.len, h.count);
-    size(h.taken);
-    small(h.channel);
-    text(b"\n");
+    address(rt, h.random, sender)?;
+    place(rt, h.start, h.len, h.count)?;
+    size(rt, h.taken)?;
+    small(rt, h.channel)?;
+    text(rt, b"\n")
 }
 
 // A start at 5 with interval 30, then a tick at 200: of a scanner, a configure and a timer update. What is asked next is given without the zeros that follow it.
-fn scanner() {
+fn scanner(rt: &HostRuntime) -> io::Result<()> {
     let mut calls = [0u8; 544];
     calls[4] = 5;
     calls[8] = 30;
     calls[272] = 1;
     calls[276] = 200;
     let list = b"\x01\x01\x02\x03\x04\x05\xC6";
-    listened(board_scanner_call(
-        true,
-        list,
-        &calls,
-        b"\x02\x01\x00\x09\x00\x00\x00\x00\x00\x00\x00\x00\x42\x09\x01\x02\x03\x04\x05\xC6\x02\x01\x06",
-    ));
-    listened(board_scanner_call(true, list, &calls[..272], b"\x01\x00\x00\x00\xC8"));
+    listened(
+        rt,
+        board_scanner_call(
+            true,
+            list,
+            &calls,
+            b"\x02\x01\x00\x09\x00\x00\x00\x00\x00\x00\x00\x00\x42\x09\x01\x02\x03\x04\x05\xC6\x02\x01\x06",
+        ),
+    )?;
+    listened(
+        rt,
+        board_scanner_call(true, list, &calls[..272], b"\x01\x00\x00\x00\xC8"),
+    )
 }
 
-fn device() {
+fn device(rt: &HostRuntime) -> io::Result<()> {
     let mut calls = [0u8; 544];
     calls[4] = 5;
     calls[8] = 30;
@@ -546,201 +580,214 @@ fn device() {
         &mut first,
         &mut second,
     );
-    text(b"board_call");
-    small(said.number);
-    small(said.kind);
-    is(said.advertising);
-    is(said.connected);
-    small(said.channel);
-    hex16(said.header, 4);
-    word(said.at);
-    hex32(said.access_address, 1);
-    hex32(said.crc_init, 1);
-    octets(b"", &first);
+    text(rt, b"board_call")?;
+    small(rt, said.number)?;
+    small(rt, said.kind)?;
+    is(rt, said.advertising)?;
+    is(rt, said.connected)?;
+    small(rt, said.channel)?;
+    hex16(rt, said.header, 4)?;
+    word(rt, said.at)?;
+    hex32(rt, said.access_address, 1)?;
+    hex32(rt, said.crc_init, 1)?;
+    octets(rt, b"", &first)
 }
 
-fn name() {
+fn name(rt: &HostRuntime) -> io::Result<()> {
     let n = board_name(
         b"\x02\x01\x06\x04\x08\x41\x64\x61\x03\x09\x42\x6F\x00",
         b"\x03\x08\x43\x79\x04\x09\x44\x61\x6E\x00\x00",
     );
-    text(b"complete, reply board_name");
-    small(n.number);
-    is(n.in_reply);
-    size(n.start);
-    size(n.len);
-    text(b"\n");
+    text(rt, b"complete, reply board_name")?;
+    small(rt, n.number)?;
+    is(rt, n.in_reply)?;
+    size(rt, n.start)?;
+    size(rt, n.len)?;
+    text(rt, b"\n")
 }
 
-fn settings() {
+fn settings(rt: &HostRuntime) -> io::Result<()> {
     let request = [
         0xD6u8, 0xBE, 0x89, 0x8E, 0x56, 0x34, 0x12, 2, 3, 0, 0x18, 0, 7, 0, 100, 0, 0x0A, 0, 0, 0,
         0, 0xA5,
     ];
     let c = board_settings(&request);
-    text(b"request board_settings");
-    small(c.number);
-    small(c.hop);
+    text(rt, b"request board_settings")?;
+    small(rt, c.number)?;
+    small(rt, c.hop)?;
     let map = c.map;
-    octets_of(&map);
-    small(c.channels);
-    short(c.interval);
-    short(c.latency);
-    short(c.timeout);
-    small(c.win_size);
-    short(c.win_offset);
-    text(b"\n");
+    octets_of(rt, &map)?;
+    small(rt, c.channels)?;
+    short(rt, c.interval)?;
+    short(rt, c.latency)?;
+    short(rt, c.timeout)?;
+    small(rt, c.win_size)?;
+    short(rt, c.win_offset)?;
+    text(rt, b"\n")
 }
 
 // The beacon's packet on channel 39, with its CRC: whitened, and its flag as heard.
-fn bits() {
-    text(b"beacon board_crc");
+fn bits(rt: &HostRuntime) -> io::Result<()> {
+    text(rt, b"beacon board_crc")?;
     let start = 0x555555;
     hex32(
+        rt,
         board_crc(start, b"\x42\x09\x01\x02\x03\x04\x05\xC6\x02\x01\x06"),
         6,
-    );
+    )?;
     let end = board_crc_octets(start, b"\x42\x09\x01\x02\x03\x04\x05\xC6\x02\x01\x06").octets;
-    octets(b"", &end);
+    octets(rt, b"", &end)?;
     let mut heard = [0x42u8, 0x09, 1, 2, 3, 4, 5, 0xC6, 2, 1, 6, 0x9F, 0xD7, 0xC2];
     let refusal = board_whiten(39, &mut heard);
-    text(b"39 board_whiten");
-    small(refusal);
-    octets(b"", &heard);
+    text(rt, b"39 board_whiten")?;
+    small(rt, refusal)?;
+    octets(rt, b"", &heard)?;
     let flag = board_crc_flag(39, 0x123456, &heard);
-    text(b"39 board_crc_flag");
-    small(flag.number);
-    is(flag.good);
-    text(b"\n");
+    text(rt, b"39 board_crc_flag")?;
+    small(rt, flag.number)?;
+    is(rt, flag.good)?;
+    text(rt, b"\n")
 }
 
 // The constants that callers may name: rubble's, and those of the hub's items (document 01).
-fn constants() {
-    text(b"constants");
-    size(MAX_PAYLOAD_SIZE);
-    small(AdvertisingChannel::FIRST);
-    small(AdvertisingChannel::SECOND);
-    small(AdvertisingChannel::THIRD);
-    octet(Flags::LE_LIMITED_DISCOVERABLE);
-    octet(Flags::LE_GENERAL_DISCOVERABLE);
-    octet(Flags::BR_EDR_NOT_SUPPORTED);
-    octet(Flags::SIMUL_LE_BR_CONTROLLER);
-    octet(Flags::SIMUL_LE_BR_HOST);
-    octet(Type::SHORTENED_LOCAL_NAME);
-    octet(Type::COMPLETE_LOCAL_NAME);
-    octet(TICK);
-    octet(CRC_GOOD);
-    octet(CRC_BAD);
-    hex32(CRC_POLY, 8);
-    hex32(CRC_PRESET, 6);
-    hex32(ACCESS_ADDRESS, 8);
-    text(b"\n");
+fn constants(rt: &HostRuntime) -> io::Result<()> {
+    text(rt, b"constants")?;
+    size(rt, MAX_PAYLOAD_SIZE)?;
+    small(rt, AdvertisingChannel::FIRST)?;
+    small(rt, AdvertisingChannel::SECOND)?;
+    small(rt, AdvertisingChannel::THIRD)?;
+    octet(rt, Flags::LE_LIMITED_DISCOVERABLE)?;
+    octet(rt, Flags::LE_GENERAL_DISCOVERABLE)?;
+    octet(rt, Flags::BR_EDR_NOT_SUPPORTED)?;
+    octet(rt, Flags::SIMUL_LE_BR_CONTROLLER)?;
+    octet(rt, Flags::SIMUL_LE_BR_HOST)?;
+    octet(rt, Type::SHORTENED_LOCAL_NAME)?;
+    octet(rt, Type::COMPLETE_LOCAL_NAME)?;
+    octet(rt, TICK)?;
+    octet(rt, CRC_GOOD)?;
+    octet(rt, CRC_BAD)?;
+    hex32(rt, CRC_POLY, 8)?;
+    hex32(rt, CRC_PRESET, 6)?;
+    hex32(rt, ACCESS_ADDRESS, 8)?;
+    text(rt, b"\n")
 }
 
 // Once more with the arguments changed: what was true is false, what was accepted is refused.
-fn leaves_again() {
-    text(b"board_utf8");
-    is(board_utf8(b"\xC3\x28"));
-    text(b"\n");
-    channel(b"board_data_channel", board_data_channel(48));
+fn leaves_again(rt: &HostRuntime) -> io::Result<()> {
+    text(rt, b"board_utf8")?;
+    is(rt, board_utf8(b"\xC3\x28"))?;
+    text(rt, b"\n")?;
+    channel(rt, b"board_data_channel", board_data_channel(48))?;
     let two = [0x0Au8, 0, 0, 0, 0xE0];
-    map(b"board_map", board_map(&two));
-    got(b"board_is_used", board_is_used(&two, 2));
-    got(b"board_by_index", board_by_index(&two, 2));
-    got(b"board_hop", board_hop(&two, 36, 5));
-    packet(b"board_read_pdu", board_read_pdu(b"\x42", 0));
-    got(b"board_new_header", board_new_header(5, false, true, 34));
+    map(rt, b"board_map", board_map(&two))?;
+    got(rt, b"board_is_used", board_is_used(&two, 2))?;
+    got(rt, b"board_by_index", board_by_index(&two, 2))?;
+    got(rt, b"board_hop", board_hop(&two, 36, 5))?;
+    packet(rt, b"board_read_pdu", board_read_pdu(b"\x42", 0))?;
     got(
+        rt,
+        b"board_new_header",
+        board_new_header(5, false, true, 34),
+    )?;
+    got(
+        rt,
         b"board_set_header",
         board_set_header(b"\x42\x09", false, true, 9),
-    );
+    )
 }
 
-fn builders_again() {
+fn builders_again(rt: &HostRuntime) -> io::Result<()> {
     let own = [1u8, 2, 3, 4, 5, 0xC6];
     let other = [1u8, 2, 3, 4, 5, 6];
-    frame(b"board_build", board_build(0, &other, false, b""));
+    frame(rt, b"board_build", board_build(0, &other, false, b""))?;
     frame(
+        rt,
         b"board_build_directed",
         board_build_directed(&other, false, &own, true),
-    );
+    )?;
     let list = b"\x01\x01\x02\x03\x04\x05\xC6";
-    got(b"board_whitelist", board_whitelist(list, &own, false));
+    got(rt, b"board_whitelist", board_whitelist(list, &own, false))?;
     got(
+        rt,
         b"board_may_scan",
         board_may_scan(false, true, list, &other, true),
-    );
+    )?;
     got(
+        rt,
         b"board_may_connect",
         board_may_connect(false, true, list, &other, true),
-    );
+    )?;
     got(
+        rt,
         b"board_should_scan",
         board_should_scan(true, list, &other, true),
-    );
+    )
 }
 
-fn reads_again() {
+fn reads_again(rt: &HostRuntime) -> io::Result<()> {
     let bits = b"\x00\x01\x02\x03\x04\x05\x06\x07";
-    got(b"board_bytes_left", board_bytes_left(bits, 3));
-    got(b"board_read_u32_le", board_read_u32_le(bits, 1));
-    got(b"board_write_skip", board_write_skip(bits, 3, 2));
+    got(rt, b"board_bytes_left", board_bytes_left(bits, 3))?;
+    got(rt, b"board_read_u32_le", board_read_u32_le(bits, 1))?;
+    got(rt, b"board_write_skip", board_write_skip(bits, 3, 2))?;
     let mut out = [0xFFu8; 16];
     let g = board_write(2, true, 0, 0, 2, bits, 1, &mut out);
-    wrote(b"board_write", g, &out);
-    print_flags(0x19);
+    wrote(rt, b"board_write", g, &out)?;
+    print_flags(rt, 0x19)
 }
 
-fn scans_again() {
+fn scans_again(rt: &HostRuntime) -> io::Result<()> {
     let payload = b"\x01\x02\x03\x04\x05\xC6\x02\x01\x06";
-    heard(board_scan(false, b"", 0, b"\x42\x09", payload, false));
-    heard(board_scan(false, b"\x05", 2, b"\x42\x09", payload, true));
+    heard(rt, board_scan(false, b"", 0, b"\x42\x09", payload, false))?;
+    heard(
+        rt,
+        board_scan(false, b"\x05", 2, b"\x42\x09", payload, true),
+    )
 }
 
-fn bits_again() {
-    text(b"none board_crc");
-    hex32(board_crc(1, b""), 6);
+fn bits_again(rt: &HostRuntime) -> io::Result<()> {
+    text(rt, b"none board_crc")?;
+    hex32(rt, board_crc(1, b""), 6)?;
     let end = board_crc_octets(1, b"").octets;
-    octets(b"", &end);
+    octets(rt, b"", &end)?;
     let mut sent = [0x42u8, 0x09, 1, 2, 3, 4, 5, 0xC6, 2, 1, 6, 0x9F, 0xD7, 0xC2];
     let refusal = board_whiten(103, &mut sent);
-    text(b"103 board_whiten");
-    small(refusal);
-    octets(b"", &sent);
+    text(rt, b"103 board_whiten")?;
+    small(rt, refusal)?;
+    octets(rt, b"", &sent)?;
     let flag = board_crc_flag(39, 0x123456, &sent);
-    text(b"39 board_crc_flag");
-    small(flag.number);
-    is(flag.good);
-    text(b"\n");
+    text(rt, b"39 board_crc_flag")?;
+    small(rt, flag.number)?;
+    is(rt, flag.good)?;
+    text(rt, b"\n")
 }
 
-fn main() {
-    constants();
-    leaves();
-    maps();
-    packets();
-    headers();
-    builders();
-    filters();
-    areas();
-    rewrites();
-    flags();
-    reads();
-    arrays();
-    uuids();
-    writes();
-    number_writes();
-    uuid_writes();
-    beacon();
-    scan();
-    scanner();
-    device();
-    name();
-    settings();
-    bits();
-    leaves_again();
-    builders_again();
-    reads_again();
-    scans_again();
-    bits_again();
+fn main(rt: HostRuntime) -> io::Result<()> {
+    constants(&rt)?;
+    leaves(&rt)?;
+    maps(&rt)?;
+    packets(&rt)?;
+    headers(&rt)?;
+    builders(&rt)?;
+    filters(&rt)?;
+    areas(&rt)?;
+    rewrites(&rt)?;
+    flags(&rt)?;
+    reads(&rt)?;
+    arrays(&rt)?;
+    uuids(&rt)?;
+    writes(&rt)?;
+    number_writes(&rt)?;
+    uuid_writes(&rt)?;
+    beacon(&rt)?;
+    scan(&rt)?;
+    scanner(&rt)?;
+    device(&rt)?;
+    name(&rt)?;
+    settings(&rt)?;
+    bits(&rt)?;
+    leaves_again(&rt)?;
+    builders_again(&rt)?;
+    reads_again(&rt)?;
+    scans_again(&rt)?;
+    bits_again(&rt)
 }

@@ -1,198 +1,211 @@
 // Runs vectors from outside: each channel's whitening octets, CRCs, and the flags of packets as heard. Each line prints what came of one.
 #![tactic(auto)]
 
-use libc::STDOUT_FILENO;
 use octets::error::{Error, Outcome};
+use std::io;
 use whitening::crc::{CRC_POLY, CRC_PRESET, crc, crc_octets};
 use whitening::packet::{ACCESS_ADDRESS, Flag, crc_flag, whiten};
 
-fn text(s: &[u8]) {
-    io::write_all(STDOUT_FILENO, s);
+fn text(rt: &HostRuntime, s: &[u8]) -> io::Result<()> {
+    rt.write_all(s)
 }
 
-fn hex(n: u32, digits: usize) {
-    text(b" ");
-    io::print_hex(STDOUT_FILENO, n as u64, digits);
+fn hex(rt: &HostRuntime, n: u32, digits: usize) -> io::Result<()> {
+    text(rt, b" ")?;
+    print!(rt; "{n:0digits$x}")
 }
 
 // Octets as pairs of hexadecimal digits.
-fn octets_of(s: &[u8]) {
+fn octets_of(rt: &HostRuntime, s: &[u8]) -> io::Result<()> {
     for i in 0..s.len() {
-        hex(s[i] as u32, 2);
+        hex(rt, s[i] as u32, 2)?;
     }
+    Ok(())
 }
 
-fn line_of(s: &[u8]) {
-    octets_of(s);
-    text(b"\n");
+fn line_of(rt: &HostRuntime, s: &[u8]) -> io::Result<()> {
+    octets_of(rt, s)?;
+    text(rt, b"\n")
 }
 
-fn refusal(e: Error) {
-    text(b" refused ");
-    io::print_decimal(STDOUT_FILENO, e.number() as u64);
+fn refusal(rt: &HostRuntime, e: Error) -> io::Result<()> {
+    text(rt, b" refused ")?;
+    print!(rt; "{}", e.number() as u64)
 }
 
-fn done(whitened: Outcome) {
+fn done(rt: &HostRuntime, whitened: Outcome) -> io::Result<()> {
     match whitened {
-        Outcome::Accepted => text(b" done"),
-        Outcome::Refused(e) => refusal(e),
+        Outcome::Accepted => text(rt, b" done")?,
+        Outcome::Refused(e) => refusal(rt, e)?,
     }
+    Ok(())
 }
 
 // What a packet becomes, twice.
-fn whitening(channel: u8, packet: &mut [u8]) {
-    text(b"whitening");
-    done(whiten(channel, packet));
-    line_of(packet);
-    text(b"again");
-    done(whiten(channel, packet));
-    line_of(packet);
+fn whitening(rt: &HostRuntime, channel: u8, packet: &mut [u8]) -> io::Result<()> {
+    text(rt, b"whitening")?;
+    done(rt, whiten(channel, packet))?;
+    line_of(rt, packet)?;
+    text(rt, b"again")?;
+    done(rt, whiten(channel, packet))?;
+    line_of(rt, packet)
 }
 
 // A packet of zeros, which shows the whitening octets.
-fn zeros(channel: u8) {
+fn zeros(rt: &HostRuntime, channel: u8) -> io::Result<()> {
     let mut packet = [0u8; 42];
-    whitening(channel, &mut packet);
+    whitening(rt, channel, &mut packet)
 }
 
-fn check(start: u32, octets: &[u8]) {
-    text(b"crc");
-    hex(crc(start, octets), 6);
+fn check(rt: &HostRuntime, start: u32, octets: &[u8]) -> io::Result<()> {
+    text(rt, b"crc")?;
+    hex(rt, crc(start, octets), 6)?;
     let sent = crc_octets(start, octets);
-    line_of(&sent);
+    line_of(rt, &sent)
 }
 
-fn flag(channel: u8, start: u32, packet: &[u8]) {
-    text(b"flag");
+fn flag(rt: &HostRuntime, channel: u8, start: u32, packet: &[u8]) -> io::Result<()> {
+    text(rt, b"flag")?;
     match crc_flag(channel, start, packet) {
         Flag::Is(good) => {
             if good {
-                text(b" good");
+                text(rt, b" good")?;
             } else {
-                text(b" bad");
+                text(rt, b" bad")?;
             }
         }
-        Flag::Refused(e) => refusal(e),
+        Flag::Refused(e) => refusal(rt, e)?,
     }
-    text(b"\n");
+    text(rt, b"\n")
 }
 
-fn constants() {
-    text(b"constants");
-    hex(ACCESS_ADDRESS, 8);
-    hex(CRC_PRESET, 6);
-    hex(CRC_POLY, 7);
-    text(b"\n");
+fn constants(rt: &HostRuntime) -> io::Result<()> {
+    text(rt, b"constants")?;
+    hex(rt, ACCESS_ADDRESS, 8)?;
+    hex(rt, CRC_PRESET, 6)?;
+    hex(rt, CRC_POLY, 7)?;
+    text(rt, b"\n")
 }
 
 // Both sides of each limit.
-fn limits() {
-    whitening(39, &mut [0xA5u8; 43]);
-    whitening(39, &mut [0xA5u8; 5]);
-    whitening(39, &mut [0xA5u8; 4]);
-    whitening(40, &mut [0xA5u8; 43]);
-    whitening(40, &mut [0xA5u8; 4]);
-    whitening(255, &mut [0xA5u8; 5]);
+fn limits(rt: &HostRuntime) -> io::Result<()> {
+    whitening(rt, 39, &mut [0xA5u8; 43])?;
+    whitening(rt, 39, &mut [0xA5u8; 5])?;
+    whitening(rt, 39, &mut [0xA5u8; 4])?;
+    whitening(rt, 40, &mut [0xA5u8; 43])?;
+    whitening(rt, 40, &mut [0xA5u8; 4])?;
+    whitening(rt, 255, &mut [0xA5u8; 5])
 }
 
 // The check value of CRC-24/BLE, document 01's row, zeros.
-fn check_values() {
-    check(0x555555, b"\x31\x32\x33\x34\x35\x36\x37\x38\x39");
-    check(0x555555, b"\x42\x09\x01\x02\x03\x04\x05\xC6\x02\x01\x06");
-    check(0x555555, b"\x00\x06\x00\x00\x00\x00\x00\x00");
-    check(0x000000, b"\x00\x06\x00\x00\x00\x00\x00\x00");
-    check(0x000000, b"\x00\x00");
+fn check_values(rt: &HostRuntime) -> io::Result<()> {
+    check(rt, 0x555555, b"\x31\x32\x33\x34\x35\x36\x37\x38\x39")?;
+    check(
+        rt,
+        0x555555,
+        b"\x42\x09\x01\x02\x03\x04\x05\xC6\x02\x01\x06",
+    )?;
+    check(rt, 0x555555, b"\x00\x06\x00\x00\x00\x00\x00\x00")?;
+    check(rt, 0x000000, b"\x00\x06\x00\x00\x00\x00\x00\x00")?;
+    check(rt, 0x000000, b"\x00\x00")
 }
 
 // Start values: all ones, single bits, and some on which the order of octets shows.
-fn starts() {
-    check(0xFFFFFF, b"\x00\x00");
-    check(0x000001, b"\x01\x00");
-    check(0x800000, b"\x01\x00");
-    check(0x123456, b"\x0D\x00\x00");
-    check(0xFF123456, b"\x0D\x00\x00");
-    check(0xABCDEF, b"\x02\x03\x01\xA0\xFF");
+fn starts(rt: &HostRuntime) -> io::Result<()> {
+    check(rt, 0xFFFFFF, b"\x00\x00")?;
+    check(rt, 0x000001, b"\x01\x00")?;
+    check(rt, 0x800000, b"\x01\x00")?;
+    check(rt, 0x123456, b"\x0D\x00\x00")?;
+    check(rt, 0xFF123456, b"\x0D\x00\x00")?;
+    check(rt, 0xABCDEF, b"\x02\x03\x01\xA0\xFF")
 }
 
 // 39 octets; another start value; no octets.
-fn longest() {
+fn longest(rt: &HostRuntime) -> io::Result<()> {
     check(
+        rt,
         0x555555,
         b"\x42\x25\x00\x01\x02\x03\x04\x05\x06\x07\x08\x09\x0A\x0B\x0C\x0D\x0E\x0F\x10\x11\x12\x13\x14\x15\x16\x17\x18\x19\x1A\x1B\x1C\x1D\x1E\x1F\x20\x21\x22\x23\x24",
-    );
+    )?;
     check(
+        rt,
         0x555555,
         b"\xFF\xFF\xFF\xFF\xFF\xFF\xFF\xFF\xFF\xFF\xFF\xFF\xFF\xFF\xFF\xFF\xFF\xFF\xFF\xFF\xFF\xFF\xFF\xFF\xFF\xFF\xFF\xFF\xFF\xFF\xFF\xFF\xFF\xFF\xFF\xFF\xFF\xFF\xFF",
-    );
-    check(0x563412, b"\x03\x01");
-    check(0x123456, &[0u8; 0]);
+    )?;
+    check(rt, 0x563412, b"\x03\x01")?;
+    check(rt, 0x123456, &[0u8; 0])
 }
 
 // Document 01's row; the fourth has a bit off.
-fn on_advertising_channels() {
+fn on_advertising_channels(rt: &HostRuntime) -> io::Result<()> {
     flag(
+        rt,
         37,
         0x000000,
         b"\xCF\xDB\x56\xA3\x3E\xA3\x63\x76\x77\x30\x17\xD7\x41\xB5",
-    );
+    )?;
     flag(
+        rt,
         38,
         0xFFFFFF,
         b"\x94\xCC\x45\x22\x5A\xDA\xE4\x49\x19\xA4\xA9\xDD\xAC\x8C",
-    );
+    )?;
     flag(
+        rt,
         39,
         0x123456,
         b"\x5D\x3E\x4B\x5D\x86\xF2\x99\x5C\xC3\xD7\xC3\xDB\xF7\x9B",
-    );
+    )?;
     flag(
+        rt,
         38,
         0x000000,
         b"\x95\xCC\x45\x22\x5A\xDA\xE4\x49\x19\xA4\xA9\xDD\xAC\x8C",
-    );
+    )
 }
 
 // With the start value, with one above 24 bits, with another, with the CRC's octets swapped.
-fn on_data_channels() {
-    flag(10, 0x123456, b"\x97\xC1\xD6\xD2\xDB\x07");
-    flag(10, 0xFF123456, b"\x97\xC1\xD6\xD2\xDB\x07");
-    flag(10, 0x555555, b"\x97\xC1\xD6\xD2\xDB\x07");
-    flag(10, 0x123456, b"\x97\xC1\xD6\xE2\xDB\x37");
+fn on_data_channels(rt: &HostRuntime) -> io::Result<()> {
+    flag(rt, 10, 0x123456, b"\x97\xC1\xD6\xD2\xDB\x07")?;
+    flag(rt, 10, 0xFF123456, b"\x97\xC1\xD6\xD2\xDB\x07")?;
+    flag(rt, 10, 0x555555, b"\x97\xC1\xD6\xD2\xDB\x07")?;
+    flag(rt, 10, 0x123456, b"\x97\xC1\xD6\xE2\xDB\x37")
 }
 
 // The start value on 36 and on 37; a header that counts 63 octets; zeros.
-fn beside_37() {
-    flag(36, 0xABCDEF, b"\x45\x20\x21\x1D\x14");
-    flag(37, 0xABCDEF, b"\x8C\xD2\xFE\x45\xB2");
-    flag(37, 0xABCDEF, b"\x8C\xD2\x2F\x62\xC8");
+fn beside_37(rt: &HostRuntime) -> io::Result<()> {
+    flag(rt, 36, 0xABCDEF, b"\x45\x20\x21\x1D\x14")?;
+    flag(rt, 37, 0xABCDEF, b"\x8C\xD2\xFE\x45\xB2")?;
+    flag(rt, 37, 0xABCDEF, b"\x8C\xD2\x2F\x62\xC8")?;
     flag(
+        rt,
         37,
         0x000000,
         b"\xCF\xED\x57\xA1\x3D\xA7\x66\xB0\x75\x31\x11\x48\x96\x77\xF8\xE3\x46\xE9\xAB\xD0\x9E\x53\x33\xD8\xBA\x98\x08\x24\xCB\x3B\xFC\x71\xA3\xF4\x55\x68\xCF\xA9\x19\xFA\x0B\x62",
-    );
-    flag(0, 0x000000, b"\x40\xB2\xBC\xC3\x1F");
+    )?;
+    flag(rt, 0, 0x000000, b"\x40\xB2\xBC\xC3\x1F")
 }
 
 // Both sides of each limit.
-fn refused_flags() {
-    flag(40, 0x000000, &[0u8; 43]);
-    flag(40, 0x000000, &[0u8; 0]);
-    flag(39, 0x000000, &[0u8; 43]);
-    flag(0, 0x000000, &[0u8; 4]);
-    flag(0, 0x000000, &[0u8; 0]);
+fn refused_flags(rt: &HostRuntime) -> io::Result<()> {
+    flag(rt, 40, 0x000000, &[0u8; 43])?;
+    flag(rt, 40, 0x000000, &[0u8; 0])?;
+    flag(rt, 39, 0x000000, &[0u8; 43])?;
+    flag(rt, 0, 0x000000, &[0u8; 4])?;
+    flag(rt, 0, 0x000000, &[0u8; 0])
 }
 
-fn main() {
-    constants();
+fn main(rt: HostRuntime) -> io::Result<()> {
+    constants(&rt)?;
     for channel in 0..40u8 {
-        zeros(channel);
+        zeros(&rt, channel)?;
     }
-    limits();
-    check_values();
-    starts();
-    longest();
-    on_advertising_channels();
-    on_data_channels();
-    beside_37();
-    refused_flags();
+    limits(&rt)?;
+    check_values(&rt)?;
+    starts(&rt)?;
+    longest(&rt)?;
+    on_advertising_channels(&rt)?;
+    on_data_channels(&rt)?;
+    beside_37(&rt)?;
+    refused_flags(&rt)
 }
