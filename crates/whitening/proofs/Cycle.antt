@@ -7,7 +7,7 @@ use native.Mathlib.Nat.{mod-lt}
 use native.Mathlib.Omega.{arith}
 use borrow.Author.Tests.{ltb-true, ltb-false}
 use lib.Dec.{ltb}
-use lib.ListN.{length, get_or, replicate}
+use lib.ListN.{get_or, replicate}
 use lib.Seq.{ext_get_or}
 use Rattle.channels.specs.Count.{bit, count}
 use Rattle.whitening.specs.Bits.{bits, number, added, shifted}

@@ -4,8 +4,8 @@ use mathlib.Core.Bool.{Bool, false}
 use mathlib.Core.List.{List}
 use Prim.Native.Nat.{ℕ, ◌+◌, ◌%◌, ◌<◌}
 use native.Mathlib.Omega.{arith}
-use lib.ListN.{length, get_or}
-use Rattle.whitening.specs.Bits.{bits_of, octets_in_bits}
+use lib.ListN.{get_or}
+use Rattle.whitening.specs.Bits.{bits_of}
 use Rattle.whitening.specs.Kept.{period, cycle_bits, Follows, kept_cycle, kept_places, Kept}
 use Rattle.whitening.specs.Whitening.{register_on, leaving}
 use Rattle.whitening.proofs.Rows.{octets_of_length, part_is}

@@ -1,11 +1,10 @@
 -- The CRC as a number and as octets. Assumes nothing.
-use mathlib.Core.Path.{◌≡◌, refl, sym, ap, ap₂, subst, ◌∙◌}
+use mathlib.Core.Path.{◌≡◌, sym, ap, subst, ◌∙◌}
 use mathlib.Core.Bool.{Bool}
 use mathlib.Core.List.{List, [], ◌∷◌, reverse}
 use Prim.Native.Nat.{ℕ, ◌/◌, ◌%◌, ◌^◌, ◌<◌}
 use native.Mathlib.Omega.{arith}
 use lib.ListN.{length}
-use Rattle.octets.specs.Bytes.{le_bytes}
 use Rattle.whitening.specs.Bits.{bits, number, bits_of, octets_in_bits}
 use Rattle.whitening.specs.Crc.{crc_start, crc_after, crc_register, crc_of, crc_octets}
 use Rattle.whitening.specs.Number.{Register}

@@ -1,10 +1,8 @@
 -- Where whitening starts: the number that `channels` gives for an index is the register. Assumes nothing.
 use mathlib.Core.Path.{◌≡◌, sym, ap, ◌∙◌}
-use Prim.Native.Nat.{ℕ, ◌+◌, ◌/◌, ◌%◌}
+use Prim.Native.Nat.{ℕ, ◌/◌}
 use native.Mathlib.Omega.{arith}
 use Rattle.channels.specs.Phy.{index_of, whitening_start}
-use Rattle.channels.specs.declared.phy.AdvertisingChannel.{AdvertisingChannel}
-use Rattle.channels.specs.declared.phy.DataChannel.{DataChannel}
 use Rattle.whitening.specs.Bits.{bits, number}
 use Rattle.whitening.specs.Whitening.{register_on}
 use Rattle.whitening.specs.Laws.{Starts}

@@ -6,7 +6,6 @@ use Rattle.whitening.specs.Whitening.{whitening, whitened}
 use Rattle.whitening.specs.Crc.{crc_of, crc_octets}
 use Rattle.octets.specs.Error.{outcome_number}
 use Rattle.whitening.specs.Packet.{allowed, whiten_after, start_on, flag_of, flag_number}
-use Rattle.octets.specs.declared.error.Outcome.TheVariants as outcome
 use Rattle.whitening.specs.declared.packet.Flag.TheVariants as flag
 
 -- document 01's row 42 09 as it is sent
