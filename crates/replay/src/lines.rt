@@ -49,7 +49,8 @@ fn is_request(letter: u8) -> bool {
     match letter {
         b'a'..=b'e' => true,
         b'g'..=b'i' => true,
-        b'k'..=b't' => true,
+        b'k'..=b'n' => true,
+        b'p'..=b't' => true,
         b'w'..=b'z' => true,
         _ => false,
     }
@@ -58,7 +59,7 @@ fn is_request(letter: u8) -> bool {
 // How many octets a request has at least.
 fn least(letter: u8) -> usize {
     match letter {
-        b'i' | b'l' | b'o' | b'r' | b't' | b'z' => 1,
+        b'i' | b'l' | b'r' | b't' | b'z' => 1,
         b'c' => 3,
         b'w' => 4,
         b'g' | b'm' => 5,

@@ -21,11 +21,6 @@
 //     x                                  a stop
 //     y records                          scan data to set
 //     k address 7, room, records         a beacon, made and sent
-//     o 00, company 2                    a new turn book, for the calls that follow
-//     o 01, address 7                    a seat in the book
-//     o 02, address 7, area              a report to the book
-//     o 03, times 2                      the open turn closed, so many times, or once without that: the last answer
-//     o 04, number 2                     a seat read: its address, its open move, its closed move; the open turn, the company
 //     c CRC, header 2, payload           a scanner that reports all senders: the sender, records and octets that they took, the whole area
 //     #                                  a remark: anything may stand after it. Its answer is the letter alone, as of `n`
 //
@@ -58,7 +53,6 @@ use advertising::pdu::{ConnectRequestData, Pdu};
 use advertising::pdu_buf::{Built, PduBuf};
 use answers::given::structure;
 use beacon::beacon::{Beacon, BeaconScanner, Broadcast, Report, Scanned};
-use book::{Book, BookCalled, Move, SeatCalled};
 use channels::channel_map::ChannelMap;
 use channels::connection::{Hop, hop_channel};
 use channels::phy::{AdvertisingChannel, AllChannels, DataChannel, Found};
@@ -591,17 +585,10 @@ fn call(d: Device, letter: u8, s: &[u8], lent: &mut [u8]) -> Called {
 
 // Requests
 
-// What calls are made on: the device of `n`, and the book of `o`.
-#[derive(Clone, Copy)]
-struct Held {
-    device: Device,
-    book: Book,
-}
-
-// What is held after a request, and the place after the answer.
+// The device after a request, and the place after the answer.
 #[derive(Clone, Copy)]
 struct Step {
-    held: Held,
+    device: Device,
     at: usize,
 }
 
@@ -676,113 +663,17 @@ fn take_call(
     rt: &HostRuntime,
     out: &mut Page,
     at: usize,
-    h: Held,
+    d: Device,
     letter: u8,
     s: &[u8],
     lent: &mut [u8],
 ) -> Step {
-    let called = call(h.device, letter, s, lent);
+    let called = call(d, letter, s, lent);
     let a = called.answer;
     let device = called.device;
-    let book = h.book;
     Step {
-        held: Held { device, book },
+        device,
         at: answer(rt, out, at, a),
-    }
-}
-
-// Calls on the book
-
-fn seating(rt: &HostRuntime, out: &mut Page, at: usize, o: Outcome, seat: usize) -> usize {
-    match o {
-        Outcome::Accepted => labelled(rt, out, at, Word::Seat, seat as u64),
-        Outcome::Refused(e) => refused(rt, out, at, e),
-    }
-}
-
-fn played(rt: &HostRuntime, out: &mut Page, at: usize, word: Word, m: Move) -> usize {
-    let all = m.octets;
-    let next = say(rt, out, at, word);
-    octets(rt, out, next, start(&all, m.len))
-}
-
-fn seated(rt: &HostRuntime, out: &mut Page, at: usize, b: Book, n: usize) -> usize {
-    let seat = b.read_seat(n);
-    if seat.is_filled {
-        return address(rt, out, at, seat.address);
-    }
-    say(rt, out, at, Word::Nothing)
-}
-
-fn seat_read(rt: &HostRuntime, out: &mut Page, at: usize, b: Book, n: usize) -> usize {
-    let mut next = seated(rt, out, at, b, n);
-    next = played(rt, out, next, Word::Open, b.open_move(n));
-    next = played(rt, out, next, Word::Closed, b.closed_move(n));
-    next = labelled(rt, out, next, Word::Turn, b.open_turn() as u64);
-    labelled(rt, out, next, Word::Company, b.company() as u64)
-}
-
-// A book after a call, and the place after the answer.
-#[derive(Clone, Copy)]
-struct Booked {
-    book: Book,
-    at: usize,
-}
-
-fn take_seat(rt: &HostRuntime, out: &mut Page, at: usize, called: SeatCalled) -> Booked {
-    let o = called.outcome;
-    let book = called.book;
-    Booked {
-        book,
-        at: seating(rt, out, at, o, called.seat),
-    }
-}
-
-fn take_called(rt: &HostRuntime, out: &mut Page, at: usize, called: BookCalled) -> Booked {
-    let o = called.outcome;
-    let book = called.book;
-    Booked {
-        book,
-        at: outcome(rt, out, at, o),
-    }
-}
-
-// Closes the open turn, `times` times but once at least.
-fn close_turns(b: Book, times: u16) -> BookCalled {
-    let mut called = b.close();
-    let mut left = times;
-    while 1 < left {
-        left -= 1;
-        let book = called.book;
-        called = book.close();
-    }
-    called
-}
-
-fn take_book(rt: &HostRuntime, out: &mut Page, at: usize, b: Book, s: &[u8]) -> Booked {
-    let n = u16_from_le_bytes(octet(s, 1), octet(s, 2));
-    match octet(s, 0) {
-        0 => Booked {
-            book: Book::new(n),
-            at,
-        },
-        1 => take_seat(rt, out, at, b.seat(address_in(rest(s, 1)))),
-        2 => take_called(rt, out, at, b.report(address_in(rest(s, 1)), rest(s, 8))),
-        3 => take_called(rt, out, at, close_turns(b, n)),
-        _ => Booked {
-            book: b,
-            at: seat_read(rt, out, at, b, n as usize),
-        },
-    }
-}
-
-fn take_on_book(rt: &HostRuntime, out: &mut Page, at: usize, h: Held, s: &[u8]) -> Step {
-    let device = h.device;
-    let booked = take_book(rt, out, at, h.book, s);
-    let book = booked.book;
-    Step {
-        held: Held { device, book },
-        at: booked.at,
     }
 }
 
@@ -790,29 +681,22 @@ fn take(
     rt: &HostRuntime,
     out: &mut Page,
     at: usize,
-    h: Held,
+    d: Device,
     letter: u8,
     s: &[u8],
     lent: &mut [u8],
 ) -> Step {
     if is_call(letter) {
-        return take_call(rt, out, at, h, letter, s, lent);
-    }
-    if letter == b'o' {
-        return take_on_book(rt, out, at, h, s);
+        return take_call(rt, out, at, d, letter, s, lent);
     }
     if letter == b'n' {
-        let book = h.book;
         return Step {
-            held: Held {
-                device: Device::new(address_in(s)),
-                book,
-            },
+            device: Device::new(address_in(s)),
             at,
         };
     }
     Step {
-        held: h,
+        device: d,
         at: ask(rt, out, at, letter, s, lent),
     }
 }
@@ -839,24 +723,24 @@ fn take_and_show(
     rt: &HostRuntime,
     out: &mut Page,
     at: usize,
-    h: Held,
+    d: Device,
     letter: u8,
     s: &[u8],
     lent: &mut [u8],
 ) -> Step {
-    let step = take(rt, out, at, h, letter, s, lent);
-    let held = step.held;
+    let step = take(rt, out, at, d, letter, s, lent);
+    let device = step.device;
     Step {
-        held,
+        device,
         at: show_lent(rt, out, step.at, letter, lent),
     }
 }
 
-fn serve(rt: &HostRuntime, out: &mut Page, at: usize, h: Held, letter: u8, s: &[u8]) -> Step {
+fn serve(rt: &HostRuntime, out: &mut Page, at: usize, d: Device, letter: u8, s: &[u8]) -> Step {
     let mut lent = [0xFFu8; 320];
     let room = room_of(octet(s, room_at(letter)));
     let next = put(rt, out, at, letter);
-    take_and_show(rt, out, next, h, letter, s, &mut lent[..room])
+    take_and_show(rt, out, next, d, letter, s, &mut lent[..room])
 }
 
 // Lines
@@ -881,10 +765,10 @@ fn wrong(rt: &HostRuntime, out: &mut Page, at: usize, n: u64, fault: Fault) -> u
     text(rt, out, next, &words)
 }
 
-// Where a run stands: what is held, the line that is read, how many lines are answered, and the place in the output.
+// Where a run stands: the device, the line that is read, how many lines are answered, and the place in the output.
 #[derive(Clone, Copy)]
 struct Run {
-    held: Held,
+    device: Device,
     line: Line,
     lines: u64,
     at: usize,
@@ -895,16 +779,16 @@ fn answer_line(
     rt: &HostRuntime,
     out: &mut Page,
     at: usize,
-    h: Held,
+    d: Device,
     line: Asked,
     n: u64,
     args: &[u8; 320],
 ) -> Step {
     match line {
-        Asked::Nothing => Step { held: h, at },
-        Asked::Request(letter, count) => serve(rt, out, at, h, letter, start(args, count)),
+        Asked::Nothing => Step { device: d, at },
+        Asked::Request(letter, count) => serve(rt, out, at, d, letter, start(args, count)),
         Asked::Wrong(fault) => Step {
-            held: h,
+            device: d,
             at: wrong(rt, out, at, n, fault),
         },
     }
@@ -913,12 +797,12 @@ fn answer_line(
 // The line ends.
 fn end_line(rt: &HostRuntime, run: Run, args: &[u8; 320], out: &mut Page) -> Run {
     let n = wrapping_add_u64(run.lines, 1);
-    let before = run.held;
+    let before = run.device;
     let line = run.line;
     let step = answer_line(rt, out, run.at, before, ended(line), n, args);
-    let held = step.held;
+    let device = step.device;
     Run {
-        held,
+        device,
         line: Line::Start,
         lines: n,
         at: put(rt, out, step.at, b'\n'),
@@ -934,11 +818,11 @@ fn go_on(
     args: &mut [u8; 320],
     out: &mut Page,
 ) -> Run {
-    let held = run.held;
+    let device = run.device;
     let before = run.line;
     let line = read_on(before, s, args);
     let read = Run {
-        held,
+        device,
         line,
         lines: run.lines,
         at: run.at,
@@ -979,10 +863,10 @@ fn take_in(rt: &HostRuntime, run: Run, s: &[u8], args: &mut [u8; 320], out: &mut
 
 // The run goes on from a place in the output.
 fn placed(run: Run, at: usize) -> Run {
-    let held = run.held;
+    let device = run.device;
     let line = run.line;
     Run {
-        held,
+        device,
         line,
         lines: run.lines,
         at,
@@ -1030,10 +914,7 @@ fn next_turn(
 fn new_run() -> Run {
     let address = DeviceAddress::new([0, 0, 0, 0, 0, 0], AddressKind::Public);
     Run {
-        held: Held {
-            device: Device::new(address),
-            book: Book::new(0),
-        },
+        device: Device::new(address),
         line: Line::Start,
         lines: 0,
         at: 0,

@@ -3,12 +3,13 @@
 // A read or a write that fails ends the run. Nothing is written after it but a line on standard error.
 #![tactic(auto)]
 
-ghost use Rattle.std.specs.Prelude.{◌≡◌, false, ◌+◌, ◌≤◌, length};
+ghost use Rattle.std.specs.Prelude.{◌≡◌, true, false, ◌+◌, ◌≤◌, length};
 
 use club::Club;
-use descriptors::{Moved, read_more, write_out};
-use libc::{STDERR_FILENO, STDIN_FILENO, STDOUT_FILENO};
+use hub_io::{read_more, write_out};
 use octets::bytes::u16_from_le_bytes;
+use std::io::{Read, Write};
+use std::{env, io};
 
 // The octets of the company number, and the highest that begins an item.
 const COMPANY: usize = 2;
@@ -33,54 +34,88 @@ struct Served {
     is_failed: bool,
 }
 
-fn usage() {
-    io::write_all(
-        STDERR_FILENO,
-        b"usage: turnbook < INPUT > LINES\nturnbook takes no argument. It reads a club's input from standard input and prints the lines of its book to standard output.\n",
-    );
+// How many octets a buffer holds after a read, and whether it failed.
+#[derive(Clone, Copy)]
+struct Moved {
+    upto: usize,
+    is_failed: bool,
 }
 
-// Reads to `buf` from `kept` on, or says that it failed.
-fn read_on(input: i32, buf: &mut [u8], kept: usize) -> Moved
+fn usage(rt: &HostRuntime) -> io::Result<()> {
+    eprintln!(rt; "usage: turnbook < INPUT > LINES")?;
+    eprintln!(rt;
+        "turnbook takes no argument. It reads a club's input from standard input and prints the lines of its book to standard output."
+    )
+}
+
+// Nothing is read: `buf` holds so many octets.
+fn unread(kept: usize) -> Moved
+    ensures { (result.upto ≡ kept) × (result.is_failed ≡ true) }
+{
+    Moved {
+        upto: kept,
+        is_failed: true,
+    }
+}
+
+// Reads to `buf` from `kept` on, or says that it failed. Where there is no room, it fails and nothing is read.
+fn read_on<R: Read>(rt: &HostRuntime, input: &mut R, buf: &mut [u8], kept: usize) -> Moved
     ensures { (kept ≤ result.upto) × (result.is_failed ≡ false → result.upto ≤ length buf.old) }
 {
-    let read = read_more(input, buf, kept);
-    if read.is_failed {
-        os::fail(b"turnbook: reading failed");
+    if buf.len() <= kept {
+        return unread(kept);
     }
-    read
+    match read_more(input, buf, kept) {
+        Ok(upto) => Moved {
+            upto,
+            is_failed: false,
+        },
+        Err(e) => {
+            let _told = eprintln!(rt; "turnbook: reading failed: {e}");
+            unread(kept)
+        }
+    }
 }
 
 // Reads until the company number is there, or the input has ended.
-fn read_company(input: i32, buf: &mut [u8]) -> Moved
+fn read_company<R: Read>(rt: &HostRuntime, input: &mut R, buf: &mut [u8]) -> Moved
     ensures { result.is_failed ≡ false → result.upto ≤ length buf.old }
 {
-    let mut read = read_on(input, buf, 0);
+    let read = read_on(rt, input, buf, 0);
     if read.is_failed {
         return read;
     }
     if read.upto == 1 {
-        read = read_on(input, buf, 1);
+        return read_on(rt, input, buf, 1);
     }
     read
 }
 
 // Writes s, or says that it failed.
-fn write_on(output: i32, s: &[u8]) -> bool {
-    let moved = write_out(output, s);
-    if moved.is_failed {
-        os::fail(b"turnbook: writing failed");
+fn write_on<W: Write>(rt: &HostRuntime, output: &mut W, s: &[u8]) -> bool {
+    let mut done = 0;
+    match write_out(rt, output, s, &mut done) {
+        Ok(()) => false,
+        Err(e) => {
+            let _told = eprintln!(rt; "turnbook: writing failed: {e}");
+            true
+        }
     }
-    moved.is_failed
 }
 
 // Takes the items at the front of s, as many as there is room for lines in `out`, and writes their lines.
-fn print_some(output: i32, club: Club, s: &[u8], out: &mut [u8]) -> Printed
+fn print_some<W: Write>(
+    rt: &HostRuntime,
+    output: &mut W,
+    club: Club,
+    s: &[u8],
+    out: &mut [u8],
+) -> Printed
     ensures { result.taken ≤ length s.now }
 {
     let done = club.take_items(s, out);
     let written = done.written;
-    let is_failed = write_on(output, &out[..written]);
+    let is_failed = write_on(rt, output, &out[..written]);
     let club = done.club;
     Printed {
         club,
@@ -90,13 +125,19 @@ fn print_some(output: i32, club: Club, s: &[u8], out: &mut [u8]) -> Printed
 }
 
 // The same, gone on with until no whole item stands at the front of what is left.
-fn print(output: i32, club: Club, s: &[u8], out: &mut [u8]) -> Printed
+fn print<W: Write>(
+    rt: &HostRuntime,
+    output: &mut W,
+    club: Club,
+    s: &[u8],
+    out: &mut [u8],
+) -> Printed
     ensures { result.taken ≤ length s.now }
 {
     let mut club = club;
     let mut at = 0;
     while at < s.len() {
-        let printed = print_some(output, club, &s[at..], out);
+        let printed = print_some(rt, output, club, &s[at..], out);
         club = printed.club;
         at += printed.taken;
         if printed.is_failed {
@@ -139,17 +180,24 @@ fn keep(buf: &mut [u8], from: usize, end: usize) -> usize
 }
 
 // Writes the last line, where `left` octets are left over.
-fn end(output: i32, club: Club, left: usize) {
+fn end<W: Write>(rt: &HostRuntime, output: &mut W, club: Club, left: usize) {
     let last = club.last_line(left);
-    write_on(output, &last);
+    write_on(rt, output, &last);
 }
 
 // Takes the items in the first `filled` octets and writes their lines. What is left over of them stands at the front then.
-fn serve_block(output: i32, club: Club, buf: &mut [u8], filled: usize, out: &mut [u8]) -> Served
+fn serve_block<W: Write>(
+    rt: &HostRuntime,
+    output: &mut W,
+    club: Club,
+    buf: &mut [u8],
+    filled: usize,
+    out: &mut [u8],
+) -> Served
     requires { filled ≤ length buf.old }
     ensures { result.left ≤ length buf.old }
 {
-    let printed = print(output, club, &buf[..filled], out);
+    let printed = print(rt, output, club, &buf[..filled], out);
     let club = printed.club;
     let left = keep(buf, printed.taken, filled);
     Served {
@@ -160,7 +208,15 @@ fn serve_block(output: i32, club: Club, buf: &mut [u8], filled: usize, out: &mut
 }
 
 // Takes the items of the first `start` octets and of those that are read after them, and writes the last line at the end.
-fn serve(input: i32, output: i32, fresh: Club, buf: &mut [u8], start: usize, out: &mut [u8])
+fn serve<R: Read, W: Write>(
+    rt: &HostRuntime,
+    input: &mut R,
+    output: &mut W,
+    fresh: Club,
+    buf: &mut [u8],
+    start: usize,
+    out: &mut [u8],
+)
     requires { start ≤ length buf.old }
 {
     let mut club = fresh;
@@ -168,52 +224,53 @@ fn serve(input: i32, output: i32, fresh: Club, buf: &mut [u8], start: usize, out
     let mut rounds = u64::MAX;
     while 0 < rounds {
         rounds -= 1;
-        let served = serve_block(output, club, buf, filled, out);
+        let served = serve_block(rt, output, club, buf, filled, out);
         if served.is_failed {
             return;
         }
         club = served.club;
         let left = served.left;
         if is_stuck(&buf[..left]) {
-            end(output, club, left);
+            end(rt, output, club, left);
             return;
         }
-        let read = read_on(input, buf, left);
+        let read = read_on(rt, input, buf, left);
         if read.is_failed {
             return;
         }
         filled = read.upto;
         if filled == left {
-            end(output, club, left);
+            end(rt, output, club, left);
             return;
         }
     }
 }
 
-fn main() {
-    if 1 < os::arg_count() {
-        usage();
-        return;
+fn main(rt: HostRuntime) -> io::Result<()> {
+    if 1 < env::args(&rt)?.count() {
+        return usage(&rt);
     }
-    let mut buf = io::large_buffer();
-    let read = read_company(STDIN_FILENO, &mut buf);
+    let mut input = rt.stdin();
+    let mut buf = [0u8; 65536];
+    let read = read_company(&rt, &mut input, &mut buf);
     if read.is_failed {
-        return;
+        return Ok(());
     }
     let start = read.upto;
     if start < COMPANY {
-        io::write_all(STDERR_FILENO, b"turnbook: no company number\n");
-        return;
+        return eprintln!(rt; "turnbook: no company number");
     }
     let club = Club::new(u16_from_le_bytes(buf[0], buf[1]));
     let filled = keep(&mut buf, COMPANY, start);
-    let mut out = io::large_buffer();
+    let mut out = [0u8; 65536];
     serve(
-        STDIN_FILENO,
-        STDOUT_FILENO,
+        &rt,
+        &mut input,
+        &mut rt.stdout(),
         club,
         &mut buf,
         filled,
         &mut out,
     );
+    Ok(())
 }
