@@ -178,8 +178,8 @@ fn put_raw(len: u8, ty: u8, own: &[u8], data: &[u8], at: usize, out: &mut [u8])
     let end = mid + data.len();
     out[at] = len;
     out[at + 1] = ty;
-    bytes::copy(own, &mut out[after_type..mid]);
-    bytes::copy(data, &mut out[mid..end]);
+    out[after_type..mid].copy_from_slice(own);
+    out[mid..end].copy_from_slice(data);
 }
 
 // Writes a record whose lent data are given, where these may be written.
