@@ -25,8 +25,7 @@ pub struct CrcOctets {
 }
 
 // The number of a refusal, or 0.
-#[unsafe(no_mangle)]
-pub extern "C" fn board_whiten(channel: u8, packet: &mut [u8]) -> u8
+pub fn board_whiten(channel: u8, packet: &mut [u8]) -> u8
     ensures { (result ≡ outcome_number (whiten_of channel packet.old)) × (packet.new ≡ whiten_after channel packet.old) }
 {
     match whiten(channel, packet) {
@@ -35,15 +34,13 @@ pub extern "C" fn board_whiten(channel: u8, packet: &mut [u8]) -> u8
     }
 }
 
-#[unsafe(no_mangle)]
-pub extern "C" fn board_crc(start: u32, octets: &[u8]) -> u32
+pub fn board_crc(start: u32, octets: &[u8]) -> u32
     ensures { result ≡ crc_of start octets.now }
 {
     crc(start, octets)
 }
 
-#[unsafe(no_mangle)]
-pub extern "C" fn board_crc_octets(start: u32, octets: &[u8]) -> CrcOctets
+pub fn board_crc_octets(start: u32, octets: &[u8]) -> CrcOctets
     ensures { result.octets ≡ crc_octets start octets.now }
 {
     CrcOctets {
@@ -51,8 +48,7 @@ pub extern "C" fn board_crc_octets(start: u32, octets: &[u8]) -> CrcOctets
     }
 }
 
-#[unsafe(no_mangle)]
-pub extern "C" fn board_crc_flag(channel: u8, start: u32, packet: &[u8]) -> FlagSaid
+pub fn board_crc_flag(channel: u8, start: u32, packet: &[u8]) -> FlagSaid
     ensures { result ≡ flag_said (flag_of channel start packet.now) }
 {
     match crc_flag(channel, start, packet) {
