@@ -173,7 +173,7 @@ module _ (reading : Reading) (h : Header) (p : Bor (List ℕ)) where
       let at : AdvData = record { start = 6; len = length records; count = n } in
       subst Lies (ap (λ (x : Decoded). x.pdu.adv_data) (sym e)) (record {
         octets = ap (λ (k : ℕ). part_or (length records) p.now k) (sym size) ∙ part.0 ∙ sym (behind fig);
-        place = ap (λ (k : ℕ). part_place (length records) p k) (sym size) ∙ part.1 ∙ ap (λ (k : ℕ). (p.ptr.0, p.ptr.1 + k)) size;
+        place = ap (λ (k : ℕ). part_place (length records) p k) (sym size) ∙ part.1 ∙ ap (λ (k : ℕ). (p.ref_ptr.0, p.ref_ptr.1 + k)) size;
       })
   lies d allows (two_addresses ty first second further is (inl which) fig e) =
       let none : allows_adv_data AdvDirectInd ≡ true = ap allows_adv_data (sym (is ∙ which)) ∙ allows in

@@ -1,5 +1,5 @@
 -- Payloads in 37 octets: what is placed after what stands there, and records rewritten after it. Assumes nothing.
-use Rattle.std.proofs.Common.{◌≡◌, ℕ, ◌+◌, ◌-◌, ◌≤◌, Bool, true, false, ltb, List, [], ◌++◌, length, take, drop, replicate, sym, refl, ap, ◌∙◌, append_assoc, zero-add, arith, length-append, length-take-le, take_at, drop_at, ltb-false}
+use Rattle.std.proofs.Common.{◌≡◌, ℕ, ◌+◌, ◌-◌, ◌≤◌, Bool, true, false, ltb, List, [], ◌++◌, length, take, drop, replicate, sym, refl, ap, ◌∙◌, append_assoc, zero-add, arith, length-append, length-drop, length-take-le, take_at, drop_at, ltb-false}
 use lib.ListN.{length-replicate}
 use lib.Seq.{drop-append-add}
 use Rattle.octets.specs.Bytes.{out_after}
@@ -51,6 +51,13 @@ inside s out {next} = go (read_area s)
     go : (a : Area) → checked_to (may_rewrite a s out) (rewritten s) 0 ≡ written.To next → next.at ≤ length out
     go (area.Accepted n) is = fits n (ltb (length out) (length s)) refl is
     go (area.Refused e) is = let z : ◌≡◌ {A = ℕ} 0 1 = cc in absurd (omega arith)
+
+-- and so within the payload
+pub ends : (front s : List ℕ) (start : ℕ) {w : Written} {next : ByteWriter} → length front ≡ 37 → start ≤ 9 → w ≡ rewritten_to s (drop start front) → w ≡ written.To next
+    → start + next.at ≤ 37
+ends front s start long low is wrote =
+    let space = inside s (drop start front) (sym is ∙ wrote) in
+    omega (arith, space, length-drop start front)
 
 -- the PDU whose payload is l, where records were written up to a position after n octets, or why there is none
 abbrev pub from_written : PduType → Bool → ℕ → List ℕ → Written → Built

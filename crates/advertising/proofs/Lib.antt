@@ -5,6 +5,7 @@ pub mod Building
 pub mod Examples
 pub mod Figures
 pub mod Padded
+pub mod Payloads
 pub mod Refusals
 pub mod Table
 pub mod Holding

@@ -1,14 +1,14 @@
 -- What the hub's decoder finds: `heard`; where it answers as the general one does: `alike`; worked values: `rows`. Assumes nothing.
-use Rattle.std.proofs.Common.{◌≡◌, ℕ, ◌+◌, ◌-◌, ◌≤◌, Bool, true, false, cond, ◌&&◌, eqb, ltb, leb, List, [], ◌∷◌, length, take, drop, sym, refl, ap, ◌∙◌, ap₂, arith, length-drop, length-take-le, take_all, le-ltb, lt-ltb, eq-eqb, ne_eqb, le-leb, leb-false, leb-true}
+use Rattle.std.proofs.Common.{◌≡◌, ℕ, ◌-◌, ◌≤◌, Bool, true, false, cond, ◌&&◌, eqb, ltb, leb, List, [], length, drop, sym, refl, ap, ◌∙◌, ap₂, arith, length-drop, length-take-le, take_all, le-ltb, lt-ltb, eq-eqb, ne_eqb, le-leb, leb-false, leb-true}
 use mathlib.Core.List.{flatten}
 use borrow.Author.Tests.{lt-leb}
 use Rattle.octets.proofs.Places.{both_true, enough}
 use Rattle.octets.specs.declared.error.Error.{Error}
-use Rattle.octets.specs.declared.error.Error.TheVariants.{Eof, InvalidLength}
+use Rattle.octets.specs.declared.error.Error.TheVariants.{InvalidLength}
 use Rattle.records_spec.proofs.HubReads.{differs, without_size, before, took}
 use Rattle.records_spec.specs.Area.{cut, reads, with_first, area_of, read_area}
 use Rattle.records_spec.specs.HubReading.{before_zero, unpadded, is_zeros, ended_by, read_padded, area_in}
-use Rattle.records_spec.specs.Record.{flags_read, uuids_read, data_read, up_to, record_read, first}
+use Rattle.records_spec.specs.Record.{flags_read, data_read, up_to, record_read, first}
 use Rattle.flags.specs.Flags.{named}
 use Rattle.records_spec.specs.declared.area.Area.{Area}
 use Rattle.records_spec.specs.declared.area.Area.TheVariants as area

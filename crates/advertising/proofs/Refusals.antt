@@ -13,7 +13,6 @@ use Rattle.addresses.specs.declared.header.PduType.{PduType}
 use Rattle.addresses.specs.declared.header.PduType.TheVariants.{AdvInd, AdvDirectInd, AdvNonconnInd, AdvScanInd, ScanReq, ScanRsp, ConnectReq, Unknown}
 use Rattle.octets.proofs.Places.{enough, too_few}
 use Rattle.octets.specs.Error.{number_of, outcome_number}
-use Rattle.octets.specs.declared.error.Error.{Error}
 use Rattle.records_spec.specs.Area.{cut, reads, with_first, area_of, read_area}
 use Rattle.records_spec.specs.Record.{first, flags_read, data_read, up_to, record_read}
 use Rattle.flags.specs.Flags.{named}
@@ -93,6 +92,7 @@ module _ (n : ℕ) (p : List ℕ) where
   has_records (there (here e)) = record { code = 2; type = AdvNonconnInd; is = e; named = codes.code_2; allows = refl }
   has_records (there (there (here e))) = record { code = 4; type = ScanRsp; is = e; named = codes.code_4; allows = refl }
   has_records (there (there (there (here e)))) = record { code = 6; type = AdvScanInd; is = e; named = codes.code_6; allows = refl }
+  has_records (there (there (there (there e)))) = elim e [ ]
 
   -- the number, from what the area is read as
   of_area : (k : ℕ) (a : Area) → n / 256 % 64 ≡ length p → Mem (n % 16) (0 ∷ 2 ∷ 4 ∷ 6 ∷ []) → 6 ≤ length p → read_area (drop 6 p) ≡ a
@@ -111,6 +111,7 @@ module _ (n : ℕ) (p : List ℕ) where
   further counts long (here e) = by 1 AdvDirectInd 0 counts e codes.code_1 (let size : 12 ≤ length p = rw e at long in rw (le-ltb (length p) 12 size))
   further counts long (there (here e)) = by 3 ScanReq 0 counts e codes.code_3 (let size : 12 ≤ length p = rw e at long in rw (le-ltb (length p) 12 size))
   further counts long (there (there (here e))) = by 5 ConnectReq 0 counts e codes.code_5 (let size : 34 ≤ length p = rw e at long in rw (le-ltb (length p) 34 size))
+  further counts long (there (there (there e))) = elim e [ ]
 
   pub order : Order n p
   unfolding with_area

@@ -33,7 +33,7 @@
 --   heard_of h p                          == the answer where records are read as the hub does: zeros may follow them (document 02, Note 3)
 --   octets_taken d p                      == how many octets the records take of the part d of a payload
 --   padded_of h p                         == what is heard, and how many octets its records took
-use Rattle.std.specs.Prelude.{ℕ, ◌+◌, ◌-◌, ◌*◌, ◌/◌, ◌%◌, Bool, true, false, cond, ◌&&◌, List, [], ◌∷◌, ◌++◌, length, take, drop, ◌==◌, nat_le, nat_lt, slice_index}
+use Rattle.std.specs.Prelude.{ℕ, ◌-◌, ◌*◌, ◌/◌, ◌%◌, Bool, true, false, cond, ◌&&◌, List, [], ◌∷◌, ◌++◌, length, take, drop, ◌==◌, nat_le, nat_lt, slice_index}
 use Rattle.std.specs.Borrow.{Bor}
 use Rattle.octets.specs.Lists.{total}
 use Rattle.channels.specs.Map.{from_raw}

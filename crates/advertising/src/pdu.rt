@@ -167,6 +167,7 @@ impl Pdu {
 }
 
 // Types 0, 2, 4 and 6: an address, then records.
+#[tactic(auto, using(crate::proofs::Payloads::passed), unfolding(crate::specs::Pdu::undirected))]
 fn read_undirected(ty: PduType, header: Header, payload: &[u8]) -> Decoded
     ensures { result ≡ undirected read_area ty header payload.now }
 {
@@ -177,6 +178,7 @@ fn read_undirected(ty: PduType, header: Header, payload: &[u8]) -> Decoded
 }
 
 // An address, then records that were read so.
+#[tactic(auto, unfolding(crate::specs::Pdu::with_area))]
 fn with_area(ty: PduType, header: Header, payload: &[u8], area: Area) -> Decoded
     requires { 6 ≤ length payload.now }
     ensures { result ≡ with_area ty header payload.now area }
@@ -234,6 +236,7 @@ fn read_padded(header: Header, payload: &[u8]) -> Padded
 }
 
 // Types 1 and 3: two addresses.
+#[tactic(auto, unfolding(crate::specs::Pdu::directed))]
 fn read_directed(ty: PduType, header: Header, payload: &[u8]) -> Decoded
     ensures { result ≡ directed ty header payload.now }
 {
@@ -253,6 +256,7 @@ fn read_directed(ty: PduType, header: Header, payload: &[u8]) -> Decoded
 }
 
 // Type 5: two addresses, then connection parameters.
+#[tactic(auto, unfolding(crate::specs::Pdu::connect_request))]
 fn read_connect_request(header: Header, payload: &[u8]) -> Decoded
     ensures { result ≡ connect_request header payload.now }
 {
