@@ -9,6 +9,7 @@ use lib.Dec.{eqb, leb}
 use lib.Seq.{drop-append_seam}
 use borrow.Author.Tests.{le-leb, leb-true, lt-ltb, ltb-true, eq-eqb, ne_eqb}
 use Rattle.channels.specs.Count.{count}
+use Rattle.channels.specs.declared.channel_map.ChannelMap.{ChannelMap}
 use Rattle.channels.specs.Map.{marked, marks, cleared, from_raw}
 use Rattle.octets.proofs.Places.{both_true}
 use Rattle.octets.specs.Bytes.{le}
@@ -131,6 +132,21 @@ least_kept =
       win_size_least = omega arith;
       win_size_most = omega arith;
       win_offset_most = omega arith;
+    }
+
+-- the settings as the code has them, of what a request l says
+pub are_in : (l : ConnectRequestData) {hop interval latency timeout winSize winOffset : ℕ} {chm : ChannelMap} → hop ≡ l.hop → chm ≡ l.chm → interval ≡ l.interval → latency ≡ l.latency
+    → timeout ≡ l.timeout → winSize ≡ l.win_size → winOffset ≡ l.win_offset
+    → settings_as hop chm (interval / 1250) latency (timeout / 10000) (winSize / 1250) (winOffset / 1250) ≡ settings_in l
+are_in l hop map interval latency timeout size offset = λ i.
+    record {
+      hop = hop i;
+      chm = map i;
+      interval = interval i / 1250;
+      latency = latency i;
+      timeout = timeout i / 10000;
+      win_size = size i / 1250;
+      win_offset = offset i / 1250;
     }
 
 -- what is answered for the settings of a request l

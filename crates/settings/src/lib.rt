@@ -145,6 +145,7 @@ fn refused(e: Error) -> Taken
 }
 
 // Whether counts are within the ranges.
+#[tactic(auto, unfolding(crate::specs::Settings::in_ranges))]
 fn in_ranges(
     hop: u8,
     channels: u8,
