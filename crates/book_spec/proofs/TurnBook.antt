@@ -15,7 +15,7 @@ use Rattle.addresses.specs.declared.device_address.DeviceAddress.{DeviceAddress}
 use Rattle.records_spec.specs.HubReading.{read_padded}
 use Rattle.records_spec.specs.declared.area.PaddedArea.{PaddedArea}
 use Rattle.records_spec.specs.declared.area.PaddedArea.TheVariants as padded
-use Rattle.book_spec.specs.Book.{empty_address, fresh_book, seats_of, seat_number, is_filled, address_at, open_at, closed_at, with_seat, not_seated, seat_call, taken, heard_as, report_call, next_turn, close_call, read_seat_call}
+use Rattle.book_spec.specs.Book.{empty_address, fresh_book, seats_of, seat_number, is_filled, address_at, open_at, closed_at, with_seat, not_seated, seat_call, heard_as, report_call, next_turn, close_call, read_seat_call}
 use Rattle.book_spec.specs.History.{BookCall, seat, report, close, read_seat, read_open, read_closed, read_turn, read_company, BookReply, seated, called, seat_is, move_is, number_is, next_book, reply_of, book_after, BookStanding, standing, entries}
 use Rattle.book_spec.specs.Moves.{no_move, move_heard}
 use Rattle.book_spec.specs.State.{Book, SeatCalled, BookCalled}
