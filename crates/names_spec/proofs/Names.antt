@@ -6,7 +6,7 @@ use native.Mathlib.Omega.{arith}
 use lib.Dec.{eqb}
 use lib.ListN.{length, length-append}
 use borrow.Author.Tests.{eqb-true, eq-eqb}
-use denote.Ref.{Bor, MutBor}
+use denote.Ref.{Bor}
 use Rattle.octets.specs.Bytes.{part_or, part_place}
 use Rattle.octets.specs.declared.error.Error.{Error}
 use Rattle.octets.specs.declared.error.Error.TheVariants.{NoName}
@@ -175,7 +175,7 @@ rows =
       bad_behind = refl;
     }
 
-pub part_rows : (x : MutBor (List ℕ)) → PartRows x
+pub part_rows : (x : Bor (List ℕ)) → PartRows x
 unfolding name_of after_area chosen in_reply in_advertisement name_in searched first_where is_name row_in utf8_after read_padded ended_by is_zeros unpadded before_zero flatten read_area area_of reads with_first cut first record_read data_read flags_read uuids_read up_to named
 part_rows x = record { first = refl; second = refl; third = refl; fourth = refl; nothing_in_it = refl; none = refl; bad = refl }
 

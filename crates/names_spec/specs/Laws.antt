@@ -21,7 +21,7 @@
 --   PartRows x                  (Names.part_rows)  worked values: what is handed on
 --   Holds                       (Names.holds)      all of these, of every two areas
 use Rattle.std.specs.Prelude.{true, List, [], ◌∷◌, ◌++◌, map, ◌≡◌, ℕ, ◌+◌, ◌<◌, length, replicate}
-use Rattle.std.specs.Borrow.{Bor, MutBor}
+use Rattle.std.specs.Borrow.{Bor}
 use Rattle.octets.specs.declared.error.Error.{Error}
 use Rattle.octets.specs.declared.error.Error.TheVariants.{Eof, InvalidLength, NoName}
 use Rattle.utf8.specs.Utf8.{is_utf8}
@@ -69,7 +69,7 @@ pub record Eleven (a r : List ℕ) : Type 0 where
   pub then : NoNames a r → name_of a r ≡ Refused NoName
 
 -- the data of the record that is found, in its own area and place
-pub record HandsOn (a r : MutBor (List ℕ)) : Type 0 where
+pub record HandsOn (a r : Bor (List ℕ)) : Type 0 where
   pub of_reply : (ty start len : ℕ) → name_of a.now r.now ≡ InReply start len → (n : Stands (Named ty) r.now start len)
       → (name_octets a.now r.now ≡ n.octets) × (name_from a r ≡ (r.ref_ptr.0, r.ref_ptr.1 + start))
   pub of_advertisement : (ty start len : ℕ) → name_of a.now r.now ≡ InAdvertisement start len → (n : Stands (Named ty) a.now start len)
@@ -144,7 +144,7 @@ pub record NameRows : Type 0 where
 
 -- octets that are lent at a place
 abbrev pub lent : Bor (List ℕ) → ℕ × ℕ → List ℕ → Bor (List ℕ)
-lent x at octets = record { ref_ptr = at; ghost_name = x.name; now = octets }
+lent x at octets = record { ref_ptr = at; now = octets }
 
 -- of an advertisement and a reply: where the name lies, and its octets
 abbrev pub handed_part : Bor (List ℕ) → List ℕ → List ℕ → (ℕ × ℕ) × List ℕ

@@ -8,7 +8,7 @@
 --   handed_from p a r, handed_on p a r       == where the octets lie that a place p names in the areas a and r, and these octets
 --   name_from a r, name_octets a r           == the same of the place that is found
 use Rattle.std.specs.Prelude.{Bool, ◌&&◌, List, [], ℕ, eqb, get_or, drop}
-use Rattle.std.specs.Borrow.{Bor, MutBor}
+use Rattle.std.specs.Borrow.{Bor}
 use Rattle.octets.specs.Bytes.{part_or, part_place}
 use Rattle.octets.specs.declared.error.Error.TheVariants.{NoName}
 use Rattle.utf8.specs.Utf8.{is_utf8}
@@ -58,14 +58,14 @@ name_of advertisement reply = after_area (read_padded advertisement) (after_area
 abbrev pub handed_from : NamePlace → Bor (List ℕ) → Bor (List ℕ) → ℕ × ℕ
 handed_from (place.InReply start len) advertisement reply = part_place len reply start
 handed_from (place.InAdvertisement start len) advertisement reply = part_place len advertisement start
-handed_from (place.Refused e) advertisement reply = advertisement.ptr
+handed_from (place.Refused e) advertisement reply = advertisement.ref_ptr
 
 abbrev pub handed_on : NamePlace → List ℕ → List ℕ → List ℕ
 handed_on (place.InReply start len) advertisement reply = part_or len reply start
 handed_on (place.InAdvertisement start len) advertisement reply = part_or len advertisement start
 handed_on (place.Refused e) advertisement reply = []
 
-abbrev pub name_from : MutBor (List ℕ) → MutBor (List ℕ) → ℕ × ℕ
+abbrev pub name_from : Bor (List ℕ) → Bor (List ℕ) → ℕ × ℕ
 name_from advertisement reply = handed_from (name_of advertisement.now reply.now) advertisement reply
 
 abbrev pub name_octets : List ℕ → List ℕ → List ℕ
