@@ -35,7 +35,7 @@ use Rattle.items.proofs.Falling.{falls}
 use Rattle.items.proofs.Items.{cut}
 use Rattle.items.specs.Item.{items, after_items, IsItem, tick, packet}
 use Rattle.hub_spec.specs.Line.{sent_columns, report_line, line, reports_in, line_size}
-use Rattle.hub_spec.specs.Log.{most_items, start, is_crc_good, heard_in, scanner_after, after_item, printed, after_all, printed_all, left_over, last_line, fresh_hub, items_for, log_of, is_stuck, hub_of, octets_left}
+use Rattle.hub_spec.specs.Log.{most_items, start, is_crc_good, heard_in, scanner_after, after_item, printed, after_all, printed_all, left_over, last_line, fresh_hub, items_for, log_of, is_stuck, hub_of}
 use Rattle.hub_spec.specs.Reported as spec
 use Rattle.hub_spec.specs.Reported.{report_widths, last_widths, line_each, IsReported, Prints, TickCount, ReportRows, Reported, Continued, Rowed, Added, Stopping}
 use Rattle.hub_spec.specs.State.{Hub}

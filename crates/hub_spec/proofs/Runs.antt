@@ -4,14 +4,14 @@ use mathlib.Core.Path.{◌≡◌, refl, sym, ap, ◌∙◌}
 use mathlib.Core.Logic.{⊎_elim}
 use mathlib.Core.Bool.{Bool, true, false, cond}
 use mathlib.Core.List.{List, [], ◌∷◌, ◌++◌, flatten}
-use Prim.Native.Nat.{ℕ, zero, suc, ◌+◌, ◌-◌, ◌*◌, ◌%◌, ◌<◌, ◌≤◌}
+use Prim.Native.Nat.{ℕ, zero, suc, ◌+◌, ◌-◌, ◌*◌, ◌<◌, ◌≤◌}
 use native.Mathlib.Omega.{arith}
-use lib.ListN.{length, get_or, take, drop, length-append, length-take}
+use lib.ListN.{length, get_or, drop, length-append, length-take}
 use lib.Dec.{leb, ltb, eqb}
 use Rattle.items.specs.Item.{payload_size, size_of, whole_size, items, after_items}
-use Rattle.items.proofs.Items.{none_whole, one_whole, at_front_law, whole_fits}
+use Rattle.items.proofs.Items.{none_whole, one_whole, at_front_law}
 use Rattle.hub_spec.specs.Line.{line_size, last_size}
-use Rattle.hub_spec.specs.Log.{most_items, heard_in, after_item, after_all, printed_all, items_for, lines_of, hub_of, octets_left, fresh_hub, last_line, log_of, is_last, block_lines, block_of, RunCounts}
+use Rattle.hub_spec.specs.Log.{most_items, after_item, after_all, printed_all, items_for, lines_of, hub_of, octets_left, fresh_hub, last_line, log_of, is_last, block_lines, RunCounts}
 use Rattle.hub_spec.specs.Reads.{Ended}
 use Rattle.hub_spec.specs.State.{Hub}
 use Rattle.hub_spec.proofs.AnyReads.{counted, lines_more, hub_more, rest_more, items_most, printed_size, rest_all, lines_go_on, lines_end, block_taken}

@@ -21,7 +21,7 @@
 --   rest_in h buf filled, lines_in h s out    == `buf` with what is left over at its front, and `out` with the lines of the items at its front
 --   taken_in, lines_after h buf filled isEnd out, rest_after h buf filled out == what `take_in` answers, and what it leaves in `out` and `buf`
 --   Sizes                       == how long lines are (Pieces.sizes)
-use Rattle.std.specs.Prelude.{◌≡◌, ℕ, ◌+◌, ◌-◌, ◌≤◌, Bool, true, false, cond, ◌&&◌, ◌||◌, length, take, drop, leb, ltb, eqb}
+use Rattle.std.specs.Prelude.{◌≡◌, ℕ, ◌+◌, ◌-◌, ◌≤◌, Bool, true, false, cond, ◌&&◌, ◌||◌, length, take, leb, ltb, eqb}
 use mathlib.Core.List.{List, [], ◌∷◌, ◌++◌, flatten}
 use Rattle.octets.specs.Bytes.{le, at_front}
 use Rattle.octets.specs.declared.time.Instant.{Instant}
