@@ -1,11 +1,10 @@
 -- What a start, a tick and an event answer, and the mode after any call: `start_sends`, `tick_sends`, `event_hops`, `mode_moves`. Assumes nothing.
 use mathlib.Core.Bool.{Bool, true, false, cond}
-use mathlib.Core.List.{List, [], ◌++◌}
-use mathlib.Core.Path.{◌≡◌, refl, sym, ap, ◌∙◌}
+use mathlib.Core.List.{List, ◌++◌}
+use mathlib.Core.Path.{◌≡◌, refl, ap, ◌∙◌}
 use Prim.Native.Nat.{ℕ, ◌+◌, ◌≤◌, ◌<◌}
 use native.Mathlib.Omega.{arith}
 use lib.ListN.{length, length-append}
-use Rattle.octets.proofs.Places.{enough, too_few}
 use Rattle.octets.specs.declared.time.Instant.{Instant}
 use Rattle.records_spec.proofs.RoundTrip.{round_trip}
 use Rattle.records_spec.specs.Area.{read_area}
@@ -36,7 +35,6 @@ use Rattle.channels.specs.declared.phy.AdvertisingChannel.TheVariants.{Channel38
 use Rattle.radio_spec.specs.Answering.{StartSends, TickSends, EventHops, mode_by, ModeMoves}
 use Rattle.radio_spec.specs.Calls.{instant, is_advertising, is_connected, refusal, sent, beginning, discoverable, started, is_for, listens, responds, settled, connects_to, addressed, set_to, hopped_to, start_of, tick_of, packet_of, event_of, hops}
 use Rattle.radio_spec.specs.Call.{Call, start, tick, packet, event, stop, set_scan_data}
-use Rattle.radio_spec.specs.Demand.{number_in}
 use Rattle.radio_spec.specs.declared.link.Answer.TheVariants.{Sent}
 use Rattle.radio_spec.specs.State.{State, Step, Advertisement}
 use Rattle.radio_spec.proofs.Steps.{hop_there}

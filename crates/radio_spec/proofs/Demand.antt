@@ -110,9 +110,19 @@ not_ours (foreign e) = simp (e, and-false)
 
 struck_same : (d : State) (c : Call) → Strikable d.dev_addr c → (call_of d c).state ≡ d
 struck_same d (packet end h p crc_good tx) s = unheard_same d end h p tx crc_good (not_ours s)
+struck_same d (start time interval records tx) s = elim s [ ]
+struck_same d (tick tx) s = elim s [ ]
+struck_same d event s = elim s [ ]
+struck_same d stop s = elim s [ ]
+struck_same d (set_scan_data records) s = elim s [ ]
 
 struck_scan : {own : DeviceAddress} (scan : List ℕ) (c : Call) → Strikable own c → scan_after scan c ≡ scan
 struck_scan scan (packet end h p crc_good tx) s = refl
+struck_scan scan (start time interval records tx) s = elim s [ ]
+struck_scan scan (tick tx) s = elim s [ ]
+struck_scan scan event s = elim s [ ]
+struck_scan scan stop s = elim s [ ]
+struck_scan scan (set_scan_data records) s = elim s [ ]
 
 module _ (own : DeviceAddress) where
   others_same : (scan : List ℕ) (d : State) {cs : List Call} (ch : Choice own cs) → Ours own scan d → traced scan d (remaining ch cs) ≡ remaining ch (traced scan d cs)

@@ -482,13 +482,13 @@ module _ (scan : List ℕ) (d : State) (sound : Sound scan d) where
 
 -- the address is kept, and so is what holds of a device
 pub address_kept : {scan : List ℕ} {d : State} {c : Call} {r : Step} → Happens scan d c r → r.state.dev_addr ≡ d.dev_addr
-address_kept (starts time interval records tx pdu ok made wrote) = refl
+address_kept (starts time interval records tx _ ok _ wrote) = refl
 address_kept (ticks tx m ok wrote) = refl
 address_kept (replies end header payload crc_good tx m scan_request k ok wrote) = refl
 address_kept (begins end header payload crc_good tx u channel m e ok ranges there low q) = refl
 address_kept (hopping u channel m there low ok) = refl
 address_kept stops = refl
-address_kept (sets records pdu ok made) = refl
+address_kept (sets records _ ok _) = refl
 address_kept (stays c s) = refl
 
 pub live_kept : {scan : List ℕ} {d : State} {c : Call} {r : Step} → (d.mode ≡ Connected → Live d.conn) → Happens scan d c r → r.state.mode ≡ Connected → Live r.state.conn

@@ -5,7 +5,7 @@
 --   EventHops d                             (Answering.event_hops)   an event is answered exactly while connected
 --   mode_by m a                              == the mode after a call that was answered a, in the mode m
 --   ModeMoves d c                           (Answering.mode_moves)   that is the mode of any device after any call
-use Rattle.std.specs.Prelude.{Bool, true, false, List, ◌≡◌, ℕ, ◌+◌, ◌%◌, ◌≤◌, ◌<◌, length}
+use Rattle.std.specs.Prelude.{false, List, ◌≡◌, ℕ, ◌+◌, ◌%◌, ◌≤◌, ◌<◌, length}
 use Rattle.octets.specs.Time.{later}
 use Rattle.octets.specs.declared.error.Error.TheVariants.{Eof, WrongMode}
 use Rattle.octets.specs.declared.time.Instant.{Instant}

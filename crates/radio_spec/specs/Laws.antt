@@ -17,7 +17,7 @@
 --   SetsScanData d                      (Replies.sets_scan_data)  which scan data are set, what that changes, and that no other call changes the reply
 --   HearsPacket d end h p crc_good tx    (Words.hears_packet)      what a packet call answers and writes
 --   Holds                               (Holding.holds)           all of these, with what they assume: demand 3, specs/Answering and specs/Examples too
-use Rattle.std.specs.Prelude.{Bool, true, false, List, [], ◌∷◌, ◌++◌, map, ◌⊎◌, ◌≡◌, ℕ, ◌+◌, ◌*◌, ◌%◌, ◌≤◌, ◌<◌, ◌^◌, length, drop}
+use Rattle.std.specs.Prelude.{Bool, true, false, List, [], ◌∷◌, ◌++◌, ◌⊎◌, ◌≡◌, ℕ, ◌+◌, ◌*◌, ◌%◌, ◌≤◌, ◌<◌, ◌^◌, length, drop}
 use Rattle.octets.specs.Bytes.{part, le, at_front}
 use Rattle.octets.specs.Time.{later}
 use Rattle.octets.specs.declared.error.Error.{Error}

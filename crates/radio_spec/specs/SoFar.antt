@@ -30,7 +30,6 @@ use Rattle.addresses.specs.declared.header.PduType.TheVariants.{AdvInd, AdvDirec
 use Rattle.advertising.specs.Pdu.{field_at, ll_data_figure, ll_data_in, request_of, decode_of, well_formed}
 use Rattle.settings.specs.Settings.{is_within, settings_in}
 use Rattle.radio_spec.specs.Calls.{is_advertising, is_connected, is_scan_request, is_for}
-use Rattle.radio_spec.specs.declared.link.Answer.TheVariants.{Refused}
 use Rattle.radio_spec.specs.declared.link.Mode.{Mode}
 use Rattle.radio_spec.specs.declared.link.Mode.TheVariants.{Standby, Advertising, Connected}
 use Rattle.radio_spec.specs.Call.{Call, start, tick, packet, event, stop, set_scan_data}
