@@ -25,6 +25,7 @@ pub fn filter(filtered: bool) -> AddressFilter
 }
 
 // A record. Its kinds are 1 to 9 in the order of `AdStructure`, any other is 9; `value` is the bits of Flags, a UUID, a company or a type.
+#[tactic(auto, unfolding(crate::specs::Given::structure_in))]
 pub fn structure(kind: u8, complete: bool, value: u16, start: usize, len: usize) -> AdStructure
     ensures { result ≡ structure_in kind complete value start len }
 {

@@ -47,6 +47,7 @@ fn accuracy_number(sca: SleepClockAccuracy) -> u8
     }
 }
 
+#[tactic(auto, unfolding(crate::specs::Packet::packet_said))]
 pub fn packet_said(decoded: Decoded) -> Packet
     ensures { result ≡ packet_said decoded }
 {
