@@ -192,6 +192,7 @@ impl Scanned {
 }
 
 // What a packet holds for a scanner without a filter. It is decoded, as the hub reads, only where its CRC is good and its type a beacon's.
+#[tactic(auto, using(beacon_spec::proofs::Filtering::beacon_type), unfolding(beacon_spec::specs::Scanner::unfiltered))]
 fn unfiltered(channel: AdvertisingChannel, header: Header, payload: &[u8], crc_ok: bool) -> Scanned
     ensures { scan_step result ≡ unfiltered channel header payload.now crc_ok }
 {

@@ -260,9 +260,9 @@ pub report_says : (r : Report) → ReportSays r
 report_says r = record { reported = reported r; reported_if = ap is_report; refused = λ e is. ap report_number is; accepted = accepted r }
   where
     reported : (x : Report) → is_report x ≡ true → x ≡ report.Beacon
-    reported report.Beacon is = refl
-    reported report.Nothing is = absurd (false≢true is)
-    reported (report.Refused e) is = absurd (false≢true is)
+    reported report.Beacon same = refl
+    reported report.Nothing same = absurd (false≢true same)
+    reported (report.Refused e) same = absurd (false≢true same)
 
     accepted : (x : Report) → ((e : Error) → x ≡ report.Refused e → ⊥) → report_number x ≡ 0
     accepted report.Beacon none-refused = refl
