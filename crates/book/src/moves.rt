@@ -27,7 +27,8 @@ pub(crate) fn move_of(part: &[u8]) -> Move
     ensures { result ≡ move_of part.now }
 {
     let mut octets = [0u8; 20];
-    let len = bytes::copy(part, &mut octets);
+    let len = part.len();
+    octets[..len].copy_from_slice(part);
     Move { len, octets }
 }
 
