@@ -1,3 +1,4 @@
 pub mod Whole
 pub mod Seats
 pub mod Heard
+pub mod Progress

@@ -5,4 +5,4 @@ use Rattle.book.proofs.moves.move_of.Goals as goal
 
 -- src/moves.rt:25:1
 pub returns : goal.returns
-returns c = over_zeros c.args.part.now c.copy.ensures.0 c.copy.ensures.1
+returns c = over_zeros c.args.part.now refl ?

@@ -7,24 +7,20 @@ use Rattle.book.proofs.Seats.{Place, place, at_place, length_mapped, past_addres
 use Rattle.book.proofs.book.Book.address_at.Goals as goal
 
 -- `Book::address_at` meets its contract. Assumes nothing.
--- the seat is filled
-seat : (c : tie.Then1) → Place (book_state c.args.t1) c.args.n
-seat c = place _ _ (sym c.is_filled.ensures ∙ c.if-is_filled.true)
-
 -- src/book.rt:219:22
 pub overflow_sub-at : goal.overflow_sub-at
 overflow_sub-at c =
-    (seat c).some
+    (place _ _ (sym c.is_filled.ensures ∙ c.if-is_filled.true)).some
 
 -- src/book.rt:220:13
 pub offset_bounds-self-at : goal.offset_bounds-self-at
 offset_bounds-self-at c =
-    omega (arith, (seat c).few)
+    omega (arith, (place _ _ (sym c.is_filled.ensures ∙ c.if-is_filled.true)).few)
 
 -- src/book.rt:220:13
 pub bounds-self-at : goal.bounds-self-at
 bounds-self-at c =
-    omega (arith, (seat c).some, (seat c).few)
+    omega (arith, (place _ _ (sym c.is_filled.ensures ∙ c.if-is_filled.true)).some, (place _ _ (sym c.is_filled.ensures ∙ c.if-is_filled.true)).few)
 
 -- src/book.rt:215:5
 pub returns-then-is_filled : goal.returns-then-is_filled
@@ -32,8 +28,8 @@ unfolding address_at
 returns-then-is_filled c =
     let a = c.args in
     let p = place _ _ (sym c.is_filled.ensures ∙ c.if-is_filled.true) in
-    let long : length a.t1.addresses ≡ 64 = search (rules, length_mapped) in
-    rw (← c.is_filled.ensures, c.if-is_filled.true) (at_place a.t1.addresses a.n past_addresses empty_address long p.some p.few)
+    let long : length a.self.addresses ≡ 64 = search (rules, length_mapped) in
+    rw (← c.is_filled.ensures, c.if-is_filled.true) (at_place a.self.addresses a.n past_addresses empty_address long p.some p.few)
 
 -- src/book.rt:215:5
 pub returns-else-is_filled : goal.returns-else-is_filled

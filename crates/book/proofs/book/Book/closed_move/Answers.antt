@@ -8,24 +8,20 @@ use Rattle.book.proofs.Seats.{Place, place, at_place, length_mapped, past_moves}
 use Rattle.book.proofs.book.Book.closed_move.Goals as goal
 
 -- `Book::closed_move` meets its contract. Assumes nothing.
--- the seat is filled
-seat : (c : tie.Then1) → Place (book_state c.args.t1) c.args.n
-seat c = place _ _ (sym c.is_filled.ensures ∙ c.if-is_filled.true)
-
 -- src/book.rt:252:22
 pub overflow_sub-at : goal.overflow_sub-at
 overflow_sub-at c =
-    (seat c).some
+    (place _ _ (sym c.is_filled.ensures ∙ c.if-is_filled.true)).some
 
 -- src/book.rt:253:13
 pub offset_bounds-self-at : goal.offset_bounds-self-at
 offset_bounds-self-at c =
-    omega (arith, (seat c).few)
+    omega (arith, (place _ _ (sym c.is_filled.ensures ∙ c.if-is_filled.true)).few)
 
 -- src/book.rt:253:13
 pub bounds-self-at : goal.bounds-self-at
 bounds-self-at c =
-    omega (arith, (seat c).some, (seat c).few)
+    omega (arith, (place _ _ (sym c.is_filled.ensures ∙ c.if-is_filled.true)).some, (place _ _ (sym c.is_filled.ensures ∙ c.if-is_filled.true)).few)
 
 -- src/book.rt:248:5
 pub returns-then-is_filled : goal.returns-then-is_filled
@@ -33,8 +29,8 @@ unfolding closed_at
 returns-then-is_filled c =
     let a = c.args in
     let p = place _ _ (sym c.is_filled.ensures ∙ c.if-is_filled.true) in
-    let long : length a.t1.closed ≡ 64 = search (rules, length_mapped) in
-    rw (← c.is_filled.ensures, c.if-is_filled.true) (at_place a.t1.closed a.n past_moves no_move long p.some p.few)
+    let long : length a.self.closed ≡ 64 = search (rules, length_mapped) in
+    rw (← c.is_filled.ensures, c.if-is_filled.true) (at_place a.self.closed a.n past_moves no_move long p.some p.few)
 
 -- src/book.rt:248:5
 pub returns-else-is_filled : goal.returns-else-is_filled
