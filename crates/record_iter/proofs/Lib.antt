@@ -1,4 +1,4 @@
-pub mod TakenApart
 pub mod Through
 pub mod Rows
 pub mod Holding
+pub mod ReadSoFar

@@ -10,7 +10,7 @@
 --   GoesThrough area     (Through.goes_through)  the answers are the records of the area, in order and as they are counted
 --   RestPlaced s at      (Through.rest_placed)   the rest lies in the area, and ends where the area ends
 --   two_rows r            == document 01's rows `02 01 86` and `01 03`, one after the other, as an area
---   IterRows r           (IterRows.rows)             what the iterator finds there
+--   IterRows r           (Rows.rows)                  what the iterator finds there
 --   Holds                (Holding.holds)         all of these, with what they assume
 use Rattle.std.specs.Prelude.{◌≡◌, true, ℕ, zero, suc, ◌+◌, ◌<◌, List, [], ◌∷◌, length, drop}
 use Rattle.std.specs.Borrow.{Bor}
@@ -78,7 +78,7 @@ pub record RestPlaced (s : Bor (List ℕ)) (at : ℕ) : Type 0 where
 
 -- the two rows as an area, lent where r lies
 abbrev pub two_rows : Bor (List ℕ) → Bor (List ℕ)
-two_rows r = record { ref_ptr = r.ptr; ghost_name = r.name; now = 0x02 ∷ 0x01 ∷ 0x86 ∷ 0x01 ∷ 0x03 ∷ [] }
+two_rows r = record { ref_ptr = r.ref_ptr; now = 0x02 ∷ 0x01 ∷ 0x86 ∷ 0x01 ∷ 0x03 ∷ [] }
 
 pub record IterRows (r : Bor (List ℕ)) : Type 0 where
   pub flags : next_after (two_rows r) 0 ≡ Record (Flags (record { bits = 0x06 })) 3

@@ -2,7 +2,7 @@
 -- incomplete, `03` complete), otherwise type and data"; "zero length 2, too few octets 1, wrong Flags 2, odd list data 1". And what `read_known` reads type and
 -- data on to.
 --   WholeRecord s at           == the record at position `at` of s has a type, and all the octets that its length octet counts
---   ReadAs s at                (ReadAs.read-as)     what reading at position `at` of s finds
+--   ReadAs s at                (ReadAs.read_as)     what reading at position `at` of s finds
 --   OfNoKind ty                == no kind has the type ty
 --   read_further s ty start len == what `read_known` answers for data of type ty that take `len` octets at `start` of s
 --   ReadLent s ty start len    == what that is, where these octets lie in s

@@ -1,7 +1,7 @@
 -- What holds of an area and of what rewriting it writes, whatever its octets are; and of a record that is read and written again.
 --   Cleans r                            (RoundTrip.cleans)              `clean r` is r but for the octet of Flags, which keeps its bits 0 to 4 alone
 --   NamedOnly r                         == a record that is Flags has no bit without a name
---   RoundTrip s                         (RoundTrip.round-trip)          `rewritten s` is s with `clean` of each record in its place, and reads as s does
+--   RoundTrip s                         (RoundTrip.round_trip)          `rewritten s` is s with `clean` of each record in its place, and reads as s does
 --   octets_at s at                       == the octets of the record at position `at` of s
 --   WrittenAgain s out at a next        == writing a record of s at position `at`, as it was read there, writes `clean` of its octets
 --   ReadAndRewritten                    (RoundTrip.read_and_rewritten)  this holds of every record that is read

@@ -3,7 +3,7 @@
 --   uuid16_at d at == what stands at position `at` of the data d
 --   uuids d       == the UUIDs that d is, as numbers
 --   NextUuid d at n == n is right for position `at` of d: a UUID that those from there on begin with, the end of d, or 1
---   OneByOne d at (Uuids.one-by-one)  the UUID at position `at` is the first of those from there on, they go on where it ends, and the end is that of d
+--   OneByOne d at (Uuids.one_by_one)  the UUID at position `at` is the first of those from there on, they go on where it ends, and the end is that of d
 use Rattle.std.specs.Prelude.{◌≡◌, ℕ, ◌+◌, ◌*◌, ◌<◌, ◌≤◌, cond, List, [], ◌∷◌, length, get_or, drop, eqb}
 use Rattle.octets.specs.Bytes.{le, u16_read}
 use Rattle.octets.specs.declared.error.Error.TheVariants.{Eof}

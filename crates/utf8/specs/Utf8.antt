@@ -1,5 +1,5 @@
 -- Well-formed UTF-8: the table of well-formed byte sequences of the Unicode Standard (Table 3-7).
---   Range, _to_            == a range of octets, and the one from an octet to another
+--   Range, ◌to◌            == a range of octets, and the one from an octet to another
 --   within b r             == the octet b lies in the range r
 --   tail                   == the range 80 to BF
 --   table                  == the rows, each with the range of every octet of a sequence
