@@ -1,12 +1,11 @@
 -- What is sent on a channel passes through the air: `air`, `examples`. Assumes nothing.
 use mathlib.Core.Bool.{true, xor, cond}
-use mathlib.Core.List.{List, [], ◌∷◌, ◌++◌, flatten, append_assoc}
+use mathlib.Core.List.{List, [], ◌++◌, flatten, append_assoc}
 use mathlib.Core.Path.{◌≡◌, refl, sym, ap, ap₂, ◌∙◌}
 use Prim.Native.Nat.{ℕ, ◌+◌, ◌-◌, ◌*◌, ◌/◌, ◌%◌, ◌≤◌, ◌<◌, ◌^◌}
 use native.Mathlib.Omega.{arith}
-use lib.ListN.{length, take, drop, length-append}
+use lib.ListN.{length, take, length-append}
 use lib.Seq.{take_at}
-use Rattle.octets.specs.Bytes.{le, le_bytes}
 use Rattle.records_spec.specs.Area.{cut, reads, with_first, area_of, read_area, clean, rewritten}
 use Rattle.records_spec.specs.Record.{first, flags_read, data_read, up_to, record_read}
 use Rattle.flags.specs.Flags.{named}
@@ -34,7 +33,7 @@ use Rattle.whitening.specs.Bits.{bits, number, bits_of, octets_in_bits, added}
 use Rattle.whitening.specs.Crc.{crc_after, crc_octets}
 use Rattle.whitening.specs.Packet.{start_on, flag_of}
 use Rattle.whitening.specs.Whitening.{leaving, whitening, plus, whitened}
-use Rattle.air.specs.Laws.{packet_on, header_on_air, payload_in, Passes, on_air, clear, Beacons, Air, Examples}
+use Rattle.air.specs.Laws.{packet_on, header_on_air, payload_in, Passes, clear, Beacons, Air, Examples}
 
 -- the two octets of a header are read back
 header_back : (h : Header) (rest : List ℕ) → h.0 < 2 ^ 16 → header_on_air (header_octets h ++ rest) ≡ h
