@@ -1,4 +1,3 @@
-use Rattle.std.proofs.Common.{◌-◌, ◌/◌, []}
 use Rattle.book_spec.specs.Book.{empty_address}
 use Rattle.book.proofs.book.no_address.Goals as goal
 

@@ -1,4 +1,3 @@
-use Rattle.std.proofs.Common.{◌-◌, ◌/◌, true, false, []}
 use Rattle.book.proofs.Heard.{too_short, too_long, other_type, by_company}
 use Rattle.book.proofs.moves.is_move.Goals as goal
 

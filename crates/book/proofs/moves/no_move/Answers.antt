@@ -1,4 +1,3 @@
-use Rattle.std.proofs.Common.{◌-◌, ◌/◌, []}
 use Rattle.book_spec.specs.Moves.{no_move}
 use mathlib.Core.Path.{refl}
 use Rattle.book.proofs.moves.no_move.Goals as goal

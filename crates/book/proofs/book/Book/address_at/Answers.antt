@@ -1,9 +1,8 @@
-use Rattle.std.proofs.Common.{rules, ◌≡◌, length, ◌-◌, ◌/◌, true, false, []}
-use Rattle.book_spec.specs.Book.{empty_address, is_filled, address_at}
-use Rattle.book.specs.State.{book_state}
+use Rattle.std.proofs.Common.{rules, ◌≡◌, length}
+use Rattle.book_spec.specs.Book.{empty_address, address_at}
 use mathlib.Core.Path.{sym, ◌∙◌}
 use native.Mathlib.Omega.{arith}
-use Rattle.book.proofs.Seats.{Place, place, at_place, length_mapped, past_addresses}
+use Rattle.book.proofs.Seats.{place, at_place, length_mapped, past_addresses}
 use Rattle.book.proofs.book.Book.address_at.Goals as goal
 
 -- `Book::address_at` meets its contract. Assumes nothing.

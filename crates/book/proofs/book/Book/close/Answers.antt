@@ -1,4 +1,3 @@
-use Rattle.std.proofs.Common.{◌-◌, ◌/◌, true, false, []}
 use Rattle.book_spec.specs.Book.{close_call, next_turn}
 use Rattle.book.specs.State.{book_state}
 use mathlib.Core.Path.{ap}

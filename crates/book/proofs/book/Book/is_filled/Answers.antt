@@ -1,4 +1,3 @@
-use Rattle.std.proofs.Common.{◌-◌, ◌/◌, true, false, []}
 use Rattle.book_spec.specs.Book.{is_filled}
 use borrow.Author.Tests.{eq-eqb, ne_eqb, lt-ltb, le-ltb}
 use Rattle.book.proofs.book.Book.is_filled.Goals as goal

@@ -1,4 +1,3 @@
-use Rattle.std.proofs.Common.{◌-◌, ◌/◌, []}
 use Rattle.book_spec.specs.Book.{fresh_book}
 use Rattle.book.proofs.Seats.{fresh_with}
 use Rattle.book.proofs.book.Book.new.Goals as goal

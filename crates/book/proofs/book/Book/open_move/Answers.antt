@@ -1,10 +1,9 @@
-use Rattle.std.proofs.Common.{rules, ◌≡◌, length, ◌-◌, ◌/◌, true, false, []}
+use Rattle.std.proofs.Common.{rules, ◌≡◌, length}
 use Rattle.book_spec.specs.Moves.{no_move}
-use Rattle.book_spec.specs.Book.{is_filled, open_at}
-use Rattle.book.specs.State.{book_state}
+use Rattle.book_spec.specs.Book.{open_at}
 use mathlib.Core.Path.{sym, ◌∙◌}
 use native.Mathlib.Omega.{arith}
-use Rattle.book.proofs.Seats.{Place, place, at_place, length_mapped, past_moves}
+use Rattle.book.proofs.Seats.{place, at_place, length_mapped, past_moves}
 use Rattle.book.proofs.book.Book.open_move.Goals as goal
 
 -- `Book::open_move` meets its contract. Assumes nothing.

@@ -1,5 +1,4 @@
-use Rattle.std.proofs.Common.{◌-◌, ◌/◌, []}
-use Rattle.book_spec.specs.Book.{is_filled, read_seat_call}
+use Rattle.book_spec.specs.Book.{read_seat_call}
 use Rattle.book.proofs.book.Book.read_seat.Goals as goal
 
 -- src/book.rt:227:5
