@@ -1,19 +1,11 @@
--- `hub::log::listen` meets its contract. Assumes nothing.
-use mathlib.Core.Path.{◌≡◌, refl, sym, ap, ◌∙◌}
-use mathlib.Core.Bool.{cond}
-use mathlib.Core.List.{List, [], ◌∷◌}
-use Prim.Native.Nat.{ℕ}
-use native.Mathlib.Omega.{arith}
-use lib.ListN.{length, get_or}
+use Rattle.std.proofs.Common.{◌≡◌, refl, sym, ap, ◌∙◌, cond, List, [], ◌∷◌, ℕ, arith, length, get_or}
 use lib.Dec.{eqb}
-use borrow.Author.Rules.{rules}
 use borrow.Author.Tests.{eq-eqb, ne_eqb}
 use Rattle.octets.specs.declared.time.Instant.{Instant}
 use Rattle.beacon_spec.specs.Scanner.{timer_updated}
 use Rattle.beacon_spec.specs.State.{BeaconScanner, Updated}
 use Rattle.hub_spec.specs.Log.{start, scanner_after}
-use Rattle.hub.proofs.log.listen.Statement.{statement}
-use Rattle.hub.proofs.log.listen.Tie as tie
+use Rattle.hub.proofs.log.listen.Goals as goal
 
 nothing : (s : BeaconScanner) (item : List ℕ) → length item ≡ 0 → s ≡ scanner_after s item
 unfolding scanner_after
@@ -32,18 +24,11 @@ ticked s item more is is-t is-u =
     ∙ ap (λ (t : Instant). (timer_updated s t).scanner) is-t
     ∙ sym (some s item more ∙ simp (eq-eqb (get_or item 0 0) 0 is))
 
-tick : tie.Need-returns-2
-tick c =
-    let at_test = c.before.before.before in
-    ticked _ _ at_test.before.before.if1.false at_test.if2.true c.before.before.start.ensures c.before.timer-update.ensures
+pub returns-then-item-eq0 : goal.returns-then-item-eq0
+returns-then-item-eq0 c = nothing _ _ c.if-item-eq0.true
 
-pub listen-spec : {M : Type 1} → statement M
-listen-spec =
-    tie.close
-    (tie.spec
-    (λ c. nothing _ _ c.if1.true)
-    (λ c. search rules)
-    (λ c κs. search rules)
-    (λ c κs. search rules)
-    tick
-    (λ c. sym (some _ _ c.before.before.if1.false ∙ simp (ne_eqb _ _ c.if2.false))))
+pub returns-then-item-eq-TICK : goal.returns-then-item-eq-TICK
+returns-then-item-eq-TICK c = ticked _ _ c.if-item-eq0.false c.if-item-eq-TICK.true c.start.ensures c.timer_update-updated.ensures
+
+pub returns : goal.returns
+returns c = sym (some _ _ c.if-item-eq0.false ∙ simp (ne_eqb _ _ c.if-item-eq-TICK.false))
