@@ -13,7 +13,8 @@ use Rattle.channels.specs.declared.channel_map.ChannelMap.{ChannelMap}
 use Rattle.channels.specs.Map.{marked, marks, cleared, from_raw}
 use Rattle.octets.proofs.Places.{both_true}
 use Rattle.octets.specs.Bytes.{le}
-use Rattle.octets.specs.declared.error.Error.TheVariants.{EmptyMap, OutOfRange}
+use Rattle.octets.specs.declared.error.Error.{Error}
+use Rattle.octets.specs.declared.error.Error.TheVariants.{OutOfRange}
 use Rattle.advertising.proofs.Figures.{field_is}
 use Rattle.advertising.specs.Laws.{Figure}
 use Rattle.advertising.specs.Pdu.{ll_data_figure, ll_data_of, ll_data_in}
@@ -161,10 +162,6 @@ module _ (l : ConnectRequestData) (s : ConnectionSettings) (are : s ≡ settings
   pub outside_of : (s.chm.num_used_channels ≡ 0 → ⊥) → is_within s ≡ false → refused_settings OutOfRange ≡ taken_of l
   outside_of some kept = rw (ne_eqb s.chm.num_used_channels 0 some, kept) at judged_is
 
-pub empty_of : (l : ConnectRequestData) → l.chm.num_used_channels ≡ 0 → refused_settings EmptyMap ≡ taken_of l
-unfolding taken_of
-empty_of l none-marked = rw (eq-eqb l.chm.num_used_channels 0 none-marked)
-
 -- a count kept in µs is itself again
 count_of : (n : ℕ) → n * 1250 / 1250 ≡ n
 count_of n = omega arith
@@ -193,7 +190,7 @@ unfolding taken_of
 taking o =
     record {
       counts = λ _ _ _ _ _ _ _ _ _ _ fig. counts_of fig;
-      sound = λ e. sound (eqb n 0) (is_within s) refl e;
+      sound = λ e. sound _ (eqb n 0) (is_within s) refl e;
       complete = λ r. rw (ne_eqb n 0 (λ e. let two : 2 ≤ n = r.two_channels in omega (arith, e, two)), (tests _ _ _ _ _ _ _).1 r);
       empty = λ e. rw (eq-eqb n 0 e);
       outside = λ some out. rw (ne_eqb n 0 (λ e. omega (arith, e, some)), outside (is_within s) refl out);
@@ -205,11 +202,11 @@ taking o =
     n : ℕ
     n = s.chm.num_used_channels
 
-    sound : (b c : Bool) → is_within s ≡ c
-        → (cond b (refused_settings EmptyMap) (cond c (record { outcome = Accepted; settings = s }) (refused_settings OutOfRange))).outcome ≡ Accepted → Within s
-    sound true c is e = absurd (false≢true (ap is_accepted e))
-    sound false true is e = (tests _ _ _ _ _ _ _).0 is
-    sound false false is e = absurd (false≢true (ap is_accepted e))
+    sound : (r : Error) (b c : Bool) → is_within s ≡ c
+        → (cond b (refused_settings r) (cond c (record { outcome = Accepted; settings = s }) (refused_settings OutOfRange))).outcome ≡ Accepted → Within s
+    sound r true c is e = absurd (false≢true (ap is_accepted e))
+    sound r false true is e = (tests _ _ _ _ _ _ _).0 is
+    sound r false false is e = absurd (false≢true (ap is_accepted e))
 
     outside : (c : Bool) → is_within s ≡ c → (Within s → ⊥) → is_within s ≡ false
     outside true is out = absurd (out ((tests _ _ _ _ _ _ _).0 is))

@@ -2,7 +2,8 @@ use Rattle.std.proofs.Common.{◌≡◌, ℕ, ◌/◌, sym, ap, ◌∙◌}
 use Rattle.channels.specs.declared.channel_map.ChannelMap.{ChannelMap}
 use Rattle.settings.specs.Settings.{in_ranges, settings_as, settings_in, is_within}
 use Rattle.settings.specs.declared.ConnectionSettings.{ConnectionSettings}
-use Rattle.settings.proofs.Ranges.{tests, are_in, taken_of_law, outside_of, empty_of}
+use Rattle.settings.proofs.Empty.{empty_of}
+use Rattle.settings.proofs.Ranges.{tests, are_in, taken_of_law, outside_of}
 use Rattle.settings.proofs.ConnectionSettings.of.Goals as goal
 
 pub returns-then-channels-eq0 : goal.returns-then-channels-eq0
