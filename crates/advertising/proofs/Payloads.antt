@@ -1,16 +1,16 @@
 -- What the functions that read a payload meet, over values: the area as the code takes it, and the arms of the types. Assumes nothing.
-use Rattle.std.proofs.Common.{◌≡◌, ℕ, ◌-◌, ◌≤◌, true, false, List, length, take, drop, refl, sym, ap, ◌∙◌, arith, length-drop, take_all, le-ltb, eq-eqb}
+use Rattle.std.proofs.Common.{◌≡◌, ℕ, ◌-◌, ◌≤◌, true, false, List, length, take, drop, refl, sym, ap, ◌∙◌, arith, length-drop, take_all, le-ltb}
 use Rattle.octets.specs.declared.error.Error.{Error}
 use Rattle.records_spec.specs.Area.{read_area}
 use Rattle.records_spec.specs.HubReading.{read_padded}
 use Rattle.records_spec.specs.declared.area.Area.TheVariants as area
 use Rattle.records_spec.specs.declared.area.PaddedArea.{PaddedArea}
 use Rattle.records_spec.specs.declared.area.PaddedArea.TheVariants as padded
-use Rattle.addresses.specs.Header.{type_of, length_of, allows_adv_data}
+use Rattle.addresses.specs.Header.{type_of, allows_adv_data}
 use Rattle.addresses.specs.declared.header.Header.{Header}
 use Rattle.addresses.specs.declared.header.PduType.{PduType}
 use Rattle.addresses.specs.declared.header.PduType.TheVariants.{AdvInd, AdvDirectInd, AdvNonconnInd, AdvScanInd, ScanReq, ScanRsp, ConnectReq, Unknown}
-use Rattle.advertising.specs.Pdu.{refused_pdu, with_area, undirected, directed, by_type, decode_by, decode_of, has_area, padded_of}
+use Rattle.advertising.specs.Pdu.{refused_pdu, with_area, undirected, directed, by_type, has_area, padded_of}
 use Rattle.advertising.specs.declared.pdu.Decoded.{Decoded}
 use Rattle.advertising.proofs.Padded.{pair, long, hears, hears_not}
 
@@ -36,14 +36,6 @@ module _ (h : Header) (p : List ℕ) (there : has_area h p ≡ true) where
   pub refused : (k : Error) {r : PaddedArea} {d : Decoded} → r ≡ read_padded (take (length p - 6) (drop 6 p)) → r ≡ padded.Refused k → d ≡ refused_pdu k
       → pair d 0 ≡ padded_of h p
   refused k read is e = ap (λ (x : Decoded). pair x 0) e ∙ sym (hears_not h p there k (ap read_padded (sym (rest_of 6 p)) ∙ sym read ∙ is))
-
--- the length agrees, and the type decides
-pub arm : (h : Header) (p : List ℕ) {n : ℕ} {t : PduType} (ty : PduType) → n ≡ length_of h → n ≡ length p → t ≡ type_of h → t ≡ ty
-    → by_type read_area ty h p ≡ decode_of h p
-unfolding decode_by
-arm h p ty counted same type is =
-    let agrees : length_of h ≡ length p = sym counted ∙ same in
-    rw (eq-eqb (length_of h) (length p) agrees, ← type, is)
 
 -- the types of two addresses alone
 pub without_records : (ty : PduType) (h : Header) (p : List ℕ) → allows_adv_data ty ≡ false → (ty ≡ ConnectReq → ⊥) → ((n : ℕ) → ty ≡ Unknown n → ⊥)

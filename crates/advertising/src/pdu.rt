@@ -78,6 +78,7 @@ impl Decoded {
 
 impl Pdu {
     // Reads a PDU. Order: the length, the type, then fields from the front.
+    #[tactic(auto, using(crate::proofs::Accepting::arm_undirected, crate::proofs::Payloads::without_records), unfolding(crate::specs::Pdu::decode_by, crate::specs::Pdu::by_type))]
     pub fn from_header_and_payload(header: Header, payload: &[u8]) -> Decoded
         ensures { result ≡ decode_of header payload.now }
     {
