@@ -7,8 +7,7 @@ use addresses::header::{Header, HeaderMade};
 use advertising::pdu::{Decoded, Pdu};
 use answers::packet::{Packet, packet_said};
 
-#[unsafe(no_mangle)]
-pub extern "C" fn board_decode(header: &[u8], payload: &[u8]) -> Packet
+pub fn board_decode(header: &[u8], payload: &[u8]) -> Packet
     ensures { result ≡ decoded_from (parsed header.now) payload.now }
 {
     match Header::parse(header) {
