@@ -11,7 +11,7 @@ use Rattle.channels.proofs.Counting.{count_ext}
 use Rattle.channels.proofs.Cycles.{once_each, cycles_add}
 use Rattle.channels.proofs.Events.{fair, run}
 use Rattle.channels.specs.Count.{count}
-use Rattle.channels.specs.Hop.{event_channel, uses as usesIn, remapped, unmapped_before, hopped}
+use Rattle.channels.specs.Hop.{event_channel, uses as uses_in, remapped, unmapped_before, hopped}
 use Rattle.channels.specs.Laws.{cycles}
 use Rattle.channels.specs.Map.{marks, channel_at, from_raw}
 use Rattle.channels.specs.Phy.{index_of, cycled, first_channel}
@@ -92,33 +92,33 @@ module _ (channel : Answer → ℕ) (f : ℕ → ℕ) where
 
 module _ (own : DeviceAddress) (time : Instant) (interval : ℕ) (records : List ℕ) (pdu : PduBuf) (made : Made own records pdu) where
   -- what is set up, after k ticks
-  abbrev pub advAt : ℕ → Advertisement
-  advAt zero = beginning time interval pdu
-  advAt (suc k) = advanced (advAt k)
+  abbrev pub adv_at : ℕ → Advertisement
+  adv_at zero = beginning time interval pdu
+  adv_at (suc k) = advanced (adv_at k)
 
-  pdu_at : (k : ℕ) → (advAt k).pdu ≡ pdu
+  pdu_at : (k : ℕ) → (adv_at k).pdu ≡ pdu
   pdu_at zero = refl
   pdu_at (suc k) = pdu_at k
 
-  interval_at : (k : ℕ) → (advAt k).interval ≡ interval
+  interval_at : (k : ℕ) → (adv_at k).interval ≡ interval
   interval_at zero = refl
   interval_at (suc k) = interval_at k
 
-  channel_at_law : (k : ℕ) → (advAt k).channel ≡ cycles k first_channel
+  channel_at_law : (k : ℕ) → (adv_at k).channel ≡ cycles k first_channel
   unfolding cycles
   channel_at_law zero = refl
   channel_at_law (suc k) = ap cycled (channel_at_law k)
 
-  due_at : (k : ℕ) → (advAt (suc k)).next_adv.0 ≡ later time.0 (suc k * interval)
+  due_at : (k : ℕ) → (adv_at (suc k)).next_adv.0 ≡ later time.0 (suc k * interval)
   due_at zero = omega arith
   due_at (suc k) =
-      let before : (advAt (suc k)).next_adv.0 ≡ later time.0 (suc k * interval) = due_at k in
+      let before : (adv_at (suc k)).next_adv.0 ≡ later time.0 (suc k * interval) = due_at k in
       rw (before, interval_at k) (omega (arith, suc-mul (suc k) interval))
 
   abbrev pub TickAt : ℕ → State → Type 0
-  TickAt k d = d.adv ≡ advAt k
+  TickAt k d = d.adv ≡ adv_at k
 
-  answer_at : (k : ℕ) (d : State) → (advertised d (advAt k)).answer
+  answer_at : (k : ℕ) (d : State) → (advertised d (adv_at k)).answer
       ≡ Sent (header_for AdvInd (is_random own.kind) false (9 + length records)) (cycles (suc k) first_channel) (instant (later time.0 (suc k * interval)))
   unfolding cycles
   answer_at k d = λ i. Sent ((ap (λ (p : PduBuf). p.header) (pdu_at k) ∙ made.header) i) (cycled (channel_at_law k i)) (instant (due_at k i))
@@ -263,11 +263,11 @@ module _ (p : List ℕ) (ranges : Within (settings_in (request_of p))) where
   IsEvent k e = event_on e.result.answer ≡ channel_of k
 
   -- the connection of the request before event k
-  abbrev pub connectionAt : ℕ → Connection
-  connectionAt k = record { channel_map = from_raw (map_in p); hop = hop_in p; unmapped_channel = unmapped_before (from_raw (map_in p)) (hop_in p) k }
+  abbrev pub connection_at : ℕ → Connection
+  connection_at k = record { channel_map = from_raw (map_in p); hop = hop_in p; unmapped_channel = unmapped_before (from_raw (map_in p)) (hop_in p) k }
 
   abbrev pub EventAt : ℕ → State → Type 0
-  EventAt k d = (d.mode ≡ Connected) × (d.conn ≡ connectionAt k)
+  EventAt k d = (d.mode ≡ Connected) × (d.conn ≡ connection_at k)
 
   five_bits : hop_in p % 32 ≡ hop_in p
   five_bits = omega arith
@@ -299,7 +299,7 @@ module _ (p : List ℕ) (ranges : Within (settings_in (request_of p))) where
   event_run_law = gather_each IsEvent EventAt event_run (λ k scan d c sound at. event_moves k at (happens scan d sound c))
 
   events_of : (es : List Entry) → Each IsEvent 0 es → Events p es
-  unfolding usesIn remapped ll_data_of
+  unfolding uses_in remapped ll_data_of
   events_of es each =
       record {
         by_hop = each;

@@ -9,7 +9,7 @@
 --   TitleExample                 (Example.title_example)  what these answer and leave: replies with the scan data
 --   manufacturer n               == a record of n octets of manufacturer specific data
 --   public_scan_request n          == a scan request to `board`, with a transmit buffer of n octets
---   requesting mapAndHop         == the connect request with another map and hop
+--   requesting map_and_hop       == the connect request with another map and hop
 --   limits_trace                  == calls beside each limit
 --   Limits                       (Example.limits)         what these answer and leave
 --   high_request                  == the connect request with a CRC start whose top bit is set
@@ -150,7 +150,7 @@ public_scan_request n = sent_to 0x0C03 0x06 true n
 
 -- the connect request with another map, and hop
 abbrev pub requesting : List ℕ → Call
-requesting mapAndHop = packet (instant 1000) (header_of 0x2205) (take 28 request ++ mapAndHop) true []
+requesting map_and_hop = packet (instant 1000) (header_of 0x2205) (take 28 request ++ map_and_hop) true []
 
 abbrev pub limits_trace : List Entry
 limits_trace =
