@@ -1,5 +1,5 @@
 -- The log is that of the calls: `evening`. Assumes nothing.
-use mathlib.Core.Path.{◌≡◌, refl, sym, ap, ◌∙◌, subst}
+use mathlib.Core.Path.{◌≡◌, refl, sym, ap, ◌∙◌}
 use mathlib.Core.List.{List, [], ◌∷◌, ◌++◌}
 use Prim.Native.Nat.{ℕ}
 use lib.ListN.{get_or}
@@ -11,7 +11,7 @@ use Rattle.book_spec.specs.State.{Book}
 use Rattle.book_spec.specs.TurnBook.{Replies}
 use Rattle.book_spec.specs.TurnBook as right
 use Rattle.book_spec.proofs.TurnBook.{turn_book}
-use Rattle.club_spec.specs.Laws.{calls_of, scanner_on, RightLine, Evening}
+use Rattle.club_spec.specs.Laws.{calls_of, scanner_on, Evening}
 use Rattle.club_spec.specs.Log.{calls_for, reply_line, call_line, club_line, club_after, club_after_all, fresh_club}
 use Rattle.club_spec.specs.State.{Club}
 

@@ -11,7 +11,7 @@ use lib.Seq.{take-append_seam, drop_at, drop-drop, length-take-le}
 use lib.Dec.{leb, eqb}
 use borrow.Author.Tests.{le-leb, lt-leb, eq-eqb, ne_eqb, leb-true, leb-false, eqb-true, eqb-false}
 use Rattle.octets.specs.Lists.{All}
-use Rattle.items.specs.Item.{size_of, whole_size, items, IsItem, tick, packet}
+use Rattle.items.specs.Item.{whole_size, items, IsItem, tick, packet}
 use Rattle.items.proofs.Items as heard-items
 use Rattle.items.proofs.Falling.{falls}
 use Rattle.club_spec.specs.Item.{own_size, club_size, whole_item, club_items, after_club, IsClubItem, heard, seats, closes, reads, ClubFalls}

@@ -5,7 +5,7 @@ use mathlib.Core.Bool.{Bool, true, false, cond, ◌||◌}
 use mathlib.Core.List.{List, [], ◌∷◌, ◌++◌, flatten}
 use Prim.Native.Nat.{ℕ, zero, suc, ◌+◌, ◌-◌, ◌<◌, ◌≤◌}
 use native.Mathlib.Omega.{arith}
-use lib.ListN.{length, get_or, take, drop, length-append, length-drop, length-take}
+use lib.ListN.{length, get_or, take, drop, length-append, length-drop}
 use lib.Dec.{ltb, eqb}
 use borrow.Author.Tests.{eq-eqb, ne_eqb, lt-ltb, le-ltb, ltb-true, ltb-false}
 use Rattle.octets.specs.Error.{outcome_number}
@@ -17,7 +17,7 @@ use Rattle.book_spec.specs.History.{BookCall, BookReply, seated, called, seat_is
 use Rattle.book_spec.specs.State.{Book}
 use Rattle.club_spec.specs.Item.{whole_item, club_items, after_club}
 use Rattle.club_spec.specs.Laws.{Fitted, LineSizes}
-use Rattle.club_spec.specs.Log.{calls_for, seat_widths, close_widths, move_widths, end_widths, reply_line, call_line, club_line, club_after, club_lines, club_after_all, end_line, longest_line, items_fitting, fitting_in, item_line, item_taken, items_taken}
+use Rattle.club_spec.specs.Log.{calls_for, seat_widths, close_widths, move_widths, reply_line, call_line, club_line, club_after, club_lines, end_line, longest_line, items_fitting, fitting_in, item_line, item_taken, items_taken}
 use Rattle.club_spec.specs.State.{Club, TakenItem}
 use Rattle.club_spec.proofs.Items.{whole_fits, at_front_law, none_whole, one_whole, behind_cons, club_falls}
 

@@ -9,7 +9,7 @@ use mathlib.Core.List.{List, [], ◌∷◌, ◌++◌, flatten}
 use Rattle.beacon_spec.specs.State.{BeaconScanner}
 use Rattle.hub_spec.specs.Log.{scanner_after}
 use Rattle.book_spec.specs.Book.{fresh_book}
-use Rattle.book_spec.specs.History.{BookCall, BookReply, reply_of, book_after, standing}
+use Rattle.book_spec.specs.History.{BookCall, BookReply, book_after, standing}
 use Rattle.book_spec.specs.TurnBook.{Replies}
 use Rattle.club_spec.specs.Item.{whole_item, club_items}
 use Rattle.club_spec.specs.Log.{calls_for, reply_line, club_line, club_lines, club_after_all, fresh_club, fitting_in}

@@ -21,7 +21,7 @@
 --   longest_line                   == octets of the longest line
 --   items_fitting n k s room       == the items at the front of s, at most n, as long as there is room for the longest line in `room` octets
 --   items_taken k s room           == what taking these answers
-use Rattle.std.specs.Prelude.{cond, ◌||◌, ℕ, zero, suc, ◌+◌, ◌-◌, leb, ltb, eqb, length, get_or, take, drop, replicate}
+use Rattle.std.specs.Prelude.{cond, ◌||◌, ℕ, zero, suc, ◌-◌, leb, ltb, eqb, length, get_or, take, drop, replicate}
 use mathlib.Core.List.{List, [], ◌∷◌, ◌++◌, flatten}
 use Rattle.octets.specs.Error.{outcome_number}
 use Rattle.columns.specs.Row.{row_of}
