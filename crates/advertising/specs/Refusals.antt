@@ -3,7 +3,7 @@
 --   needed          == how many octets the fields of types 0 to 6 need
 --   Order n p       (Refusals.order)       that number, by the header's bits and the payload's length
 --   pdu_from s at    == what is read of header and payload in one slice, from position `at` on
---   FromBytes s     (Refusals.from-bytes)  that, by the octets of s
+--   FromBytes s     (Refusals.from_bytes)  that, by the octets of s
 --   zeros ty k      == the number for a header of type ty that counts k octets, all zero
 --   refusal_from s at == the number of what is read from position `at` on
 --   RefusalRows     (Refusals.rows)        worked values beside each limit, and where two conditions hold at once

@@ -2,7 +2,7 @@
 --   MoveTest company       (Moves.move_test)    `is_move` passes exactly the move records of the company
 --   HearsMove company s    (Moves.hears_move)   in an area that is read, the move that is heard is that of its first move record of the company
 --   MoveMade octets        (Moves.move_made)    a move is its octets and their number
---   InOrder calls c        (Ordered.in-order)   the standing, the entries and the book of a list with one call more, by those of the list; and of no call
+--   InOrder calls c        (Ordered.in_order)   the standing, the entries and the book of a list with one call more, by those of the list; and of no call
 --   ByContracts b          (Ordered.by_contracts)   the book after a call and its reply, in the words of the contracts of `book`
 use Rattle.std.specs.Prelude.{◌≡◌, true, false, List, [], ◌∷◌, ◌++◌, ℕ, ◌+◌, ◌*◌, ◌-◌, ◌≤◌, length, get_or}
 use Rattle.octets.specs.Bytes.{part}

@@ -13,10 +13,10 @@
 --   IsRefused r                 == the reply r is a refusal
 --   TurnBook company before c   (TurnBook.turn_book)  the book replies so, to every call after every list, and a refused call leaves the book as it was
 --   OneReply company before c   (OneReplies.one_reply)  `Replies` admits one reply only
---   StandsOn st                 (Opened.stands-on)    what each call makes of the standing, in words
+--   StandsOn st                 (Opened.stands_on)    what each call makes of the standing, in words
 --   closes st c                 == the call closes a turn
 --   Open st calls               == no call of the list closes a turn
---   SameTurn st calls           (Opened.same-turn)    the open turn is the same before and after calls exactly where none of them closes one
+--   SameTurn st calls           (Opened.same_turn)    the open turn is the same before and after calls exactly where none of them closes one
 --   KeepsSeats before more       (Opened.keeps_seats)  seats are never emptied, and no address has two
 use Rattle.std.specs.Prelude.{◌≡◌, ◌⊎◌, Bool, true, false, not, List, [], ◌∷◌, ◌++◌, ℕ, ◌+◌, ◌*◌, ◌-◌, ◌<◌, ◌≤◌, eqb, length, get_or, replicate}
 use Rattle.octets.specs.Bytes.{part}

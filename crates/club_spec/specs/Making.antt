@@ -11,11 +11,11 @@
 --   CallsMade s its passing     (Making.calls_made)   the same of items; a fresh club lets all senders pass, and after any items too
 --   LineRows first n turn       (Making.line_rows)    the lines of replies as rows of numbers, in columns of these widths
 --   EndRows k n                 (Making.end_rows)     the same of the last line
---   InTurnOf k its item         (Making.one-more)     lines stand in the order of their items, each by the club after the items before it
---   LogIs company s             (Making.log-is)       the log of s: the lines of its items up to where none stands, and the last line
+--   InTurnOf k its item         (Making.one_more)     lines stand in the order of their items, each by the club after the items before it
+--   LogIs company s             (Making.log_is)       the log of s: the lines of its items up to where none stands, and the last line
 --   LogOf company its rest      (Making.log_of_law)       the log of items and of octets after them that begin none
 --   EveningLog company s        (Shown.evening_log)   THE LOG of s in these words alone: a row for each item that has one, and the last line; every number fits
---   TakenIs k s room            (Making.taken-is)     what is taken of s
+--   TakenIs k s room            (Making.taken_is)     what is taken of s
 use Rattle.std.specs.Prelude.{◌≡◌, ℕ, suc, ◌/◌, ◌%◌, length}
 use mathlib.Core.List.{List, [], ◌∷◌, ◌++◌, map, flatten}
 use Rattle.octets.specs.Error.{outcome_number}
