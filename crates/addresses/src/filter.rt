@@ -47,6 +47,7 @@ fn whitelist(list: &[u8], address: DeviceAddress) -> Matches
     Matches::Is(holds(list, address))
 }
 
+#[tactic(auto, using(crate::proofs::Entries::any_more), unfolding(crate::specs::Filter::any))]
 fn has_bad_kind(list: &[u8]) -> bool
     ensures { result ≡ any (bad_kind list.now) (length list.now / 7) }
 {
@@ -61,6 +62,7 @@ fn has_bad_kind(list: &[u8]) -> bool
     false
 }
 
+#[tactic(auto, using(crate::proofs::Entries::any_more), unfolding(crate::specs::Filter::any))]
 fn holds(list: &[u8], address: DeviceAddress) -> bool
     ensures { result ≡ any (entry_is list.now address) (length list.now / 7) }
 {
