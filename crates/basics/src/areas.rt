@@ -45,8 +45,7 @@ pub struct FlagsSaid {
 }
 
 // The number of records.
-#[unsafe(no_mangle)]
-pub extern "C" fn board_area(s: &[u8]) -> Got
+pub fn board_area(s: &[u8]) -> Got
     ensures { result ≡ area_got (read_area s.now) }
 {
     match read_area(s) {
@@ -56,8 +55,7 @@ pub extern "C" fn board_area(s: &[u8]) -> Got
 }
 
 // The number of records as the hub reads an area, and how many octets they took.
-#[unsafe(no_mangle)]
-pub extern "C" fn board_padded_area(s: &[u8]) -> Got
+pub fn board_padded_area(s: &[u8]) -> Got
     ensures { result ≡ padded_got (read_padded s.now) }
 {
     match read_padded_area(s) {
@@ -67,16 +65,14 @@ pub extern "C" fn board_padded_area(s: &[u8]) -> Got
 }
 
 // The position after what was written.
-#[unsafe(no_mangle)]
-pub extern "C" fn board_rewrite(s: &[u8], out: &mut [u8]) -> Got
+pub fn board_rewrite(s: &[u8], out: &mut [u8]) -> Got
     ensures { (result ≡ written_got (rewritten_to s.now out.old)) × (out.new ≡ rewritten_after s.now out.old) }
 {
     written(rewrite_area(s, out))
 }
 
 // A UUID and the position after it; at the end 0 and the position.
-#[unsafe(no_mangle)]
-pub extern "C" fn board_uuid_at(data: &[u8], at: usize) -> Got
+pub fn board_uuid_at(data: &[u8], at: usize) -> Got
     ensures { result ≡ uuid_got at (uuid16_at «data».now at) }
 {
     match next_uuid16(data, at) {
@@ -86,8 +82,7 @@ pub extern "C" fn board_uuid_at(data: &[u8], at: usize) -> Got
     }
 }
 
-#[unsafe(no_mangle)]
-pub extern "C" fn board_record(s: &[u8], at: usize) -> Structure
+pub fn board_record(s: &[u8], at: usize) -> Structure
     ensures { result ≡ read_said (record_at s.now at) }
 {
     match read_record(s, at) {
@@ -98,8 +93,7 @@ pub extern "C" fn board_record(s: &[u8], at: usize) -> Structure
 }
 
 // The same, read on to the kind that its type names.
-#[unsafe(no_mangle)]
-pub extern "C" fn board_known(s: &[u8], at: usize) -> Structure
+pub fn board_known(s: &[u8], at: usize) -> Structure
     ensures { result ≡ known_said s.now (record_at s.now at) }
 {
     match read_record(s, at) {
@@ -110,8 +104,7 @@ pub extern "C" fn board_known(s: &[u8], at: usize) -> Structure
 }
 
 // Writes a record, which is given as `Structure` has it; the position after it.
-#[unsafe(no_mangle)]
-pub extern "C" fn board_write(
+pub fn board_write(
     kind: u8,
     complete: bool,
     value: u16,
@@ -127,8 +120,7 @@ pub extern "C" fn board_write(
     written(write_record(ad, s, ByteWriter { at }, out))
 }
 
-#[unsafe(no_mangle)]
-pub extern "C" fn board_flags(octet: u8) -> FlagsSaid
+pub fn board_flags(octet: u8) -> FlagsSaid
     ensures { result ≡ flags_said octet }
 {
     let flags = Flags::from_bits_truncate(octet);
@@ -156,6 +148,7 @@ fn said(kind: u8, complete: bool, value: u16, start: usize, len: usize, next: us
     }
 }
 
+#[tactic(auto, unfolding(crate::specs::Areas::structure_said))]
 fn say(ad: AdStructure, next: usize) -> Structure
     ensures { result ≡ structure_said ad next }
 {

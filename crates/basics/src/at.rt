@@ -13,8 +13,7 @@ use answers::packet::{Packet, packet_said};
 use octets::bytes::{ByteReader, ByteWriter};
 
 // A header's 16 bits, and the position after it.
-#[unsafe(no_mangle)]
-pub extern "C" fn board_read_header(s: &[u8], at: usize) -> Got
+pub fn board_read_header(s: &[u8], at: usize) -> Got
     ensures { result ≡ header_got (header_at s.now at) }
 {
     let reader = ByteReader { at };
@@ -25,8 +24,7 @@ pub extern "C" fn board_read_header(s: &[u8], at: usize) -> Got
 }
 
 // The header of two octets is written; the position after it.
-#[unsafe(no_mangle)]
-pub extern "C" fn board_write_header(out: &mut [u8], at: usize, raw: &[u8]) -> Got
+pub fn board_write_header(out: &mut [u8], at: usize, raw: &[u8]) -> Got
     ensures { (result ≡ header_written (parsed raw.now) out.old at) × (out.new ≡ header_after (parsed raw.now) out.old at) }
 {
     match Header::parse(raw) {
@@ -36,8 +34,7 @@ pub extern "C" fn board_write_header(out: &mut [u8], at: usize, raw: &[u8]) -> G
 }
 
 // A PDU whose header begins at a position, and whose payload is all that follows it.
-#[unsafe(no_mangle)]
-pub extern "C" fn board_read_pdu(s: &[u8], at: usize) -> Packet
+pub fn board_read_pdu(s: &[u8], at: usize) -> Packet
     ensures { result ≡ packet_said (decoded_at (header_read (u16_read s.now at)) s.now) }
 {
     packet_said(Pdu::from_bytes(ByteReader { at }, s))

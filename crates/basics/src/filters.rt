@@ -22,30 +22,21 @@ fn matched(m: Matches) -> Got
 }
 
 // Whether a list holds an address.
-#[unsafe(no_mangle)]
-pub extern "C" fn board_whitelist(list: &[u8], octets: &[u8; 6], random: bool) -> Got
+pub fn board_whitelist(list: &[u8], octets: &[u8; 6], random: bool) -> Got
     ensures { result ≡ matches_got (matches_of Whitelist list.now (address_of octets.now (kind_of random))) }
 {
     matched(AddressFilter::Whitelist.matches(list, address(*octets, random)))
 }
 
 // Whether an address may scan, and whether it may connect, where the list is in use for scan requests, for connect requests, or not.
-#[unsafe(no_mangle)]
-pub extern "C" fn board_may_scan(
-    scan: bool,
-    connect: bool,
-    list: &[u8],
-    octets: &[u8; 6],
-    random: bool,
-) -> Got
+pub fn board_may_scan(scan: bool, connect: bool, list: &[u8], octets: &[u8; 6], random: bool) -> Got
     ensures { result ≡ matches_got (may_scan (adv_filter_of (filter_for scan) (filter_for connect)) list.now (address_of octets.now (kind_of random))) }
 {
     let policy = AdvFilter::new(filter(scan), filter(connect));
     matched(policy.may_scan(list, address(*octets, random)))
 }
 
-#[unsafe(no_mangle)]
-pub extern "C" fn board_may_connect(
+pub fn board_may_connect(
     scan: bool,
     connect: bool,
     list: &[u8],
@@ -59,8 +50,7 @@ pub extern "C" fn board_may_connect(
 }
 
 // Whether a scanner hears an address, where the list is in use or not.
-#[unsafe(no_mangle)]
-pub extern "C" fn board_should_scan(scan: bool, list: &[u8], octets: &[u8; 6], random: bool) -> Got
+pub fn board_should_scan(scan: bool, list: &[u8], octets: &[u8; 6], random: bool) -> Got
     ensures { result ≡ matches_got (should_scan (scan_filter_of (filter_for scan)) list.now (address_of octets.now (kind_of random))) }
 {
     let policy = ScanFilter::new(filter(scan));
@@ -68,15 +58,15 @@ pub extern "C" fn board_should_scan(scan: bool, list: &[u8], octets: &[u8; 6], r
 }
 
 // The Flags of a start, and those of a beacon.
-#[unsafe(no_mangle)]
-pub extern "C" fn board_discoverable_flags() -> u8
+#[tactic(auto, unfolding(flags::specs::Flags::named))]
+pub fn board_discoverable_flags() -> u8
     ensures { result ≡ discoverable_flags }
 {
     Flags::discoverable().to_u8()
 }
 
-#[unsafe(no_mangle)]
-pub extern "C" fn board_broadcast_flags() -> u8
+#[tactic(auto, unfolding(flags::specs::Flags::named))]
+pub fn board_broadcast_flags() -> u8
     ensures { result ≡ broadcast_flags }
 {
     Flags::broadcast().to_u8()

@@ -41,15 +41,13 @@ pub struct Map {
     pub count: u8,
 }
 
-#[unsafe(no_mangle)]
-pub extern "C" fn board_utf8(s: &[u8]) -> bool
+pub fn board_utf8(s: &[u8]) -> bool
     ensures { result ≡ is_utf8 s.now }
 {
     is_utf8(s)
 }
 
-#[unsafe(no_mangle)]
-pub extern "C" fn board_uuid16(value: u16) -> Uuid
+pub fn board_uuid16(value: u16) -> Uuid
     ensures { result.octets ≡ full_uuid value }
 {
     let uuid = Uuid128::from_uuid16(Uuid16(value));
@@ -57,8 +55,7 @@ pub extern "C" fn board_uuid16(value: u16) -> Uuid
     Uuid { octets }
 }
 
-#[unsafe(no_mangle)]
-pub extern "C" fn board_uuid32(value: u32) -> Uuid
+pub fn board_uuid32(value: u32) -> Uuid
     ensures { result.octets ≡ full_uuid value }
 {
     let uuid = Uuid128::from_uuid32(Uuid32(value));
@@ -66,23 +63,20 @@ pub extern "C" fn board_uuid32(value: u32) -> Uuid
     Uuid { octets }
 }
 
-#[unsafe(no_mangle)]
-pub extern "C" fn board_later(time: u32, micros: u32) -> u32
+pub fn board_later(time: u32, micros: u32) -> u32
     ensures { result ≡ later time micros }
 {
     Instant::from_raw_micros(time).add(micros).raw_micros()
 }
 
-#[unsafe(no_mangle)]
-pub extern "C" fn board_since(time: u32, earlier: u32) -> u32
+pub fn board_since(time: u32, earlier: u32) -> u32
     ensures { result ≡ since time earlier }
 {
     Instant::from_raw_micros(time).duration_since(Instant::from_raw_micros(earlier))
 }
 
 // The advertising channel after up to 3 cycles from the first.
-#[unsafe(no_mangle)]
-pub extern "C" fn board_advertising_channel(times: u8) -> Channel
+pub fn board_advertising_channel(times: u8) -> Channel
     ensures { result ≡ advertising_channel (channel_after times) }
 {
     let channel = cycled(times);
@@ -107,8 +101,7 @@ fn cycled(times: u8) -> AdvertisingChannel
     }
 }
 
-#[unsafe(no_mangle)]
-pub extern "C" fn board_data_channel(index: u8) -> Channel
+pub fn board_data_channel(index: u8) -> Channel
     ensures { result ≡ data_channel (new_channel index) }
 {
     match DataChannel::new(index) {
@@ -129,8 +122,7 @@ pub extern "C" fn board_data_channel(index: u8) -> Channel
     }
 }
 
-#[unsafe(no_mangle)]
-pub extern "C" fn board_map(raw: &[u8; 5]) -> Map
+pub fn board_map(raw: &[u8; 5]) -> Map
     ensures { (result.raw ≡ (from_raw raw.now).raw) × (result.count ≡ (from_raw raw.now).num_used_channels) }
 {
     let map = ChannelMap::from_raw(*raw);
@@ -142,8 +134,7 @@ pub extern "C" fn board_map(raw: &[u8; 5]) -> Map
 }
 
 // The map of all data channels.
-#[unsafe(no_mangle)]
-pub extern "C" fn board_all_channels() -> Map
+pub fn board_all_channels() -> Map
     ensures { (result.raw ≡ all_channels.raw) × (result.count ≡ all_channels.num_used_channels) }
 {
     let map = ChannelMap::with_all_channels();
@@ -154,8 +145,7 @@ pub extern "C" fn board_all_channels() -> Map
     }
 }
 
-#[unsafe(no_mangle)]
-pub extern "C" fn board_is_used(raw: &[u8; 5], channel: u8) -> Got
+pub fn board_is_used(raw: &[u8; 5], channel: u8) -> Got
     ensures { result ≡ used_got (is_used (from_raw raw.now) channel) }
 {
     let map = ChannelMap::from_raw(*raw);
@@ -165,8 +155,7 @@ pub extern "C" fn board_is_used(raw: &[u8; 5], channel: u8) -> Got
     }
 }
 
-#[unsafe(no_mangle)]
-pub extern "C" fn board_by_index(raw: &[u8; 5], n: u8) -> Got
+pub fn board_by_index(raw: &[u8; 5], n: u8) -> Got
     ensures { result ≡ found_got (by_index (from_raw raw.now) n) }
 {
     let map = ChannelMap::from_raw(*raw);
@@ -177,8 +166,7 @@ pub extern "C" fn board_by_index(raw: &[u8; 5], n: u8) -> Got
 }
 
 // The next unmapped channel, and the channel to use.
-#[unsafe(no_mangle)]
-pub extern "C" fn board_hop(raw: &[u8; 5], unmapped: u8, hop: u8) -> Got
+pub fn board_hop(raw: &[u8; 5], unmapped: u8, hop: u8) -> Got
     ensures { result ≡ hop_got (hopped (from_raw raw.now) unmapped hop) }
 {
     let map = ChannelMap::from_raw(*raw);

@@ -1,5 +1,5 @@
-// Functions to link in the form of `exports`, the smaller parts: octets, UUIDs, headers and PDUs at a position, instants,
-// channels, maps and hops, records, names, settings and filters.
+// Functions in the form of `exports`, the smaller parts: octets, UUIDs, headers and PDUs at a position, instants, channels, maps and hops, records, names, settings
+// and filters; `basics_c` has them to link.
 #![tactic(auto)]
 
 pub mod areas;

@@ -15,8 +15,7 @@ pub struct NameSaid {
     pub len: usize,
 }
 
-#[unsafe(no_mangle)]
-pub extern "C" fn board_name(advertisement: &[u8], reply: &[u8]) -> NameSaid
+pub fn board_name(advertisement: &[u8], reply: &[u8]) -> NameSaid
     ensures { result ≡ name_said (name_of advertisement.now reply.now) }
 {
     match find_name(advertisement, reply) {

@@ -35,16 +35,14 @@ pub struct Six {
 }
 
 // The position n octets on.
-#[unsafe(no_mangle)]
-pub extern "C" fn board_skip(s: &[u8], at: usize, n: usize) -> Got
+pub fn board_skip(s: &[u8], at: usize, n: usize) -> Got
     ensures { result ≡ passed_got (skip_to n s.now at) }
 {
     passed(ByteReader { at }.skip(s, n))
 }
 
 // How many octets are left, and whether there are none.
-#[unsafe(no_mangle)]
-pub extern "C" fn board_bytes_left(s: &[u8], at: usize) -> Got
+pub fn board_bytes_left(s: &[u8], at: usize) -> Got
     ensures { result ≡ left_got (left_from s.now at) (is_spent s.now at) }
 {
     let reader = ByteReader { at };
@@ -52,8 +50,7 @@ pub extern "C" fn board_bytes_left(s: &[u8], at: usize) -> Got
     found(reader.bytes_left(s), empty)
 }
 
-#[unsafe(no_mangle)]
-pub extern "C" fn board_read_slice(s: &[u8], at: usize, n: usize) -> Part
+pub fn board_read_slice(s: &[u8], at: usize, n: usize) -> Part
     ensures { result ≡ part_said (slice_read n s.now at) }
 {
     let reader = ByteReader { at };
@@ -74,15 +71,13 @@ pub extern "C" fn board_read_slice(s: &[u8], at: usize, n: usize) -> Part
 }
 
 // Fills `dst`; the position after what was read.
-#[unsafe(no_mangle)]
-pub extern "C" fn board_read_into(s: &[u8], at: usize, dst: &mut [u8]) -> Got
+pub fn board_read_into(s: &[u8], at: usize, dst: &mut [u8]) -> Got
     ensures { (result ≡ passed_got (skip_to (length dst.old) s.now at)) × (dst.new ≡ filled s.now at dst.old) }
 {
     passed(ByteReader { at }.read_into(s, dst))
 }
 
-#[unsafe(no_mangle)]
-pub extern "C" fn board_read_array5(s: &[u8], at: usize) -> Five
+pub fn board_read_array5(s: &[u8], at: usize) -> Five
     ensures { result ≡ five_said (array_read 5 s.now at) (passed_got (skip_to 5 s.now at)) }
 {
     let array = ByteReader { at }.read_array5(s);
@@ -96,8 +91,7 @@ pub extern "C" fn board_read_array5(s: &[u8], at: usize) -> Five
     }
 }
 
-#[unsafe(no_mangle)]
-pub extern "C" fn board_read_array6(s: &[u8], at: usize) -> Six
+pub fn board_read_array6(s: &[u8], at: usize) -> Six
     ensures { result ≡ six_said (array_read 6 s.now at) (passed_got (skip_to 6 s.now at)) }
 {
     let array = ByteReader { at }.read_array6(s);
@@ -112,8 +106,7 @@ pub extern "C" fn board_read_array6(s: &[u8], at: usize) -> Six
 }
 
 // A number, and the position after it.
-#[unsafe(no_mangle)]
-pub extern "C" fn board_read_u8(s: &[u8], at: usize) -> Got
+pub fn board_read_u8(s: &[u8], at: usize) -> Got
     ensures { result ≡ u8_got (u8_read s.now at) }
 {
     let reader = ByteReader { at };
@@ -123,8 +116,7 @@ pub extern "C" fn board_read_u8(s: &[u8], at: usize) -> Got
     }
 }
 
-#[unsafe(no_mangle)]
-pub extern "C" fn board_read_u16_le(s: &[u8], at: usize) -> Got
+pub fn board_read_u16_le(s: &[u8], at: usize) -> Got
     ensures { result ≡ u16_got (u16_read s.now at) }
 {
     let reader = ByteReader { at };
@@ -134,8 +126,7 @@ pub extern "C" fn board_read_u16_le(s: &[u8], at: usize) -> Got
     }
 }
 
-#[unsafe(no_mangle)]
-pub extern "C" fn board_read_u32_le(s: &[u8], at: usize) -> Got
+pub fn board_read_u32_le(s: &[u8], at: usize) -> Got
     ensures { result ≡ u32_got (u32_read s.now at) }
 {
     let reader = ByteReader { at };

@@ -21,8 +21,7 @@ pub struct SettingsSaid {
     pub win_offset: u16,
 }
 
-#[unsafe(no_mangle)]
-pub extern "C" fn board_settings(octets: &[u8; 22]) -> SettingsSaid
+pub fn board_settings(octets: &[u8; 22]) -> SettingsSaid
     ensures { result ≡ settings_said (alone_of octets.now) }
 {
     let taken = ConnectionSettings::from_octets(*octets);

@@ -19,8 +19,7 @@ pub struct UuidRead {
 }
 
 // A UUID, and the position after it.
-#[unsafe(no_mangle)]
-pub extern "C" fn board_read_uuid16(s: &[u8], at: usize) -> Got
+pub fn board_read_uuid16(s: &[u8], at: usize) -> Got
     ensures { result ≡ uuid16_got (uuid16_from (u16_read s.now at)) }
 {
     let reader = ByteReader { at };
@@ -30,8 +29,7 @@ pub extern "C" fn board_read_uuid16(s: &[u8], at: usize) -> Got
     }
 }
 
-#[unsafe(no_mangle)]
-pub extern "C" fn board_read_uuid32(s: &[u8], at: usize) -> Got
+pub fn board_read_uuid32(s: &[u8], at: usize) -> Got
     ensures { result ≡ uuid32_got (uuid32_from (u32_read s.now at)) }
 {
     let reader = ByteReader { at };
@@ -41,8 +39,7 @@ pub extern "C" fn board_read_uuid32(s: &[u8], at: usize) -> Got
     }
 }
 
-#[unsafe(no_mangle)]
-pub extern "C" fn board_read_uuid128(s: &[u8], at: usize) -> UuidRead
+pub fn board_read_uuid128(s: &[u8], at: usize) -> UuidRead
     ensures { result ≡ uuid_said (array_read 16 s.now at) (passed_got (skip_to 16 s.now at)) }
 {
     let found = Uuid128::from_bytes(ByteReader { at }, s);
@@ -58,22 +55,19 @@ pub extern "C" fn board_read_uuid128(s: &[u8], at: usize) -> UuidRead
 }
 
 // The position after a UUID that is written.
-#[unsafe(no_mangle)]
-pub extern "C" fn board_write_uuid16(out: &mut [u8], at: usize, value: u16) -> Got
+pub fn board_write_uuid16(out: &mut [u8], at: usize, value: u16) -> Got
     ensures { (result ≡ written_got (write_to 2 out.old at)) × (out.new ≡ out_after (le_bytes 2 value) out.old at) }
 {
     written(Uuid16(value).to_bytes(ByteWriter { at }, out))
 }
 
-#[unsafe(no_mangle)]
-pub extern "C" fn board_write_uuid32(out: &mut [u8], at: usize, value: u32) -> Got
+pub fn board_write_uuid32(out: &mut [u8], at: usize, value: u32) -> Got
     ensures { (result ≡ written_got (write_to 4 out.old at)) × (out.new ≡ out_after (le_bytes 4 value) out.old at) }
 {
     written(Uuid32(value).to_bytes(ByteWriter { at }, out))
 }
 
-#[unsafe(no_mangle)]
-pub extern "C" fn board_write_uuid128(out: &mut [u8], at: usize, octets: &[u8; 16]) -> Got
+pub fn board_write_uuid128(out: &mut [u8], at: usize, octets: &[u8; 16]) -> Got
     ensures { (result ≡ written_got (write_to 16 out.old at)) × (out.new ≡ out_after octets.now out.old at) }
 {
     written(Uuid128::from_be_bytes(*octets).to_bytes(ByteWriter { at }, out))

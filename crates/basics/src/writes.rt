@@ -8,23 +8,20 @@ use answers::got::{Got, found, refused, written};
 use octets::bytes::{ByteWriter, Truncated};
 
 // The position n octets on, which are kept.
-#[unsafe(no_mangle)]
-pub extern "C" fn board_write_skip(out: &[u8], at: usize, n: usize) -> Got
+pub fn board_write_skip(out: &[u8], at: usize, n: usize) -> Got
     ensures { result ≡ written_got (write_to n out.now at) }
 {
     written(ByteWriter { at }.skip(out, n))
 }
 
 // How many octets can be written.
-#[unsafe(no_mangle)]
-pub extern "C" fn board_space_left(out: &[u8], at: usize) -> usize
+pub fn board_space_left(out: &[u8], at: usize) -> usize
     ensures { result ≡ left_from out.now at }
 {
     ByteWriter { at }.space_left(out)
 }
 
-#[unsafe(no_mangle)]
-pub extern "C" fn board_write_slice(out: &mut [u8], at: usize, other: &[u8]) -> Got
+pub fn board_write_slice(out: &mut [u8], at: usize, other: &[u8]) -> Got
     ensures { (result ≡ written_got (write_to (length other.now) out.old at)) × (out.new ≡ out_after other.now out.old at) }
 {
     written(ByteWriter { at }.write_slice(out, other))
@@ -40,29 +37,25 @@ fn counted(t: Truncated) -> Got
     }
 }
 
-#[unsafe(no_mangle)]
-pub extern "C" fn board_write_slice_truncate(out: &mut [u8], at: usize, other: &[u8]) -> Got
+pub fn board_write_slice_truncate(out: &mut [u8], at: usize, other: &[u8]) -> Got
     ensures { (result ≡ truncated_got (truncate_to other.now out.old at)) × (out.new ≡ out_after (fitting other.now out.old at) out.old at) }
 {
     counted(ByteWriter { at }.write_slice_truncate(out, other))
 }
 
-#[unsafe(no_mangle)]
-pub extern "C" fn board_write_u8(out: &mut [u8], at: usize, byte: u8) -> Got
+pub fn board_write_u8(out: &mut [u8], at: usize, byte: u8) -> Got
     ensures { (result ≡ written_got (write_to 1 out.old at)) × (out.new ≡ out_after (byte ∷ []) out.old at) }
 {
     written(ByteWriter { at }.write_u8(out, byte))
 }
 
-#[unsafe(no_mangle)]
-pub extern "C" fn board_write_u16_le(out: &mut [u8], at: usize, value: u16) -> Got
+pub fn board_write_u16_le(out: &mut [u8], at: usize, value: u16) -> Got
     ensures { (result ≡ written_got (write_to 2 out.old at)) × (out.new ≡ out_after (le_bytes 2 value) out.old at) }
 {
     written(ByteWriter { at }.write_u16_le(out, value))
 }
 
-#[unsafe(no_mangle)]
-pub extern "C" fn board_write_u32_le(out: &mut [u8], at: usize, value: u32) -> Got
+pub fn board_write_u32_le(out: &mut [u8], at: usize, value: u32) -> Got
     ensures { (result ≡ written_got (write_to 4 out.old at)) × (out.new ≡ out_after (le_bytes 4 value) out.old at) }
 {
     written(ByteWriter { at }.write_u32_le(out, value))

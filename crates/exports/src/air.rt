@@ -59,8 +59,7 @@ fn not_sent(e: Error) -> Sent
     }
 }
 
-#[unsafe(no_mangle)]
-pub extern "C" fn board_beacon(own: &[u8; 6], random: bool, records: &[u8], tx: &mut [u8]) -> Sent
+pub fn board_beacon(own: &[u8; 6], random: bool, records: &[u8], tx: &mut [u8]) -> Sent
     ensures { (result ≡ beacon_sent (beacon_of (address_of own.now (kind_of random)) records.now) tx.old) × (tx.new ≡ beacon_after (beacon_of (address_of own.now (kind_of random)) records.now) tx.old) }
 {
     let made = Beacon::new(address(*own, random), records);
@@ -73,6 +72,7 @@ pub extern "C" fn board_beacon(own: &[u8; 6], random: bool, records: &[u8], tx: 
 }
 
 // A scanner after up to 3 timer updates, all at one time.
+#[tactic(auto, unfolding(crate::specs::Air::scanner_with))]
 fn scanner(filtered: bool, time: u32, interval: u32, updates: u8) -> Updated
     ensures { update_step result ≡ scanner_with filtered time interval updates }
 {
@@ -95,8 +95,7 @@ fn again(updated: Updated, at: Instant) -> Updated
 }
 
 // The channel that it listens on, and until when.
-#[unsafe(no_mangle)]
-pub extern "C" fn board_scanner(time: u32, interval: u32, updates: u8) -> Got
+pub fn board_scanner(time: u32, interval: u32, updates: u8) -> Got
     ensures { result ≡ updated_got (scanner_with false time interval updates) }
 {
     let updated = scanner(false, time, interval, updates);
@@ -188,8 +187,7 @@ fn headless(listening: BeaconScanner, list: &[u8], e: Error) -> Heard
     )
 }
 
-#[unsafe(no_mangle)]
-pub extern "C" fn board_scan(
+pub fn board_scan(
     filtered: bool,
     list: &[u8],
     updates: u8,

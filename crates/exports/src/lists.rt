@@ -55,6 +55,7 @@ pub(crate) fn interval_of(call: &[u8]) -> u32
     )
 }
 
+#[tactic(auto, unfolding(crate::specs::Lists::call_in))]
 fn step(device: Device, call: &[u8], tx: &mut [u8]) -> Called
     ensures { (step result ≡ call_of (state device) (call_in call.now tx.old)) × (tx.new ≡ buffer_after (state device) (call_in call.now tx.old) tx.old) }
 {
@@ -74,6 +75,7 @@ fn step(device: Device, call: &[u8], tx: &mut [u8]) -> Called
 }
 
 // A call with the buffer that it names.
+#[tactic(auto, unfolding(crate::specs::Lists::called_by, crate::specs::Lists::step_of))]
 fn step_with(device: Device, call: &[u8], first: &mut [u8], second: &mut [u8]) -> Called
     ensures { (step result ≡ called_by call.now (board_of (state device) first.old second.old)) × (first.new ≡ (step_of call.now (board_of (state device) first.old second.old)).first) × (second.new ≡ (step_of call.now (board_of (state device) first.old second.old)).second) }
 {
@@ -219,8 +221,7 @@ fn say(answer: Answer, advertising: bool, connected: bool) -> Said
 }
 
 // The answer of a call after a list of calls on a fresh device.
-#[unsafe(no_mangle)]
-pub extern "C" fn board_call(
+pub fn board_call(
     own: &[u8; 6],
     random: bool,
     calls: &[u8],

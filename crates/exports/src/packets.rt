@@ -25,8 +25,7 @@ pub struct Head {
     pub allows_adv_data: bool,
 }
 
-#[unsafe(no_mangle)]
-pub extern "C" fn board_header(raw: &[u8]) -> Head
+pub fn board_header(raw: &[u8]) -> Head
     ensures { result ≡ header_said (parsed raw.now) }
 {
     match Header::parse(raw) {
@@ -70,16 +69,14 @@ fn set_all(header: Header, tx_add: bool, rx_add: bool, length: u8) -> Got
 }
 
 // A header of a type, with TxAdd, RxAdd and length set.
-#[unsafe(no_mangle)]
-pub extern "C" fn board_new_header(ty: u8, tx_add: bool, rx_add: bool, length: u8) -> Got
+pub fn board_new_header(ty: u8, tx_add: bool, rx_add: bool, length: u8) -> Got
     ensures { result ≡ head_set (header_of (type_code (pdu_type ty))) tx_add rx_add length }
 {
     set_all(Header::new(PduType::from_u8(ty)), tx_add, rx_add, length)
 }
 
 // The same of a header that is given.
-#[unsafe(no_mangle)]
-pub extern "C" fn board_set_header(raw: &[u8], tx_add: bool, rx_add: bool, length: u8) -> Got
+pub fn board_set_header(raw: &[u8], tx_add: bool, rx_add: bool, length: u8) -> Got
     ensures { result ≡ parsed_set (parsed raw.now) tx_add rx_add length }
 {
     match Header::parse(raw) {
@@ -110,6 +107,7 @@ fn frame_of(number: u8, pdu: PduBuf) -> Frame
 }
 
 // A builder with records: 0 ADV_IND, 1 discoverable, 2 ADV_NONCONN_IND, 3 beacon, 4 SCAN_RSP, otherwise ADV_SCAN_IND.
+#[tactic(auto, unfolding(crate::specs::Packets::built_as))]
 fn built(which: u8, own: DeviceAddress, records: &[u8]) -> Built
     ensures { result ≡ built_as which own records.now }
 {
@@ -123,8 +121,7 @@ fn built(which: u8, own: DeviceAddress, records: &[u8]) -> Built
     }
 }
 
-#[unsafe(no_mangle)]
-pub extern "C" fn board_build(which: u8, own: &[u8; 6], random: bool, records: &[u8]) -> Frame
+pub fn board_build(which: u8, own: &[u8; 6], random: bool, records: &[u8]) -> Frame
     ensures { result ≡ built_frame (built_as which (address_of own.now (kind_of random)) records.now) }
 {
     let made = built(which, address(*own, random), records);
@@ -133,8 +130,7 @@ pub extern "C" fn board_build(which: u8, own: &[u8; 6], random: bool, records: &
     frame_of(outcome.number(), pdu)
 }
 
-#[unsafe(no_mangle)]
-pub extern "C" fn board_build_directed(
+pub fn board_build_directed(
     own: &[u8; 6],
     random: bool,
     other: &[u8; 6],

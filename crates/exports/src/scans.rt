@@ -66,6 +66,7 @@ fn hears(scanned: Scanned) -> Listened
 }
 
 // The scanner after an entry. A packet hands none back: it leaves the scanner as it is.
+#[tactic(auto, unfolding(crate::specs::Scans::entry_after))]
 fn moved(scanner: BeaconScanner, entry: &[u8]) -> BeaconScanner
     ensures { scanner_state result ≡ entry_after entry.now (scanner_state scanner) }
 {
@@ -91,6 +92,7 @@ fn moved_by(scanner: BeaconScanner, entries: &[u8]) -> BeaconScanner
     listening
 }
 
+#[tactic(auto, unfolding(crate::specs::Scans::entry_said))]
 fn answered(scanner: BeaconScanner, list: &[u8], entry: &[u8]) -> Listened
     ensures { result ≡ entry_said entry.now list.now (scanner_state scanner) }
 {
@@ -108,13 +110,7 @@ fn answered(scanner: BeaconScanner, list: &[u8], entry: &[u8]) -> Listened
 }
 
 // The answer of an entry after a list of entries on a fresh scanner, with a filter list in use or without.
-#[unsafe(no_mangle)]
-pub extern "C" fn board_scanner_call(
-    filtered: bool,
-    list: &[u8],
-    entries: &[u8],
-    entry: &[u8],
-) -> Listened
+pub fn board_scanner_call(filtered: bool, list: &[u8], entries: &[u8], entry: &[u8]) -> Listened
     ensures { result ≡ entry_said entry.now list.now (entries_after (scanner_of (filter_for filtered)) entries.now) }
 {
     let fresh = BeaconScanner::with_filter(filter(filtered));

@@ -1,0 +1,35 @@
+// Headers and PDUs at a position.
+ghost use Rattle.std.specs.Prelude.{◌≡◌};
+ghost use Rattle.octets.specs.Bytes.{u16_read};
+ghost use Rattle.addresses.specs.Header.{parsed, header_read, header_at};
+ghost use Rattle.advertising.specs.Pdu.{decoded_at};
+ghost use Rattle.answers.specs.Packet.{packet_said};
+ghost use Rattle.basics.specs.At.{header_got, header_written, header_after};
+
+use answers::got::Got;
+use answers::packet::Packet;
+use basics::at;
+
+// A header's 16 bits, and the position after it.
+#[unsafe(no_mangle)]
+pub extern "C" fn board_read_header(s: &[u8], at: usize) -> Got
+    ensures { result ≡ header_got (header_at s.now at) }
+{
+    at::board_read_header(s, at)
+}
+
+// The header of two octets is written; the position after it.
+#[unsafe(no_mangle)]
+pub extern "C" fn board_write_header(out: &mut [u8], at: usize, raw: &[u8]) -> Got
+    ensures { (result ≡ header_written (parsed raw.now) out.old at) × (out.new ≡ header_after (parsed raw.now) out.old at) }
+{
+    at::board_write_header(out, at, raw)
+}
+
+// A PDU whose header begins at a position, and whose payload is all that follows it.
+#[unsafe(no_mangle)]
+pub extern "C" fn board_read_pdu(s: &[u8], at: usize) -> Packet
+    ensures { result ≡ packet_said (decoded_at (header_read (u16_read s.now at)) s.now) }
+{
+    at::board_read_pdu(s, at)
+}
