@@ -1,4 +1,4 @@
-// Links libexports, libdecode, libbasics and libbit_stream. They are the archives that `rt staticlib NAME` writes; EXPORTS_DIR names another folder
+// Links libexports, libdecode, libbasics and libbit_stream. They are the archives that `tools/build NAME` writes; EXPORTS_DIR names another folder
 // that holds them. With EXPORTS_LINK=dylib they are shared objects, which the program finds by LD_LIBRARY_PATH when it starts: compare/faults tries
 // many of them.
 fn main() {

@@ -1,6 +1,6 @@
 /* The proved functions that can be linked, of libdecode.a, libexports.a, libbasics.a and libbit_stream.a.
  *
- * `rt staticlib NAME` writes target/staticlib/libNAME.a. The archives are for x86-64 Linux. Of other libraries they call memcpy only; they allocate
+ * `tools/build NAME` writes target/staticlib/libNAME.a. The archives are for x86-64 Linux. Of other libraries they call memcpy only; they allocate
  * nothing and keep nothing between calls. Every input has an answer. From C: cc -Icompare/include PROGRAM.c target/staticlib/libdecode.a; from Rust:
  * rustc -L native=target/staticlib -l static=decode PROGRAM.rs, with the structs as #[repr(C)] (compare/src/ours.rs and its ours/ have them).
  *
