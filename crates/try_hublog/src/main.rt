@@ -164,6 +164,7 @@ fn sized_run(rt: &HostRuntime) -> io::Result<()> {
 }
 
 // A reader of which each read fails.
+#[derive(Drop)]
 struct NoDescriptor;
 
 impl Read for NoDescriptor {
