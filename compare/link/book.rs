@@ -1,6 +1,7 @@
 //! Holds the turn book to `src/book.rs`, which answers each call by its history, through the programs that have a book: `book BIN SCRATCH [SEED [PROGRAM..]]`, with the
 //! folders of the programs and for files that are made, and of the programs `replay` and `turnbook` those that are named. Prints what was met. Ends with 1 where an
-//! answer differs, after the smallest histories that it finds, and with 2 where something was not met.
+//! answer differs, after the smallest histories that it finds, and with 2 where something was not met. `book cases FOLDER turnbook` runs nothing: it writes inputs of
+//! turnbook to the folder, and beside each, as NAME.stdout, the lines that it has to print.
 #[path = "../src/area.rs"]
 mod area;
 #[path = "../src/book.rs"]
@@ -26,6 +27,8 @@ const LONG: usize = 4;
 const LONGEST_AREA: usize = 312;
 /// Inputs of turnbook.
 const EVENINGS: usize = 400;
+/// Those that are written for a try without a proof.
+const EVENINGS_TRIED: usize = 60;
 /// Differences that are printed.
 const PRINTED: usize = 3;
 
@@ -607,6 +610,23 @@ fn through_turnbook(bin: &str, scratch: &str, seed: u64) -> u8 {
     end("turnbook", &met, &of, lines, "lines", differ, begun)
 }
 
+/// Inputs of turnbook, with their lines, of which a case holds fewer than a megabyte.
+fn write_cases(folder: &str) {
+    let (mut rng, mut met) = (Rng(1), Met::default());
+    for n in 0..EVENINGS_TRIED {
+        let used = match n {
+            _ if n + 2 >= EVENINGS_TRIED => long_use(&mut rng),
+            _ => Use { calls: rng.below(4_000), ..some_use(&mut rng) },
+        };
+        let input = evening(&used, &mut rng, &mut met);
+        let lines = log_of(&input).0;
+        if lines.len() < 1_000_000 {
+            fs::write(format!("{folder}/{n:03}"), input).unwrap();
+            fs::write(format!("{folder}/{n:03}.stdout"), lines).unwrap();
+        }
+    }
+}
+
 fn end(program: &str, met: &Met, of: &[&str], compared: usize, what: &str, differ: usize, begun: Instant) -> u8 {
     let all = met.print(of);
     let seconds = begun.elapsed().as_secs();
@@ -620,8 +640,13 @@ fn end(program: &str, met: &Met, of: &[&str], compared: usize, what: &str, diffe
 
 fn main() {
     let words: Vec<String> = std::env::args().skip(1).collect();
+    if let [word, folder, ..] = &words[..] {
+        if word == "cases" {
+            return write_cases(folder);
+        }
+    }
     let (Some(bin), Some(scratch), Ok(seed)) = (words.first(), words.get(1), words.get(2).map_or(Ok(1), |word| word.parse())) else {
-        eprintln!("usage: book BIN SCRATCH [SEED [replay|turnbook..]]");
+        eprintln!("usage: book BIN SCRATCH [SEED [replay|turnbook..]] | cases FOLDER turnbook");
         exit(2);
     };
     println!("seed {seed}");

@@ -1,5 +1,6 @@
 //! Tries the programs hublog and replay from outside, as a shell starts them: `programs BIN REPOSITORY SCRATCH`, with the folders of the programs, of the repository and
-//! for files that are made; with the word `log` after these hublog's log alone. Prints a line for each thing tried, and ends with 1 if one of them is not as it should be.
+//! for files that are made. Prints a line for each thing tried, and ends with 1 if one of them is not as it should be. `programs cases FOLDER` runs nothing: it writes
+//! inputs of hublog to the folder, and beside each, as NAME.stdout, the log that it has to print.
 // records are only counted here
 #[allow(dead_code)]
 #[path = "../src/area.rs"]
@@ -393,14 +394,27 @@ fn replay_fails(t: &mut Tried, repository: &str) {
     t.each("replay", &lines);
 }
 
+/// Inputs of hublog, with their logs: each kind of item often, many reads, and the limit of items.
+fn write_cases(folder: &str) {
+    let mut random = Random(1);
+    let mut inputs: Vec<Vec<u8>> = (0..60).map(|_| some_input(&mut random)).collect();
+    inputs.extend([vec![], reports_and_ticks(20_000), bad_and_good(9_000)]);
+    inputs.extend([999_998, 999_999, 1_000_000].map(|count| vec![0; count]));
+    for (n, input) in inputs.iter().enumerate() {
+        fs::write(format!("{folder}/{n:02}"), input).unwrap();
+        fs::write(format!("{folder}/{n:02}.stdout"), log(input)).unwrap();
+    }
+}
+
 fn main() {
     let words: Vec<String> = std::env::args().collect();
-    let ([_, bin, repository, scratch], only_log) = (match &words[..] {
-        [all @ .., last] if all.len() == 4 && last == "log" => (all, true),
-        all => (all, false),
-    }) else {
-        eprintln!("usage: programs BIN REPOSITORY SCRATCH [log]");
-        exit(2);
+    let (bin, repository, scratch) = match &words[..] {
+        [_, word, folder, ..] if word == "cases" => return write_cases(folder),
+        [_, bin, repository, scratch] => (bin, repository, scratch),
+        _ => {
+            eprintln!("usage: programs BIN REPOSITORY SCRATCH | cases FOLDER");
+            exit(2);
+        }
     };
     let mut t = Tried { bin: bin.clone(), scratch: scratch.clone(), failed: 0 };
     let path = format!("{repository}/examples/hub");
@@ -409,17 +423,15 @@ fn main() {
     for some in [reports_and_ticks(300), bad_and_good(100)] {
         in_pieces(&mut t, "hublog", &some, &log(&some));
     }
-    if !only_log {
-        try_hublog_is_held(&mut t, &example, repository);
-        hublog_is_asked(&mut t, &path);
-        hublog_fails(&mut t, &path);
-        hublog_does_not_wait(&mut t, &example);
-        let requests = recorded(repository);
-        replay_answers(&mut t, &requests);
-        replay_fails(&mut t, repository);
-        let answers = t.run("replay", &requests[..3_000]).0;
-        in_pieces(&mut t, "replay", &requests[..3_000], &answers);
-    }
+    try_hublog_is_held(&mut t, &example, repository);
+    hublog_is_asked(&mut t, &path);
+    hublog_fails(&mut t, &path);
+    hublog_does_not_wait(&mut t, &example);
+    let requests = recorded(repository);
+    replay_answers(&mut t, &requests);
+    replay_fails(&mut t, repository);
+    let answers = t.run("replay", &requests[..3_000]).0;
+    in_pieces(&mut t, "replay", &requests[..3_000], &answers);
     if t.failed > 0 {
         println!("{} not as they should be", t.failed);
         exit(1);
