@@ -248,7 +248,13 @@ fn lies(
 }
 
 // The octets by `name`, so that it runs too.
-fn named<'a>(out: &mut Page, at: usize, advertisement: &'a [u8], reply: &'a [u8]) -> usize {
+fn named<'a>(
+    rt: &HostRuntime,
+    out: &mut Page,
+    at: usize,
+    advertisement: &'a [u8],
+    reply: &'a [u8],
+) -> usize {
     match find_name(advertisement, reply) {
         NamePlace::InReply { start, len } => {
             let next = text(rt, out, at, b" reply");
@@ -264,7 +270,7 @@ fn named<'a>(out: &mut Page, at: usize, advertisement: &'a [u8], reply: &'a [u8]
 
 // An advertisement of so many octets, and the reply after it.
 fn two_areas(rt: &HostRuntime, out: &mut Page, at: usize, size: usize, areas: &[u8]) -> usize {
-    named(out, at, start(areas, size), rest(areas, size))
+    named(rt, out, at, start(areas, size), rest(areas, size))
 }
 
 // A record of a kind, whose data are octets 4 on of the request.
