@@ -52,7 +52,7 @@ fn read_once<R: Read>(input: &mut R, buf: &mut [u8], kept: usize) -> io::Result<
 }
 
 // The same, made again where a signal interrupts it.
-pub fn read_more<R: Read>(input: &mut R, buf: &mut [u8], kept: usize) -> io::Result<usize>
+fn read_again<R: Read>(input: &mut R, buf: &mut [u8], kept: usize) -> io::Result<usize>
     requires { kept < length buf.old }
     ensures upto { IfOk result (λ upto. (kept ≤ upto) × (upto ≤ length buf.old)) }
     ensures kept { take kept buf.new ≡ take kept buf.old }
@@ -68,6 +68,17 @@ pub fn read_more<R: Read>(input: &mut R, buf: &mut [u8], kept: usize) -> io::Res
         }
     }
     Err(io::Error::from(ErrorKind::Interrupted))
+}
+
+// The same of any buffer: where there is no room, it fails and nothing is read.
+pub fn read_more<R: Read>(input: &mut R, buf: &mut [u8], kept: usize) -> io::Result<usize>
+    ensures upto { IfOk result (λ upto. (kept ≤ upto) × (upto ≤ length buf.old)) }
+    ensures kept { take kept buf.new ≡ take kept buf.old }
+{
+    if buf.len() <= kept {
+        return Err(io::Error::from(ErrorKind::InvalidInput));
+    }
+    read_again(input, buf, kept)
 }
 
 // Waits a millisecond, or less where a signal comes.

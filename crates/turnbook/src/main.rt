@@ -62,9 +62,6 @@ fn unread(kept: usize) -> Moved
 fn read_on<R: Read>(rt: &HostRuntime, input: &mut R, buf: &mut [u8], kept: usize) -> Moved
     ensures { (kept ≤ result.upto) × (result.is_failed ≡ false → result.upto ≤ length buf.old) }
 {
-    if buf.len() <= kept {
-        return unread(kept);
-    }
     match read_more(input, buf, kept) {
         Ok(upto) => Moved {
             upto,
