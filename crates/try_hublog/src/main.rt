@@ -1,4 +1,4 @@
-// Tries the loop of `hub_io` on inputs that are made here, in memory. Prints the log of each, and of a long one how long it is, its CRC, and its
+// Tries the loop of `hub_io` on inputs that are made here, in files that are gone once they are closed. Prints the log of each, and of a long one how long it is, its CRC, and its
 // first and last lines.
 #![tactic(auto)]
 
@@ -6,9 +6,9 @@ ghost use Rattle.std.specs.Prelude.{◌≡◌, length};
 
 use hub_io::{Run, log_all, log_through};
 use octets::bytes::part_of;
-use std::alloc::{AllocError, Global};
-use std::io;
-use std::io::{ErrorKind, Read};
+use std::alloc::AllocError;
+use std::fs::File;
+use std::{fs, io};
 use whitening::crc::{CRC_PRESET, crc};
 
 fn text(rt: &HostRuntime, s: &[u8]) -> io::Result<()> {
@@ -20,20 +20,29 @@ fn number(rt: &HostRuntime, n: u64) -> io::Result<()> {
     print!(rt; "{n}")
 }
 
+// A file of these octets, from its front on. It is gone once it is closed.
+fn scratch(rt: &HostRuntime, octets: &[u8]) -> io::Result<File> {
+    fs::write(rt, "scratch", octets)?;
+    let file = File::open(rt, "scratch")?;
+    fs::remove_file(rt, "scratch")?;
+    Ok(file)
+}
+
 // Prints the log of an input.
-fn log_of(rt: &HostRuntime, input: &[u8]) {
-    let mut left = input;
-    log_all(rt, &mut left, &mut rt.stdout());
+fn log_of(rt: &HostRuntime, input: &[u8]) -> io::Result<()> {
+    let mut file = scratch(rt, input)?;
+    log_all(rt, &mut file, &mut rt.stdout());
+    Ok(())
 }
 
 fn short_runs(rt: &HostRuntime) -> io::Result<()> {
     text(rt, b"document 01's sample\n")?;
-    log_of(rt, b"\x00\x01\x42\x09\x01\x02\x03\x04\x05\xC6\x02\x01\x06");
+    log_of(rt, b"\x00\x01\x42\x09\x01\x02\x03\x04\x05\xC6\x02\x01\x06")?;
     text(rt, b"the sample, and an item that is cut short\n")?;
     log_of(
         rt,
         b"\x00\x01\x42\x09\x01\x02\x03\x04\x05\xC6\x02\x01\x06\x01\x42\x06\x0A",
-    );
+    )?;
     text(
         rt,
         b"the sample, another first octet, and the sample again\n",
@@ -41,10 +50,9 @@ fn short_runs(rt: &HostRuntime) -> io::Result<()> {
     log_of(
         rt,
         b"\x00\x01\x42\x09\x01\x02\x03\x04\x05\xC6\x02\x01\x06\x03\x00\x01\x42\x09\x01\x02\x03\x04\x05\xC6\x02\x01\x06",
-    );
+    )?;
     text(rt, b"no input\n")?;
-    log_of(rt, b"");
-    Ok(())
+    log_of(rt, b"")
 }
 
 // Puts beacon n of the long input, of nine octets, whose sender's first two octets are n; a tick stands before every five-thousandth.
@@ -89,20 +97,27 @@ fn print_run(rt: &HostRuntime, run: Run, log: &[u8]) -> io::Result<()> {
     print_ends(rt, log)
 }
 
+// The log that a run wrote to the file `log`, and what of it is found there.
+fn print_found(rt: &HostRuntime, run: Run) -> io::Result<()> {
+    let all = fs::read(rt, "log")?;
+    fs::remove_file(rt, "log")?;
+    print_run(rt, run, all.as_slice())
+}
+
 // Runs the loop of `hub_io` with a buffer of 64 KiB, and prints what it wrote.
-fn print_log<R: Read>(rt: &HostRuntime, input: &mut R) -> io::Result<()> {
-    let mut log = Vec::new(rt.alloc());
+fn print_log(rt: &HostRuntime, input: &mut File) -> io::Result<()> {
+    let mut log = File::create(rt, "log")?;
     let run = log_all(rt, input, &mut log);
-    print_run(rt, run, log.as_slice())
+    print_found(rt, run)
 }
 
 // The same with at most 66 octets a read.
-fn print_log_by_66<R: Read>(rt: &HostRuntime, input: &mut R) -> io::Result<()> {
-    let mut log = Vec::new(rt.alloc());
+fn print_log_by_66(rt: &HostRuntime, input: &mut File) -> io::Result<()> {
+    let mut log = File::create(rt, "log")?;
     let mut buf = [0u8; 66];
     let mut out = [0u8; 288];
     let run = log_through(rt, input, &mut log, &mut buf, &mut out);
-    print_run(rt, run, log.as_slice())
+    print_found(rt, run)
 }
 
 // More than two full buffers of lines: a buffer of input holds 7,281 beacons of nine octets. And the same octets in more than two thousand reads.
@@ -110,11 +125,11 @@ fn long_runs(rt: &HostRuntime) -> io::Result<()> {
     let mut input = Vec::new(rt.alloc());
     put_beacons(&mut input, 15000)?;
     text(rt, b"15000 beacons\n")?;
-    let mut left = input.as_slice();
-    print_log(rt, &mut left)?;
+    let mut file = scratch(rt, input.as_slice())?;
+    print_log(rt, &mut file)?;
     text(rt, b"the same, at most 66 octets a read\n")?;
-    let mut left = input.as_slice();
-    print_log_by_66(rt, &mut left)
+    let mut file = scratch(rt, input.as_slice())?;
+    print_log_by_66(rt, &mut file)
 }
 
 // Blocks that just fill the room for their lines, and stop there: 7,281 beacons of nine octets in 64 KiB, seven in 66 octets.
@@ -123,19 +138,24 @@ fn full_runs(rt: &HostRuntime) -> io::Result<()> {
     put_beacons(&mut input, 7281)?;
     input.push(0x03)?;
     text(rt, b"7281 beacons, and another first octet\n")?;
-    let mut left = input.as_slice();
-    print_log(rt, &mut left)?;
+    let mut file = scratch(rt, input.as_slice())?;
+    print_log(rt, &mut file)?;
     let mut input = Vec::new(rt.alloc());
     put_beacons(&mut input, 7)?;
     input.push(0x03)?;
     text(rt, b"7 of them, at most 66 octets a read\n")?;
-    let mut left = input.as_slice();
-    print_log_by_66(rt, &mut left)
+    let mut file = scratch(rt, input.as_slice())?;
+    print_log_by_66(rt, &mut file)
+}
+
+fn put_tick(input: &mut Vec<u8>) -> Result<(), AllocError> {
+    input.push(0x00)?;
+    Ok(())
 }
 
 fn put_ticks(input: &mut Vec<u8>, count: u32) -> Result<(), AllocError> {
     for _ in 0..count {
-        input.push(0x00)?;
+        put_tick(input)?;
     }
     Ok(())
 }
@@ -159,24 +179,22 @@ fn sized_run(rt: &HostRuntime) -> io::Result<()> {
     let mut input = Vec::new(rt.alloc());
     put_sizes(&mut input)?;
     text(rt, b"reads of 1 to 66 octets\n")?;
-    let mut left = input.as_slice();
-    print_log_by_66(rt, &mut left)
+    let mut file = scratch(rt, input.as_slice())?;
+    print_log_by_66(rt, &mut file)
 }
 
-// A reader of which each read fails.
-#[derive(Drop)]
-struct NoDescriptor;
-
-impl Read for NoDescriptor {
-    fn read(&mut self, _buf: &mut [u8]) -> io::Result<usize> {
-        Err(io::Error::from(ErrorKind::NotFound))
-    }
-}
-
-// Nothing to read from: nothing is written.
+// Nothing to read from, a folder: nothing is written.
 fn failed_run(rt: &HostRuntime) -> io::Result<()> {
     text(rt, b"no descriptor\n")?;
-    print_log(rt, &mut NoDescriptor)
+    print_log(rt, &mut File::open(rt, ".")?)
+}
+
+// The last 54 octets; none, where there are fewer.
+fn last_octets(all: &[u8]) -> &[u8] {
+    if 54 <= all.len() {
+        return part_of(all, all.len() - 54, 54);
+    }
+    part_of(all, 0, 0)
 }
 
 // To the limit: a million beacons and the ticks between them, of which 999,999 items count.
@@ -184,17 +202,15 @@ fn longest_run(rt: &HostRuntime) -> io::Result<()> {
     let mut input = Vec::new(rt.alloc());
     put_beacons(&mut input, 1000000)?;
     text(rt, b"1000000 beacons\n")?;
-    let mut log = Vec::new(rt.alloc());
-    let mut left = input.as_slice();
-    let run = log_all(rt, &mut left, &mut log);
+    let mut file = scratch(rt, input.as_slice())?;
+    let mut log = File::create(rt, "log")?;
+    let run = log_all(rt, &mut file, &mut log);
+    let all = fs::read(rt, "log")?;
+    fs::remove_file(rt, "log")?;
     text(rt, b"written")?;
     number(rt, run.written as u64)?;
     text(rt, b", its end")?;
-    let all = log.as_slice();
-    if all.len() < 54 {
-        return Ok(());
-    }
-    let end = part_of(all, all.len() - 54, 54);
+    let end = last_octets(all.as_slice());
     number(rt, end.len() as u64)?;
     text(rt, b" octets\n")?;
     text(rt, end)
