@@ -81,7 +81,7 @@ pub fn read_more<R: Read>(input: &mut R, buf: &mut [u8], kept: usize) -> io::Res
     read_again(input, buf, kept)
 }
 
-// Waits a millisecond, or less where a signal comes.
+// Waits a millisecond.
 fn wait(rt: &HostRuntime) {
     thread::sleep(rt, Duration::from_millis(1));
 }

@@ -3,7 +3,6 @@ ghost use Rattle.std.specs.Prelude.{◌≤◌, length};
 
 use crate::LAST;
 use std::io;
-use std::io::Print;
 
 // The columns of an item's number, which begins each line.
 const NUMBER: usize = 6;
@@ -64,11 +63,6 @@ fn line_start(lines: &[u8], at: usize) -> usize
     i
 }
 
-fn spoken(rt: &HostRuntime, text: &[u8], e: &io::Error) -> io::Result<()> {
-    rt.stderr().write_all(text)?;
-    eprintln!(rt; ": {e}")
-}
-
 // Says what failed, with the number that begins the line of `lines` at `at`, and why in the system's words.
 fn fail(rt: &HostRuntime, what: &[u8], lines: &[u8], at: usize, e: &io::Error)
     requires { at ≤ length lines.now }
@@ -77,7 +71,7 @@ fn fail(rt: &HostRuntime, what: &[u8], lines: &[u8], at: usize, e: &io::Error)
     let from = line_start(lines, at);
     let column = octets::bytes::part_of(lines, from, NUMBER);
     let n = spell(what, column, &mut text);
-    let _said = spoken(rt, &text[..n], e);
+    let _said = fail::fail(rt, &text[..n], e);
 }
 
 // A line of the log was not written whole, that at `at`: a report's, or the last one, which is there where `has_last` says so.

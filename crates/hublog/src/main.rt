@@ -1,7 +1,7 @@
 // Reads the hub's input from standard input to its end, and prints its log. All that is done is in the crate `hub_io`.
 #![tactic(auto)]
 
-use std::{env, io};
+use std::io;
 
 fn usage(rt: &HostRuntime) -> io::Result<()> {
     eprintln!(rt; "usage: hublog < INPUT > LOG")?;
@@ -11,7 +11,7 @@ fn usage(rt: &HostRuntime) -> io::Result<()> {
 }
 
 fn main(rt: HostRuntime) -> io::Result<()> {
-    if 1 < env::args(&rt)?.count() {
+    if fail::has_argument(&rt) {
         return usage(&rt);
     }
     hub_io::log_all(&rt, &mut rt.stdin(), &mut rt.stdout());

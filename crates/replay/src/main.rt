@@ -66,7 +66,6 @@ use radio::link::{Answer, Called, Device};
 use records::ad_structure::write_record;
 use records::area::{Area, PaddedArea, read_area, read_padded_area, rewrite_area};
 use settings::{ConnectionSettings, Taken};
-use std::env;
 use std::io::Read;
 use std::num::wrapping_add_u64;
 
@@ -911,7 +910,7 @@ fn next_turn(
     match rt.stdin().read(input) {
         Ok(n) => take_read(rt, run, &input[..n], args, out),
         Err(e) => {
-            let _told = eprintln!(rt; "replay: standard input: {e}");
+            let _said = fail::fail(rt, b"replay: standard input", &e);
             placed(run, STOPPED)
         }
     }
@@ -941,7 +940,7 @@ fn replay(rt: &HostRuntime, input: &mut [u8], args: &mut [u8; 320], out: &mut Pa
 }
 
 fn main(rt: HostRuntime) -> std::io::Result<()> {
-    if 1 < env::args(&rt)?.count() {
+    if fail::has_argument(&rt) {
         return eprintln!(rt; "usage: replay < requests");
     }
     let mut input = io::large_buffer();

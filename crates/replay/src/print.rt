@@ -57,7 +57,7 @@ pub(crate) fn flush(rt: &HostRuntime, out: &[u8], at: usize) -> usize {
     match rt.write_all(&out[..at]) {
         Ok(()) => 0,
         Err(e) => {
-            let _told = eprintln!(rt; "replay: standard output: {e}");
+            let _said = fail::fail(rt, b"replay: standard output", &e);
             STOPPED
         }
     }
