@@ -3,7 +3,7 @@
 --   move_row company turn octets  == the record of a move, the high octets of company and turn being 0
 --   replies_from b calls          == the replies to the calls, one after the other
 --   one octet, nothing           == a move of one octet read, and none
---   after-report sender area     == the reply to a report in turn 0 of a book of company 0x59 with Ada in seat 1, and Ada's open move then
+--   after_report sender area     == the reply to a report in turn 0 of a book of company 0x59 with Ada in seat 1, and Ada's open move then
 --   seats_down k                  == calls that seat k addresses, Ada's being the last but one
 --   late_book                     == a book of company 0x59 with turn 65,534 open
 --   Examples                     (Examples.examples)
