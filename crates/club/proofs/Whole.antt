@@ -1,12 +1,10 @@
 -- Reading a club and what its calls return as records leaves nothing out (`whole`) and changes nothing that callers see (`as_it_is`). Assumes nothing.
-use mathlib.Core.Path.{◌≡◌, refl, ap}
+use mathlib.Core.Path.{refl, ap}
 use Rattle.book.specs.declared.book.Book.{Book}
 use Rattle.book_spec.specs.State as book
 use Rattle.club_spec.specs.State as spec
 use Rattle.club.specs.State.{Whole, AsItIs}
 use Rattle.club.specs.declared.log.Club.{Club}
-use Rattle.club.specs.declared.log.TakenItem.{TakenItem}
-use Rattle.club.specs.declared.log.TakenItems.{TakenItems}
 
 -- what is read as a record, from that record
 abbrev book_of : book.Book → Book
