@@ -279,23 +279,23 @@ fn hublog_fails(t: &mut Tried, example: &str) {
     let bin = format!("{}/hublog", t.bin);
     let many = t.file("many", &reports(20_000));
     let lines = [
-        ("a full device", format!("{bin} < {many} > /dev/full"), "hublog: writing failed at item 1: No space left on device (os error 28)\n"),
-        ("a full device at the last line", format!("{bin} < /dev/null > /dev/full"), "hublog: writing the last line failed after item 0: No space left on device (os error 28)\n"),
-        ("a closed output", format!("{bin} < {example} >&-"), "hublog: writing failed at item 2: Bad file descriptor (os error 9)\n"),
-        ("a directory as input", format!("{bin} < /"), "hublog: reading failed after item 0: Is a directory (os error 21)\n"),
-        ("a closed input", format!("{bin} <&-"), "hublog: reading failed after item 0: Bad file descriptor (os error 9)\n"),
+        ("a full device", format!("{bin} < {many} > /dev/full"), "hublog: writing failed at item 1: No space left on device\n"),
+        ("a full device at the last line", format!("{bin} < /dev/null > /dev/full"), "hublog: writing the last line failed after item 0: No space left on device\n"),
+        ("a closed output", format!("{bin} < {example} >&-"), "hublog: writing failed at item 2: Bad file descriptor\n"),
+        ("a directory as input", format!("{bin} < /"), "hublog: reading failed after item 0: Is a directory\n"),
+        ("a closed input", format!("{bin} <&-"), "hublog: reading failed after item 0: Bad file descriptor\n"),
     ];
     t.each("hublog", &lines);
     // 16 blocks of 512 octets fit, so writing stops within a line.
     let cut = format!("{}/cut", t.scratch);
     let ran = t.shell(&format!("trap '' XFSZ; ulimit -f 16; {bin} < {many} > {cut}"));
     let (kept, whole) = (fs::read(&cut).unwrap(), t.run("hublog", &reports(20_000)).0);
-    let said = format!("hublog: writing failed at item {}: File too large (os error 27)\n", kept.len() / 39 + 1);
+    let said = format!("hublog: writing failed at item {}: File too large\n", kept.len() / 39 + 1);
     let is = kept.len() > 39 && kept.len() % 39 != 0 && whole.starts_with(&kept) && ran.1 == said;
     t.say("hublog: a file that may not grow, and nothing behind the failed write", is, &(kept, ran.1));
     for (what, before) in [("", ""), (", the signal being ignored", "trap '' PIPE; ")] {
         let ran = t.shell(&format!("{before}{bin} < {many} | head -c 100"));
-        let is = ran.0.len() == 100 && ran.1.starts_with("hublog: writing failed at item ") && ran.1.ends_with(": Broken pipe (os error 32)\n");
+        let is = ran.0.len() == 100 && ran.1.starts_with("hublog: writing failed at item ") && ran.1.ends_with(": Broken pipe\n");
         t.say(&format!("hublog: a reader that goes away{what}"), is, &ran);
     }
 }
@@ -385,10 +385,10 @@ fn replay_fails(t: &mut Tried, repository: &str) {
     let bin = format!("{}/replay", t.bin);
     let sample = format!("{repository}/crates/replay/stdin");
     let lines = [
-        ("a full device", format!("{bin} < {sample} > /dev/full"), "replay: standard output: No space left on device (os error 28)\n"),
-        ("a closed output", format!("{bin} < {sample} >&-"), "replay: standard output: Bad file descriptor (os error 9)\n"),
-        ("a directory as input", format!("{bin} < /"), "replay: standard input: Is a directory (os error 21)\n"),
-        ("a closed input", format!("{bin} <&-"), "replay: standard input: Bad file descriptor (os error 9)\n"),
+        ("a full device", format!("{bin} < {sample} > /dev/full"), "replay: standard output: No space left on device\n"),
+        ("a closed output", format!("{bin} < {sample} >&-"), "replay: standard output: Bad file descriptor\n"),
+        ("a directory as input", format!("{bin} < /"), "replay: standard input: Is a directory\n"),
+        ("a closed input", format!("{bin} <&-"), "replay: standard input: Bad file descriptor\n"),
         ("an argument", format!("{bin} --help < {sample}"), "usage: replay < requests\n"),
     ];
     t.each("replay", &lines);
