@@ -8,8 +8,8 @@ ghost use Rattle.std.specs.Prelude.{◌≡◌, true, false, ◌+◌, ◌≤◌, 
 use club::Club;
 use hub_io::{read_more, write_out};
 use octets::bytes::u16_from_le_bytes;
+use std::io;
 use std::io::{Read, Write};
-use std::{env, io};
 
 // The octets of the company number, and the highest that begins an item.
 const COMPANY: usize = 2;
@@ -68,7 +68,7 @@ fn read_on<R: Read>(rt: &HostRuntime, input: &mut R, buf: &mut [u8], kept: usize
             is_failed: false,
         },
         Err(e) => {
-            let _told = eprintln!(rt; "turnbook: reading failed: {e}");
+            let _told = fail::fail(rt, b"turnbook: reading failed", &e);
             unread(kept)
         }
     }
@@ -94,7 +94,7 @@ fn write_on<W: Write>(rt: &HostRuntime, output: &mut W, s: &[u8]) -> bool {
     match write_out(rt, output, s, &mut done) {
         Ok(()) => false,
         Err(e) => {
-            let _told = eprintln!(rt; "turnbook: writing failed: {e}");
+            let _told = fail::fail(rt, b"turnbook: writing failed", &e);
             true
         }
     }
@@ -244,7 +244,7 @@ fn serve<R: Read, W: Write>(
 }
 
 fn main(rt: HostRuntime) -> io::Result<()> {
-    if 1 < env::args(&rt)?.count() {
+    if fail::has_argument(&rt) {
         return usage(&rt);
     }
     let mut input = rt.stdin();
