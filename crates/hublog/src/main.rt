@@ -12,7 +12,8 @@ fn usage(rt: &HostRuntime) -> io::Result<()> {
 
 fn main(rt: HostRuntime) -> io::Result<()> {
     if fail::has_argument(&rt) {
-        return usage(&rt);
+        let _said = usage(&rt);
+        return Ok(());
     }
     hub_io::log_all(&rt, &mut rt.stdin(), &mut rt.stdout());
     Ok(())

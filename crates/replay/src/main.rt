@@ -941,7 +941,8 @@ fn replay(rt: &HostRuntime, input: &mut [u8], args: &mut [u8; 320], out: &mut Pa
 
 fn main(rt: HostRuntime) -> std::io::Result<()> {
     if fail::has_argument(&rt) {
-        return eprintln!(rt; "usage: replay < requests");
+        let _said = eprintln!(rt; "usage: replay < requests");
+        return Ok(());
     }
     let mut input = io::large_buffer();
     let mut out = io::large_buffer();

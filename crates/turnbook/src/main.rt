@@ -245,7 +245,8 @@ fn serve<R: Read, W: Write>(
 
 fn main(rt: HostRuntime) -> io::Result<()> {
     if fail::has_argument(&rt) {
-        return usage(&rt);
+        let _said = usage(&rt);
+        return Ok(());
     }
     let mut input = rt.stdin();
     let mut buf = [0u8; 65536];
@@ -255,7 +256,8 @@ fn main(rt: HostRuntime) -> io::Result<()> {
     }
     let start = read.upto;
     if start < COMPANY {
-        return eprintln!(rt; "turnbook: no company number");
+        let _said = eprintln!(rt; "turnbook: no company number");
+        return Ok(());
     }
     let club = Club::new(u16_from_le_bytes(buf[0], buf[1]));
     let filled = keep(&mut buf, COMPANY, start);
