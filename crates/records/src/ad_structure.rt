@@ -168,6 +168,18 @@ fn may_write(name: bool, unit: usize, data: &[u8], len: usize, at: usize, size: 
     Outcome::Refused(Error::Eof)
 }
 
+// Copies src over dst, which is as long.
+fn copy_octets(src: &[u8], dst: &mut [u8])
+    requires { length src.now ≡ length dst.old }
+    ensures { dst.new ≡ src.now }
+{
+    let mut i = 0;
+    while i < src.len() {
+        dst[i] = src[i];
+        i += 1;
+    }
+}
+
 // Writes length, type, a record's own octets and its data at position `at`.
 fn put_raw(len: u8, ty: u8, own: &[u8], data: &[u8], at: usize, out: &mut [u8])
     requires { (at + 2 + length own.now + length «data».now ≤ length out.old) × (len ≡ 1 + length own.now + length «data».now) }
@@ -178,8 +190,8 @@ fn put_raw(len: u8, ty: u8, own: &[u8], data: &[u8], at: usize, out: &mut [u8])
     let end = mid + data.len();
     out[at] = len;
     out[at + 1] = ty;
-    out[after_type..mid].copy_from_slice(own);
-    out[mid..end].copy_from_slice(data);
+    copy_octets(own, &mut out[after_type..mid]);
+    copy_octets(data, &mut out[mid..end]);
 }
 
 // Writes a record whose lent data are given, where these may be written.

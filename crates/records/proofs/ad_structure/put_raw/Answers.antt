@@ -38,4 +38,4 @@ module _ (at len ty : ℕ) (own d out : List ℕ) (fits : at + 2 + length own + 
 pub returns : goal.returns
 returns c =
     let a = c.args in
-    record_put a.at a.len a.ty a.own.now a.«data».now a.out.now c.requires.0 c.requires.1 (own_put a.at a.len a.ty a.own.now a.«data».now a.out.now c.requires.0 c.copy_from_slice.ensures.after) c.copy_from_slice-2.ensures.after
+    record_put a.at a.len a.ty a.own.now a.«data».now a.out.now c.requires.0 c.requires.1 (own_put a.at a.len a.ty a.own.now a.«data».now a.out.now c.requires.0 c.copy_octets.ensures) c.copy_octets-2.ensures
