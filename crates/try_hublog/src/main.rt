@@ -2,14 +2,20 @@
 // first and last lines.
 #![tactic(auto)]
 
-ghost use Rattle.std.specs.Prelude.{◌≡◌, length};
+ghost use Rattle.std.specs.Prelude.{◌≡◌, ◌≤◌, length, IfOk};
 
 use hub_io::{Run, log_all, log_through};
 use octets::bytes::part_of;
 use std::alloc::AllocError;
 use std::fs::File;
+use std::io::{Read, Seek, SeekFrom};
 use std::{fs, io};
 use whitening::crc::{CRC_PRESET, crc};
+
+// The files that are written, and removed again.
+const SCRATCH: &str = "try_hublog.scratch";
+
+const LOG: &str = "try_hublog.log";
 
 fn text(rt: &HostRuntime, s: &[u8]) -> io::Result<()> {
     rt.write_all(s)
@@ -22,9 +28,9 @@ fn number(rt: &HostRuntime, n: u64) -> io::Result<()> {
 
 // A file of these octets, from its front on. It is gone once it is closed.
 fn scratch(rt: &HostRuntime, octets: &[u8]) -> io::Result<File> {
-    fs::write(rt, "scratch", octets)?;
-    let file = File::open(rt, "scratch")?;
-    fs::remove_file(rt, "scratch")?;
+    fs::write(rt, SCRATCH, octets)?;
+    let file = File::open(rt, SCRATCH)?;
+    fs::remove_file(rt, SCRATCH)?;
     Ok(file)
 }
 
@@ -73,6 +79,28 @@ fn put_beacons(input: &mut Vec<u8>, count: u32) -> Result<(), AllocError> {
     Ok(())
 }
 
+// Room for the log of the long input.
+fn room() -> [u8; 600000]
+    ensures { 600000 ≡ length result }
+{
+    [0; 600000]
+}
+
+// Reads until `buf` is full or the file ends, and answers how many octets it holds then.
+fn read_full(file: &mut File, buf: &mut [u8]) -> io::Result<usize>
+    ensures { IfOk result (λ n. n ≤ length buf.old) }
+{
+    let mut n = 0;
+    for _ in 0..u64::MAX {
+        let got = file.read(&mut buf[n..])?;
+        if got == 0 {
+            break;
+        }
+        n += got;
+    }
+    Ok(n)
+}
+
 // Says how long a log is, and prints its CRC, its first line and its last two.
 fn print_ends(rt: &HostRuntime, log: &[u8]) -> io::Result<()> {
     number(rt, log.len() as u64)?;
@@ -99,21 +127,23 @@ fn print_run(rt: &HostRuntime, run: Run, log: &[u8]) -> io::Result<()> {
 
 // The log that a run wrote to the file `log`, and what of it is found there.
 fn print_found(rt: &HostRuntime, run: Run) -> io::Result<()> {
-    let all = fs::read(rt, "log")?;
-    fs::remove_file(rt, "log")?;
-    print_run(rt, run, all.as_slice())
+    let mut log = File::open(rt, LOG)?;
+    fs::remove_file(rt, LOG)?;
+    let mut all = room();
+    let n = read_full(&mut log, &mut all)?;
+    print_run(rt, run, &all[..n])
 }
 
 // Runs the loop of `hub_io` with a buffer of 64 KiB, and prints what it wrote.
 fn print_log(rt: &HostRuntime, input: &mut File) -> io::Result<()> {
-    let mut log = File::create(rt, "log")?;
+    let mut log = File::create(rt, LOG)?;
     let run = log_all(rt, input, &mut log);
     print_found(rt, run)
 }
 
 // The same with at most 66 octets a read.
 fn print_log_by_66(rt: &HostRuntime, input: &mut File) -> io::Result<()> {
-    let mut log = File::create(rt, "log")?;
+    let mut log = File::create(rt, LOG)?;
     let mut buf = [0u8; 66];
     let mut out = [0u8; 288];
     let run = log_through(rt, input, &mut log, &mut buf, &mut out);
@@ -189,31 +219,25 @@ fn failed_run(rt: &HostRuntime) -> io::Result<()> {
     print_log(rt, &mut File::open(rt, ".")?)
 }
 
-// The last 54 octets; none, where there are fewer.
-fn last_octets(all: &[u8]) -> &[u8] {
-    if 54 <= all.len() {
-        return part_of(all, all.len() - 54, 54);
-    }
-    part_of(all, 0, 0)
-}
-
-// To the limit: a million beacons and the ticks between them, of which 999,999 items count.
+// To the limit: a million beacons and the ticks between them, of which 999,999 items count. The log does not fit in the room, so its end is looked at.
 fn longest_run(rt: &HostRuntime) -> io::Result<()> {
     let mut input = Vec::new(rt.alloc());
     put_beacons(&mut input, 1000000)?;
     text(rt, b"1000000 beacons\n")?;
     let mut file = scratch(rt, input.as_slice())?;
-    let mut log = File::create(rt, "log")?;
+    let mut log = File::create(rt, LOG)?;
     let run = log_all(rt, &mut file, &mut log);
-    let all = fs::read(rt, "log")?;
-    fs::remove_file(rt, "log")?;
     text(rt, b"written")?;
     number(rt, run.written as u64)?;
     text(rt, b", its end")?;
-    let end = last_octets(all.as_slice());
-    number(rt, end.len() as u64)?;
+    let mut log = File::open(rt, LOG)?;
+    fs::remove_file(rt, LOG)?;
+    log.seek(SeekFrom::End(-54))?;
+    let mut end = [0u8; 100];
+    let n = read_full(&mut log, &mut end)?;
+    number(rt, n as u64)?;
     text(rt, b" octets\n")?;
-    text(rt, end)
+    text(rt, &end[..n])
 }
 
 fn main(rt: HostRuntime) -> io::Result<()> {
