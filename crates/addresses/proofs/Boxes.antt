@@ -12,9 +12,9 @@ use borrow.Author.Tests.{eqb-true, ne_eqb, lt-ltb, le-ltb}
 use Rattle.addresses.specs.Header.{header_of, type_code, pdu_type, is_beacon, allows_adv_data}
 use Rattle.addresses.specs.Laws.{boxes, OwnBits, HeaderFigure, HeaderNumber, TypeCodes, Types}
 use Rattle.addresses.specs.declared.header.Header.{Header}
-use Rattle.addresses.specs.declared.header.HeaderMade.TheVariants as made
 use Rattle.addresses.specs.declared.header.PduType.{PduType}
 use Rattle.addresses.specs.declared.header.PduType.TheVariants.{AdvInd, AdvDirectInd, AdvNonconnInd, AdvScanInd, ScanReq, ScanRsp, ConnectReq, Unknown}
+use Rattle.std.specs.Prelude.{Ok}
 
 -- six boxes, one by one
 six : {a b c d e f a' b' c' d' e' f' : ℕ} → a ≡ a' → b ≡ b' → c ≡ c' → d ≡ d' → e ≡ e' → f ≡ f'
@@ -167,7 +167,7 @@ figures ty low n top tx rx a b c =
       payload_length = box_length ty low t r n top a b s q c;
       tx_set = λ v. ap header_of (tx_put ty low t r n top a b s q c (cond v 1 0));
       rx_set = λ v. ap header_of (rx_put ty low t r n top a b s q c (cond v 1 0));
-      length_set_law = λ m l h. rw (le-ltb m 6 l, le-ltb 37 m h) (ap (λ (x : ℕ). made.Header (header_of x)) (length_put ty low t r n top a b s q c m));
+      length_set_law = λ m l h. rw (le-ltb m 6 l, le-ltb 37 m h) (ap (λ (x : ℕ). Ok (header_of x)) (length_put ty low t r n top a b s q c m));
       too_short = λ m l. rw (lt-ltb m 6 l);
       too_long = λ m l. rw (le-ltb m 6 (omega arith), lt-ltb 37 m l);
       made_new = ap header_of (codes.back ty ∙ omega arith);

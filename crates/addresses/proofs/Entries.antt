@@ -17,12 +17,13 @@ use Rattle.addresses.specs.Laws.{ListEntry, Listed, HeldTo, Policies}
 use Rattle.addresses.specs.declared.device_address.DeviceAddress.{DeviceAddress}
 use Rattle.addresses.specs.declared.filter.AddressFilter.{AddressFilter}
 use Rattle.addresses.specs.declared.filter.AddressFilter.TheVariants.{AllowAll, Whitelist}
-use Rattle.addresses.specs.declared.filter.Matches.TheVariants.{Is, Refused}
 use Rattle.addresses.proofs.Addresses.{equality, one_kind}
+use Rattle.std.specs.Prelude.{Ok, Err}
 
-pub any_more : (p : ℕ → Bool) (n : ℕ) → any p n ≡ false → p n ≡ false → any p (suc n) ≡ false
+pub any_none : (p : ℕ → Bool) (n : ℕ) → ((i : ℕ) → i < n → p i ≡ false) → any p n ≡ false
 unfolding any
-any_more p n before last = rw (before, last)
+any_none p zero none = refl
+any_none p (suc n) none = rw (any_none p n (λ i h. none i (omega arith)), none n (omega arith))
 
 pub any_found : (p : ℕ → Bool) (n i : ℕ) → i < n → p i ≡ true → any p n ≡ true
 unfolding any
@@ -101,7 +102,7 @@ listed list a =
           let same : entry_at list entry.place ≡ a = octets_same (entry_at list entry.place) a (sym (octets_there good entry.place entry.inside) ∙ entry.is) in
           let found = any_found (entry_is list a) (length list / 7) entry.place entry.inside ((equality (entry_at list entry.place) a).complete same) in
           rw (good, found);
-      other = λ good none. rw good (ap Is (nobody good (any (entry_is list a) (length list / 7)) refl none));
+      other = λ good none. rw good (ap Ok (nobody good (any (entry_is list a) (length list / 7)) refl none));
       empty = refl;
       all = refl;
     }
@@ -126,7 +127,7 @@ listed list a =
     nobody good true e none = absurd (none (entry_of good (any_passing (entry_is list a) (length list / 7) e)))
     nobody good false e none = refl
 
-    sound : (b : Bool) → is_list list ≡ b → cond (is_list list) (Is (any (entry_is list a) (length list / 7))) (Refused InvalidValue) ≡ Is true → ListEntry list a
+    sound : (b : Bool) → is_list list ≡ b → cond (is_list list) (Ok (any (entry_is list a) (length list / 7))) (Err InvalidValue) ≡ Ok true → ListEntry list a
     sound true e is =
         let answer = rw e at is in
         entry_of e (any_passing (entry_is list a) (length list / 7) (cc))

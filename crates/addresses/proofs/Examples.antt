@@ -1,12 +1,12 @@
 -- The worked values hold of the definitions. Computed. Assumes nothing.
 use mathlib.Core.Path.{refl}
-use Rattle.addresses.specs.Address.{same_octets, same_address}
+use Rattle.addresses.specs.Address.{same_address}
 use Rattle.addresses.specs.Examples.{Examples}
 use Rattle.addresses.specs.Filter.{any, whitelisted}
 use Rattle.addresses.specs.Header.{pdu_type}
 
 pub examples : Examples
-unfolding same_octets same_address any whitelisted pdu_type
+unfolding same_address any whitelisted pdu_type
 examples = record {
   number_1 = refl;
   number_3 = refl;

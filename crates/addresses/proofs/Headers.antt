@@ -9,7 +9,7 @@ use Rattle.octets.proofs.Places.{part_octets}
 use Rattle.octets.specs.Bytes.{part, le}
 use Rattle.addresses.specs.Header.{header_of}
 use Rattle.addresses.specs.Laws.{HeaderReading}
-use Rattle.addresses.specs.declared.header.HeaderMade.TheVariants as made
+use Rattle.std.specs.Prelude.{Ok}
 
 -- the number of two octets
 two : (s : List ℕ) (at : ℕ) → at + 2 ≤ length s → le (part 2 s at) ≡ get_or s at 0 + 256 * get_or s (at + 1) 0
@@ -21,6 +21,6 @@ reading s at = record {
   parse_short = λ h. rw (lt-ltb (length s) 2 h);
   from = λ h. rw (le-leb (at + 2) (length s) h, two s at h);
   from_short = λ h. rw (lt-leb (at + 2) (length s) h);
-  back = λ h small. ap (λ (n : ℕ). made.Header (header_of n)) (omega arith);
+  back = λ h small. ap (λ (n : ℕ). Ok (header_of n)) (omega arith);
   no_more = λ h. refl;
 }

@@ -4,7 +4,7 @@
 --   other          == an entry of another address
 --   random, public == the addresses of the six octets, of either kind
 --   Examples       (Examples.examples)  the values
-use Rattle.std.specs.Prelude.{true, false, List, [], ◌∷◌, ◌++◌, ◌≡◌, ℕ}
+use Rattle.std.specs.Prelude.{true, false, List, [], ◌∷◌, ◌++◌, ◌≡◌, ℕ, Ok, Err}
 use Rattle.octets.specs.Error.{number_of}
 use Rattle.octets.specs.declared.error.Error.TheVariants.{Eof, InvalidValue, ShortHeader, PayloadLength}
 use Rattle.addresses.specs.Address.{kind_number, kind_of, is_random, address_of, same_address}
@@ -13,9 +13,6 @@ use Rattle.addresses.specs.Header.{header_of, new_header, header_octets, type_of
 use Rattle.addresses.specs.declared.device_address.AddressKind.TheVariants.{Public, Random}
 use Rattle.addresses.specs.declared.device_address.DeviceAddress.{DeviceAddress}
 use Rattle.addresses.specs.declared.filter.AddressFilter.TheVariants.{AllowAll, Whitelist}
-use Rattle.addresses.specs.declared.filter.Matches.TheVariants.{Is, Refused}
-use Rattle.addresses.specs.declared.header.HeaderMade.TheVariants as made
-use Rattle.addresses.specs.declared.header.HeaderRead.TheVariants as read
 use Rattle.addresses.specs.declared.header.PduType.TheVariants.{AdvInd, AdvNonconnInd, ConnectReq, Unknown}
 
 -- six octets, an entry of a whitelist with them, and another
@@ -54,34 +51,34 @@ pub record Examples : Type 0 where
   pub other_last : same_address (address_of (1 ∷ 2 ∷ 3 ∷ 4 ∷ 5 ∷ 0xC7 ∷ []) Random) random ≡ false
   pub other_first : same_address (address_of (0 ∷ 2 ∷ 3 ∷ 4 ∷ 5 ∷ 0xC6 ∷ []) Random) random ≡ false
   -- "A whitelist matches if some entry is equal; an empty one never does"
-  pub listed : matches_of Whitelist (entry_of 1) random ≡ Is true
-  pub listed_public : matches_of Whitelist (entry_of 0) public ≡ Is true
-  pub listed_second : matches_of Whitelist (other ++ entry_of 1) random ≡ Is true
-  pub listed_second_public : matches_of Whitelist (other ++ entry_of 0) public ≡ Is true
-  pub listed_first : matches_of Whitelist (entry_of 1 ++ other) random ≡ Is true
-  pub other_listed : matches_of Whitelist (entry_of 0 ++ other) random ≡ Is false
-  pub none_listed : matches_of Whitelist [] random ≡ Is false
+  pub listed : matches_of Whitelist (entry_of 1) random ≡ Ok true
+  pub listed_public : matches_of Whitelist (entry_of 0) public ≡ Ok true
+  pub listed_second : matches_of Whitelist (other ++ entry_of 1) random ≡ Ok true
+  pub listed_second_public : matches_of Whitelist (other ++ entry_of 0) public ≡ Ok true
+  pub listed_first : matches_of Whitelist (entry_of 1 ++ other) random ≡ Ok true
+  pub other_listed : matches_of Whitelist (entry_of 0 ++ other) random ≡ Ok false
+  pub none_listed : matches_of Whitelist [] random ≡ Ok false
   -- 3: a list of 6 or 8 octets; a kind above 1, also after the entry that matches
-  pub list_of_6 : matches_of Whitelist six random ≡ Refused InvalidValue
-  pub list_of_8 : matches_of Whitelist (entry_of 1 ++ 1 ∷ []) random ≡ Refused InvalidValue
-  pub kind_2 : matches_of Whitelist (entry_of 2) random ≡ Refused InvalidValue
-  pub kind_2_behind : matches_of Whitelist (entry_of 1 ++ entry_of 2) random ≡ Refused InvalidValue
-  pub all_pass : matches_of AllowAll (entry_of 2) random ≡ Is true
+  pub list_of_6 : matches_of Whitelist six random ≡ Err InvalidValue
+  pub list_of_8 : matches_of Whitelist (entry_of 1 ++ 1 ∷ []) random ≡ Err InvalidValue
+  pub kind_2 : matches_of Whitelist (entry_of 2) random ≡ Err InvalidValue
+  pub kind_2_behind : matches_of Whitelist (entry_of 1 ++ entry_of 2) random ≡ Err InvalidValue
+  pub all_pass : matches_of AllowAll (entry_of 2) random ≡ Ok true
   -- rubble's `AdvFilter::new(scan, connect)`
-  pub all_scan : may_scan (adv_filter_of AllowAll Whitelist) [] random ≡ Is true
-  pub none_connect : may_connect (adv_filter_of AllowAll Whitelist) [] random ≡ Is false
-  pub none_scan : may_scan (adv_filter_of Whitelist AllowAll) [] random ≡ Is false
-  pub all_connect : may_connect (adv_filter_of Whitelist AllowAll) [] random ≡ Is true
+  pub all_scan : may_scan (adv_filter_of AllowAll Whitelist) [] random ≡ Ok true
+  pub none_connect : may_connect (adv_filter_of AllowAll Whitelist) [] random ≡ Ok false
+  pub none_scan : may_scan (adv_filter_of Whitelist AllowAll) [] random ≡ Ok false
+  pub all_connect : may_connect (adv_filter_of Whitelist AllowAll) [] random ≡ Ok true
   -- a header of 0, 1, 2 and 3 octets: 4 for `parse`, 1 for `from_bytes`, which goes on after it
-  pub parse_0 : parsed [] ≡ made.Refused ShortHeader
-  pub parse_1 : parsed (0x42 ∷ []) ≡ made.Refused ShortHeader
-  pub parse_2 : parsed (0x42 ∷ 0x09 ∷ []) ≡ made.Header (header_of 0x0942)
-  pub parse_3 : parsed (0x42 ∷ 0x09 ∷ 0x01 ∷ []) ≡ made.Header (header_of 0x0942)
-  pub from_0 : header_at [] 0 ≡ read.Refused Eof
-  pub from_1 : header_at (0x42 ∷ []) 0 ≡ read.Refused Eof
-  pub from_2 : header_at (0x42 ∷ 0x09 ∷ []) 0 ≡ read.Header (header_of 0x0942) (record { at = 2 })
-  pub from_2_at_1 : header_at (0x42 ∷ 0x09 ∷ []) 1 ≡ read.Refused Eof
-  pub from_3_at_1 : header_at (0xFF ∷ 0x42 ∷ 0x09 ∷ []) 1 ≡ read.Header (header_of 0x0942) (record { at = 3 })
+  pub parse_0 : parsed [] ≡ Err ShortHeader
+  pub parse_1 : parsed (0x42 ∷ []) ≡ Err ShortHeader
+  pub parse_2 : parsed (0x42 ∷ 0x09 ∷ []) ≡ Ok (header_of 0x0942)
+  pub parse_3 : parsed (0x42 ∷ 0x09 ∷ 0x01 ∷ []) ≡ Ok (header_of 0x0942)
+  pub from_0 : header_at [] 0 ≡ Err Eof
+  pub from_1 : header_at (0x42 ∷ []) 0 ≡ Err Eof
+  pub from_2 : header_at (0x42 ∷ 0x09 ∷ []) 0 ≡ Ok (header_of 0x0942, record { at = 2 })
+  pub from_2_at_1 : header_at (0x42 ∷ 0x09 ∷ []) 1 ≡ Err Eof
+  pub from_3_at_1 : header_at (0xFF ∷ 0x42 ∷ 0x09 ∷ []) 1 ≡ Ok (header_of 0x0942, record { at = 3 })
   pub sent : header_octets (header_of 0x0942) ≡ 0x42 ∷ 0x09 ∷ []
   -- document 01's row: 42 09 is type 2, a random sender, length 9
   pub row_type : type_of (header_of 0x0942) ≡ AdvNonconnInd
@@ -103,8 +100,8 @@ pub record Examples : Type 0 where
   pub rx_on : set_rx_add true (header_of 0) ≡ header_of 0x0080
   pub rx_off : set_rx_add false (header_of 0xFFFF) ≡ header_of 0xFF7F
   -- 7 outside 6 to 37
-  pub length_5 : length_set 5 (header_of 0x0942) ≡ made.Refused PayloadLength
-  pub length_6 : length_set 6 (header_of 0xFFFF) ≡ made.Header (header_of 0xC6FF)
-  pub length_37 : length_set 37 (header_of 0x0942) ≡ made.Header (header_of 0x2542)
-  pub length_38 : length_set 38 (header_of 0x0942) ≡ made.Refused PayloadLength
+  pub length_5 : length_set 5 (header_of 0x0942) ≡ Err PayloadLength
+  pub length_6 : length_set 6 (header_of 0xFFFF) ≡ Ok (header_of 0xC6FF)
+  pub length_37 : length_set 37 (header_of 0x0942) ≡ Ok (header_of 0x2542)
+  pub length_38 : length_set 38 (header_of 0x0942) ≡ Err PayloadLength
   pub new_5 : new_header ConnectReq ≡ header_of 0x0005

@@ -16,18 +16,14 @@
 --   header_at s at                             == what `from_bytes` answers
 --   header_octets h                            == the two octets of a header
 --   length_set n h                             == what `set_payload_length` answers
-use Rattle.std.specs.Prelude.{Bool, true, false, cond, ◌||◌, List, ℕ, ◌+◌, ◌-◌, ◌*◌, ◌/◌, ◌%◌, ◌^◌, eqb, ltb, length}
+use Rattle.std.specs.Prelude.{Bool, true, false, cond, ◌||◌, List, ℕ, ◌+◌, ◌-◌, ◌*◌, ◌/◌, ◌%◌, ◌^◌, eqb, ltb, length, Result, Ok, Err}
 use Rattle.octets.specs.Bytes.{part, le, le_bytes, u16_read}
-use Rattle.octets.specs.declared.bytes.U16Read.{U16Read}
-use Rattle.octets.specs.declared.bytes.U16Read.TheVariants as u16read
 use Rattle.octets.specs.declared.error.Error.TheVariants.{ShortHeader, PayloadLength}
 use Rattle.addresses.specs.declared.header.Header.{Header}
-use Rattle.addresses.specs.declared.header.HeaderMade.{HeaderMade}
-use Rattle.addresses.specs.declared.header.HeaderMade.TheVariants as made
-use Rattle.addresses.specs.declared.header.HeaderRead.{HeaderRead}
-use Rattle.addresses.specs.declared.header.HeaderRead.TheVariants as read
 use Rattle.addresses.specs.declared.header.PduType.{PduType}
 use Rattle.addresses.specs.declared.header.PduType.TheVariants.{AdvInd, AdvDirectInd, AdvNonconnInd, AdvScanInd, ScanReq, ScanRsp, ConnectReq, Unknown}
+use Rattle.octets.specs.declared.bytes.ByteReader.{ByteReader}
+use Rattle.octets.specs.declared.error.Error.{Error}
 
 abbrev pub header_of : ℕ → Header
 header_of n = record { 0 = n }
@@ -105,18 +101,18 @@ set_rx_add v h = set_bits 7 1 (cond v 1 0) h
 abbrev pub set_length : ℕ → Header → Header
 set_length n h = set_bits 8 6 n h
 
-abbrev pub parsed : List ℕ → HeaderMade
-parsed s = cond (ltb (length s) 2) (made.Refused ShortHeader) (made.Header (header_of (le (part 2 s 0))))
+abbrev pub parsed : List ℕ → Result Header Error
+parsed s = cond (ltb (length s) 2) (Err ShortHeader) (Ok (header_of (le (part 2 s 0))))
 
-abbrev pub header_read : U16Read → HeaderRead
-header_read (u16read.Value n next) = read.Header (header_of n) next
-header_read (u16read.Refused e) = read.Refused e
+abbrev pub header_read : Result (ℕ × ByteReader) Error → Result (Header × ByteReader) Error
+header_read (Ok (n, next)) = Ok (header_of n, next)
+header_read (Err e) = Err e
 
-abbrev pub header_at : List ℕ → ℕ → HeaderRead
+abbrev pub header_at : List ℕ → ℕ → Result (Header × ByteReader) Error
 header_at s at = header_read (u16_read s at)
 
 abbrev pub header_octets : Header → List ℕ
 header_octets h = le_bytes 2 h.0
 
-abbrev pub length_set : ℕ → Header → HeaderMade
-length_set n h = cond (ltb n 6 || ltb 37 n) (made.Refused PayloadLength) (made.Header (set_length n h))
+abbrev pub length_set : ℕ → Header → Result Header Error
+length_set n h = cond (ltb n 6 || ltb 37 n) (Err PayloadLength) (Ok (set_length n h))

@@ -13,7 +13,7 @@
 --   TypeCodes                       (Boxes.codes)         the types of document 01 by their codes
 --   Types n                         (Boxes.types)         which codes are beacons and which have records
 --   Holds                           (Holding.holds)       all of these, with what they assume, and worked values
-use Rattle.std.specs.Prelude.{Bool, true, false, cond, ◌||◌, List, [], ◌∷◌, ◌⊎◌, ◌≡◌, ℕ, ◌+◌, ◌*◌, ◌/◌, ◌%◌, ◌≤◌, ◌<◌, ◌^◌, eqb, length, get_or, set}
+use Rattle.std.specs.Prelude.{Bool, true, false, cond, ◌||◌, List, [], ◌∷◌, ◌⊎◌, ◌≡◌, ℕ, ◌+◌, ◌*◌, ◌/◌, ◌%◌, ◌≤◌, ◌<◌, ◌^◌, eqb, length, get_or, set, Result, Ok, Err}
 use Rattle.octets.specs.Bytes.{part}
 use Rattle.octets.specs.declared.error.Error.TheVariants.{Eof, InvalidValue, ShortHeader, PayloadLength}
 use Rattle.addresses.specs.Address.{kind_number, same_address}
@@ -23,13 +23,10 @@ use Rattle.addresses.specs.Header.{header_of, new_header, header_octets, type_co
 use Rattle.addresses.specs.declared.device_address.DeviceAddress.{DeviceAddress}
 use Rattle.addresses.specs.declared.filter.AddressFilter.{AddressFilter}
 use Rattle.addresses.specs.declared.filter.AddressFilter.TheVariants.{AllowAll, Whitelist}
-use Rattle.addresses.specs.declared.filter.Matches.{Matches}
-use Rattle.addresses.specs.declared.filter.Matches.TheVariants.{Is, Refused}
 use Rattle.addresses.specs.declared.header.Header.{Header}
-use Rattle.addresses.specs.declared.header.HeaderMade.TheVariants as made
-use Rattle.addresses.specs.declared.header.HeaderRead.TheVariants as read
 use Rattle.addresses.specs.declared.header.PduType.{PduType}
 use Rattle.addresses.specs.declared.header.PduType.TheVariants.{AdvInd, AdvDirectInd, AdvNonconnInd, AdvScanInd, ScanReq, ScanRsp, ConnectReq, Unknown}
+use Rattle.octets.specs.declared.error.Error.{Error}
 
 -- The test of two addresses is true exactly where they are one: the same octets and the same kind.
 pub record Equality (a b : DeviceAddress) : Type 0 where
@@ -47,21 +44,21 @@ pub record Listed (list : List ℕ) (a : DeviceAddress) : Type 0 where
   -- the whole list decides first: its length, and the kind of each entry
   pub tested : is_list list ≡ true → (length list % 7 ≡ 0) × ((i : ℕ) → i < length list / 7 → get_or list (7 * i) 0 ≤ 1)
   pub whole : length list % 7 ≡ 0 → ((i : ℕ) → i < length list / 7 → get_or list (7 * i) 0 ≤ 1) → is_list list ≡ true
-  pub refused : is_list list ≡ false → matches_of Whitelist list a ≡ Refused InvalidValue
-  pub sound : matches_of Whitelist list a ≡ Is true → ListEntry list a
-  pub complete : is_list list ≡ true → ListEntry list a → matches_of Whitelist list a ≡ Is true
-  pub other : is_list list ≡ true → (ListEntry list a → ⊥) → matches_of Whitelist list a ≡ Is false
-  pub empty : matches_of Whitelist [] a ≡ Is false
+  pub refused : is_list list ≡ false → matches_of Whitelist list a ≡ Err InvalidValue
+  pub sound : matches_of Whitelist list a ≡ Ok true → ListEntry list a
+  pub complete : is_list list ≡ true → ListEntry list a → matches_of Whitelist list a ≡ Ok true
+  pub other : is_list list ≡ true → (ListEntry list a → ⊥) → matches_of Whitelist list a ≡ Ok false
+  pub empty : matches_of Whitelist [] a ≡ Ok false
   -- "accept all", and whatever list is lent is not looked at
-  pub all : matches_of AllowAll list a ≡ Is true
+  pub all : matches_of AllowAll list a ≡ Ok true
 
 -- The answer of a filter with its list: the address is let pass exactly if the filter accepts all, or some entry of the list is equal; what is no list is 3.
-pub record HeldTo (f : AddressFilter) (list : List ℕ) (a : DeviceAddress) (answer : Matches) : Type 0 where
-  pub passes : answer ≡ Is true → (f ≡ AllowAll) ⊎ ListEntry list a
-  pub all : f ≡ AllowAll → answer ≡ Is true
-  pub entry : f ≡ Whitelist → is_list list ≡ true → ListEntry list a → answer ≡ Is true
-  pub no_entry : f ≡ Whitelist → is_list list ≡ true → (ListEntry list a → ⊥) → answer ≡ Is false
-  pub refused : f ≡ Whitelist → is_list list ≡ false → answer ≡ Refused InvalidValue
+pub record HeldTo (f : AddressFilter) (list : List ℕ) (a : DeviceAddress) (answer : Result Bool Error) : Type 0 where
+  pub passes : answer ≡ Ok true → (f ≡ AllowAll) ⊎ ListEntry list a
+  pub all : f ≡ AllowAll → answer ≡ Ok true
+  pub entry : f ≡ Whitelist → is_list list ≡ true → ListEntry list a → answer ≡ Ok true
+  pub no_entry : f ≡ Whitelist → is_list list ≡ true → (ListEntry list a → ⊥) → answer ≡ Ok false
+  pub refused : f ≡ Whitelist → is_list list ≡ false → answer ≡ Err InvalidValue
 
 -- Scan requests are held to the filter that was given for them, and connect requests to theirs; neither to the other's, whichever that is.
 pub record Policies (scan connect : AddressFilter) (list : List ℕ) (a : DeviceAddress) : Type 0 where
@@ -94,9 +91,9 @@ pub record HeaderFigure (ty low : ℕ) (tx rx : Bool) (n top : ℕ) : Type 0 whe
   pub payload_length : length_of (figure ty low tx rx n top) ≡ n
   pub tx_set : (v : Bool) → set_tx_add v (figure ty low tx rx n top) ≡ figure ty low v rx n top
   pub rx_set : (v : Bool) → set_rx_add v (figure ty low tx rx n top) ≡ figure ty low tx v n top
-  pub length_set_law : (m : ℕ) → 6 ≤ m → m ≤ 37 → length_set m (figure ty low tx rx n top) ≡ made.Header (figure ty low tx rx m top)
-  pub too_short : (m : ℕ) → m < 6 → length_set m (figure ty low tx rx n top) ≡ made.Refused PayloadLength
-  pub too_long : (m : ℕ) → 37 < m → length_set m (figure ty low tx rx n top) ≡ made.Refused PayloadLength
+  pub length_set_law : (m : ℕ) → 6 ≤ m → m ≤ 37 → length_set m (figure ty low tx rx n top) ≡ Ok (figure ty low tx rx m top)
+  pub too_short : (m : ℕ) → m < 6 → length_set m (figure ty low tx rx n top) ≡ Err PayloadLength
+  pub too_long : (m : ℕ) → 37 < m → length_set m (figure ty low tx rx n top) ≡ Err PayloadLength
   pub made_new : new_header (pdu_type ty) ≡ figure ty 0 false false 0 0
 
 -- Two octets are a header, the first of them its bits 0 to 7. `parse` of under 2 octets is 4; `from_bytes` at a position that has fewer is 1.
@@ -107,12 +104,12 @@ pub record HeaderNumber (n : ℕ) (ty : PduType) : Type 0 where
   pub new : (new_header ty).0 ≡ type_code ty
 
 pub record HeaderReading (s : List ℕ) (at : ℕ) : Type 0 where
-  pub parse : 2 ≤ length s → parsed s ≡ made.Header (header_of (get_or s 0 0 + 256 * get_or s 1 0))
-  pub parse_short : length s < 2 → parsed s ≡ made.Refused ShortHeader
-  pub from : at + 2 ≤ length s → header_at s at ≡ read.Header (header_of (get_or s at 0 + 256 * get_or s (at + 1) 0)) (record { at = at + 2 })
-  pub from_short : length s < at + 2 → header_at s at ≡ read.Refused Eof
+  pub parse : 2 ≤ length s → parsed s ≡ Ok (header_of (get_or s 0 0 + 256 * get_or s 1 0))
+  pub parse_short : length s < 2 → parsed s ≡ Err ShortHeader
+  pub from : at + 2 ≤ length s → header_at s at ≡ Ok (header_of (get_or s at 0 + 256 * get_or s (at + 1) 0), record { at = at + 2 })
+  pub from_short : length s < at + 2 → header_at s at ≡ Err Eof
   -- and the octets of a header are parsed as that header
-  pub back : (h : Header) → h.0 < 2 ^ 16 → parsed (header_octets h) ≡ made.Header h
+  pub back : (h : Header) → h.0 < 2 ^ 16 → parsed (header_octets h) ≡ Ok h
   pub no_more : (h : Header) → length (header_octets h) ≡ 2
 
 -- Document 01: 0 ADV_IND, 1 ADV_DIRECT_IND, 2 ADV_NONCONN_IND, 3 SCAN_REQ, 4 SCAN_RSP, 5 CONNECT_IND, 6 ADV_SCAN_IND; other codes have no

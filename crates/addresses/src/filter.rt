@@ -1,9 +1,8 @@
 // Filters: which devices a scanner hears, and which may scan or connect.
-ghost use Rattle.std.specs.Prelude.{◌≡◌, ◌+◌, ◌*◌, ◌/◌, ◌≤◌, length};
-ghost use Rattle.addresses.specs.Filter.{any, bad_kind, entry_is, whitelisted, matches_of, adv_filter_of, may_scan, may_connect, should_scan};
+ghost use Rattle.std.specs.Prelude.{◌≡◌, ◌/◌, length};
+ghost use Rattle.addresses.specs.Filter.{any, bad_kind, entry_at, entry_is, whitelisted, matches_of, adv_filter_of, may_scan, may_connect, should_scan};
 
 use crate::device_address::{AddressKind, DeviceAddress};
-use octets::bytes::ByteReader;
 use octets::error::Error;
 
 // Which devices pass. The whitelist is lent beside it, as 7 octets for each address: its kind (0 public, 1 random), then its six octets.
@@ -15,78 +14,49 @@ pub enum AddressFilter {
     Whitelist,
 }
 
-// Whether a device passes, or the refusal of a malformed list.
-#[derive(Clone, Copy)]
-pub enum Matches {
-    Is(bool),
-    Refused(Error),
-}
-
 impl AddressFilter {
     // Whether an address passes. With `AllowAll` the list is not looked at.
-    pub fn matches(self, list: &[u8], address: DeviceAddress) -> Matches
+    pub fn matches(self, list: &[u8], address: DeviceAddress) -> Result<bool, Error>
         ensures { result ≡ matches_of self list.now address }
     {
         match self {
-            AddressFilter::AllowAll => Matches::Is(true),
+            AddressFilter::AllowAll => Ok(true),
             AddressFilter::Whitelist => whitelist(list, address),
         }
     }
 }
 
 // The whole list is tested first.
-fn whitelist(list: &[u8], address: DeviceAddress) -> Matches
+#[tactic(auto, unfolding(crate::specs::Filter::whitelisted))]
+fn whitelist(list: &[u8], address: DeviceAddress) -> Result<bool, Error>
     ensures { result ≡ whitelisted list.now address }
 {
-    if list.len() % 7 != 0 {
-        return Matches::Refused(Error::InvalidValue);
+    if list.len() % 7 != 0 || has_bad_kind(list) {
+        return Err(Error::InvalidValue);
     }
-    if has_bad_kind(list) {
-        return Matches::Refused(Error::InvalidValue);
-    }
-    Matches::Is(holds(list, address))
+    Ok(holds(list, address))
 }
 
-#[tactic(auto, using(crate::proofs::Entries::any_more), unfolding(crate::specs::Filter::any))]
 fn has_bad_kind(list: &[u8]) -> bool
     ensures { result ≡ any (bad_kind list.now) (length list.now / 7) }
 {
-    let n = list.len() / 7;
-    let mut i = 0;
-    while i < n {
-        if 1 < list[7 * i] {
-            return true;
-        }
-        i += 1;
-    }
-    false
+    list.chunks_exact(7).any(|entry| 1 < entry[0])
 }
 
-#[tactic(auto, using(crate::proofs::Entries::any_more), unfolding(crate::specs::Filter::any))]
 fn holds(list: &[u8], address: DeviceAddress) -> bool
     ensures { result ≡ any (entry_is list.now address) (length list.now / 7) }
 {
-    let n = list.len() / 7;
-    let mut i = 0;
-    while i < n {
-        if entry_is(list, i, address) {
-            return true;
-        }
-        i += 1;
-    }
-    false
+    list.chunks_exact(7)
+        .any(|entry| address_in(entry) == address)
 }
 
-// Whether entry i is an address.
-fn entry_is(list: &[u8], i: usize, address: DeviceAddress) -> bool
-    requires { 7 * i + 7 ≤ length list.now }
-    ensures { result ≡ entry_is list.now address i }
+// The address of an entry.
+fn address_in(entry: &[u8]) -> DeviceAddress
+    requires { length entry.now ≡ 7 }
+    ensures { result ≡ entry_at entry.now 0 }
 {
-    let at = 7 * i;
-    let kind = AddressKind::of(list[at] == 1);
-    let read = ByteReader { at: at + 1 }.read_array6(list);
-    let octets = read.octets;
-    DeviceAddress::new(octets, kind).eq(address)
+    let octets = [entry[1], entry[2], entry[3], entry[4], entry[5], entry[6]];
+    DeviceAddress::new(octets, AddressKind::of(entry[0] == 1))
 }
 
 // Whose scan requests and whose connect requests an advertising device takes (the Core: advertising filter policy).
@@ -103,18 +73,17 @@ impl AdvFilter {
         AdvFilter { scan, connect }
     }
 
-    pub fn may_scan(self, list: &[u8], device: DeviceAddress) -> Matches
+    // Two names for one test, as in rubble: document 01 names both.
+    pub fn may_scan(self, list: &[u8], device: DeviceAddress) -> Result<bool, Error>
         ensures { result ≡ may_scan self list.now device }
     {
-        let scan = self.scan;
-        scan.matches(list, device)
+        self.scan.matches(list, device)
     }
 
-    pub fn may_connect(self, list: &[u8], device: DeviceAddress) -> Matches
+    pub fn may_connect(self, list: &[u8], device: DeviceAddress) -> Result<bool, Error>
         ensures { result ≡ may_connect self list.now device }
     {
-        let connect = self.connect;
-        connect.matches(list, device)
+        self.connect.matches(list, device)
     }
 }
 
@@ -131,10 +100,9 @@ impl ScanFilter {
         ScanFilter { scan }
     }
 
-    pub fn should_scan(self, list: &[u8], device: DeviceAddress) -> Matches
+    pub fn should_scan(self, list: &[u8], device: DeviceAddress) -> Result<bool, Error>
         ensures { result ≡ should_scan self list.now device }
     {
-        let filter = self.scan;
-        filter.matches(list, device)
+        self.scan.matches(list, device)
     }
 }

@@ -1,9 +1,8 @@
 -- A header and a payload are accepted exactly if they have a shape of the Core: `accepting`; where the records then lie: `record_area`. Assumes nothing.
-use Rattle.std.proofs.Common.{◌≡◌, ℕ, ◌+◌, ◌-◌, ◌*◌, ◌/◌, ◌%◌, ◌≤◌, Bool, true, false, cond, eqb, ltb, ◌⊎◌, List, [], ◌∷◌, ◌++◌, length, get_or, drop, sym, refl, ap, ◌∙◌, subst, inl, inr, true≢false, append-nil, arith, length-drop, Bor, ltb-false, le-ltb, eq-eqb, eqb-true}
+use Rattle.std.proofs.Common.{◌≡◌, ℕ, ◌+◌, ◌-◌, ◌*◌, ◌/◌, ◌%◌, ◌≤◌, Bool, true, false, cond, eqb, ltb, ◌⊎◌, List, [], ◌∷◌, ◌++◌, length, get_or, drop, sym, refl, ap, ◌∙◌, subst, inl, inr, append-nil, arith, length-drop, Bor, ltb-false, le-ltb, eq-eqb, eqb-true}
 use mathlib.Core.List.{flatten}
 use Rattle.addresses.specs.Address.{kind_of, address_of}
 use Rattle.addresses.specs.Header.{type_of, tx_add, rx_add, length_of, allows_adv_data}
-use Rattle.addresses.specs.declared.device_address.DeviceAddress.{DeviceAddress}
 use Rattle.addresses.specs.declared.header.Header.{Header}
 use Rattle.addresses.specs.declared.header.PduType.{PduType}
 use Rattle.addresses.specs.declared.header.PduType.TheVariants.{AdvInd, AdvDirectInd, AdvNonconnInd, AdvScanInd, ScanReq, ScanRsp, ConnectReq, Unknown}
@@ -11,33 +10,28 @@ use Rattle.channels.specs.Map.{from_raw}
 use Rattle.octets.proofs.PartOf.{part_is}
 use Rattle.octets.specs.Bytes.{part, part_or, part_place, le}
 use Rattle.octets.specs.declared.error.Error.{Error}
-use Rattle.octets.specs.declared.error.Error.TheVariants.{Eof, InvalidLength, InvalidValue}
+use Rattle.octets.specs.declared.error.Error.TheVariants.{Eof, InvalidLength}
 use Rattle.records_spec.specs.Area.{read_area}
-use Rattle.records_spec.specs.declared.area.Area.{Area}
-use Rattle.records_spec.specs.declared.area.Area.TheVariants as area
-use Rattle.advertising.specs.Laws.{Figure, ShapedBy, with_records_law, two_addresses, with_lldata, AcceptingBy, Accepting, AcceptingHeard, RecordAreaBy, RecordArea, RecordAreaHeard, DataPart, NoPdu}
-use Rattle.advertising.specs.Pdu.{undirected_figure, directed_figure, connect_figure, accuracy_of, request_of, no_request, no_address, no_data, sender_of, receiver_of, data_in, data_place, decoded_as, refused_pdu, with_area, undirected, directed, connect_request, by_type, decode_by, Reading, as_hub}
-use Rattle.octets.specs.Error.{is_accepted}
+use Rattle.advertising.specs.Laws.{Figure, ShapedBy, with_records_law, two_addresses, with_lldata, AcceptingBy, Accepting, AcceptingHeard, RecordAreaBy, RecordArea, RecordAreaHeard, DataPart}
+use Rattle.advertising.specs.Pdu.{undirected_figure, directed_figure, connect_figure, accuracy_of, request_of, no_request, no_address, no_data, sender_of, receiver_of, data_in, data_place, decoded_as, with_area, undirected, directed, connect_request, by_type, decode_by, Reading, as_hub}
 use Rattle.advertising.specs.declared.pdu.AdvData.{AdvData}
-use Rattle.advertising.specs.declared.pdu.ConnectRequestData.{ConnectRequestData}
-use Rattle.advertising.specs.declared.pdu.Decoded.{Decoded}
-use Rattle.octets.specs.declared.error.Outcome.{Outcome}
-use Rattle.octets.specs.declared.error.Outcome.TheVariants.{Accepted, Refused}
+use Rattle.advertising.specs.declared.pdu.Pdu.{Pdu}
 use Rattle.advertising.proofs.Figures.{field_is, behind, long, cut_figure, request_is}
-
--- an outcome that passes the test
-pub is_accepted_law : (o : Outcome) → is_accepted o ≡ true → o ≡ Accepted
-is_accepted_law Accepted e = refl
-is_accepted_law (Refused r) e = let z : ◌≡◌ {A = ℕ} 0 1 = cc in absurd (omega arith)
+use Rattle.std.specs.Prelude.{Result, Ok, Err, is_err}
 
 -- what is accepted was not refused
-not_refused : (b : Bool) (e : Error) (d : Decoded) → (cond b (refused_pdu e) d).outcome ≡ Accepted → b ≡ false
-not_refused true e d ok = let z : ◌≡◌ {A = ℕ} 0 1 = cc in absurd (omega arith)
-not_refused false e d ok = refl
+not_refused : {A : Type 0} (b : Bool) (e : Error) (r : Result A Error) (d : A) → cond b (Err e) r ≡ Ok d → b ≡ false
+not_refused true e r d ok = absurd (let z : true ≡ false = ap is_err ok in cc)
+not_refused false e r d ok = refl
 
-passed : (b : Bool) (e : Error) (d : Decoded) → (cond b d (refused_pdu e)).outcome ≡ Accepted → b ≡ true
-passed true e d ok = refl
-passed false e d ok = let z : ◌≡◌ {A = ℕ} 0 1 = cc in absurd (omega arith)
+passed : {A : Type 0} (b : Bool) (e : Error) (r : Result A Error) (d : A) → cond b r (Err e) ≡ Ok d → b ≡ true
+passed true e r d ok = refl
+passed false e r d ok = absurd (let z : true ≡ false = ap is_err ok in cc)
+
+-- the PDU of an answer
+abbrev pdu_in : (r : Pdu) → Result Pdu Error → Pdu
+pdu_in other (Ok d) = d
+pdu_in other (Err e) = other
 
 -- a type with two addresses alone
 abbrev is_directed : PduType → Type 0
@@ -56,43 +50,42 @@ arm_undirected reading ConnectReq h p e = (cc)
 arm_undirected reading (Unknown n) h p e = (cc)
 
 module _ (reading : Reading) (h : Header) (p : List ℕ) where
-  undirected_sound : (ty : PduType) → type_of h ≡ ty → allows_adv_data ty ≡ true → (undirected reading ty h p).outcome ≡ Accepted → ShapedBy reading h p (undirected reading ty h p)
+  undirected_sound : (ty : PduType) (d : Pdu) → type_of h ≡ ty → allows_adv_data ty ≡ true → undirected reading ty h p ≡ Ok d → ShapedBy reading h p d
   unfolding undirected with_area
-  undirected_sound ty is allows ok =
-      let enough = not_refused (ltb (length p) 6) Eof (with_area ty h p (reading (drop 6 p))) ok in
-      rw enough (go (reading (drop 6 p)) refl (ltb-false (length p) 6 enough) (rw enough at ok))
+  undirected_sound ty d is allows ok =
+      let enough = not_refused (ltb (length p) 6) Eof (with_area ty h p (reading (drop 6 p))) d ok in
+      go (reading (drop 6 p)) refl (ltb-false (length p) 6 enough) (rw enough at ok)
     where
-      go : (a : Area) → reading (drop 6 p) ≡ a → 6 ≤ length p → (with_area ty h p a).outcome ≡ Accepted → ShapedBy reading h p (with_area ty h p a)
-      go (area.Accepted n) e size ok =
+      go : (a : Result ℕ Error) → reading (drop 6 p) ≡ a → 6 ≤ length p → with_area ty h p a ≡ Ok d → ShapedBy reading h p d
+      go (Ok n) e size ok =
           let rest : length p - 6 ≡ length (drop 6 p) = sym (length-drop 6 p) in
-          with_records_law ty (part 6 p 0) (drop 6 p) n is allows (cut_figure undirected_figure p size) e (rw rest)
-      go (area.Refused r) e size ok = let z : ◌≡◌ {A = ℕ} 0 1 = cc in absurd (omega arith)
+          with_records_law ty (part 6 p 0) (drop 6 p) n is allows (cut_figure undirected_figure p size) e (sym (ap (pdu_in d) ok) ∙ rw rest)
+      go (Err r) e size ok = absurd (let z : true ≡ false = ap is_err ok in cc)
 
-  directed_sound : (ty : PduType) → type_of h ≡ ty → is_directed ty → (directed ty h p).outcome ≡ Accepted → ShapedBy reading h p (directed ty h p)
+  directed_sound : (ty : PduType) (d : Pdu) → type_of h ≡ ty → is_directed ty → directed ty h p ≡ Ok d → ShapedBy reading h p d
   unfolding directed
-  directed_sound ty is which ok =
-      let enough = not_refused (ltb (length p) 12) Eof (decoded_as Accepted ty (sender_of h p) (receiver_of h p) no_data no_request) ok in
-      rw enough (two_addresses ty (part 6 p 0) (part 6 p 6) (drop 12 p) is which (cut_figure directed_figure p (ltb-false (length p) 12 enough)) refl)
+  directed_sound ty d is which ok =
+      let enough = not_refused (ltb (length p) 12) Eof (decoded_as ty (sender_of h p) (receiver_of h p) no_data no_request) d ok in
+      two_addresses ty (part 6 p 0) (part 6 p 6) (drop 12 p) is which (cut_figure directed_figure p (ltb-false (length p) 12 enough)) (sym (ap (pdu_in d) (rw enough at ok)))
 
-  connect_sound : type_of h ≡ ConnectReq → (connect_request h p).outcome ≡ Accepted → ShapedBy reading h p (connect_request h p)
+  connect_sound : (d : Pdu) → type_of h ≡ ConnectReq → connect_request h p ≡ Ok d → ShapedBy reading h p d
   unfolding connect_request
-  connect_sound is ok =
-      let enough = not_refused (ltb (length p) 34) Eof (decoded_as Accepted ConnectReq (sender_of h p) (receiver_of h p) no_data (request_of p)) ok in
-      rw enough
+  connect_sound d is ok =
+      let enough = not_refused (ltb (length p) 34) Eof (decoded_as ConnectReq (sender_of h p) (receiver_of h p) no_data (request_of p)) d ok in
       (with_lldata (part 6 p 0) (part 6 p 6) (part 4 p 12) (part 3 p 16) (part 1 p 19) (part 2 p 20) (part 2 p 22) (part 2 p 24) (part 2 p 26) (part 5 p 28) (part 1 p 33) (drop 34 p) is
       (cut_figure connect_figure p (ltb-false (length p) 34 enough))
-      (rw (request_is p)))
+      (sym (ap (pdu_in d) (rw enough at ok)) ∙ rw (request_is p)))
 
-  by_type_law : (ty : PduType) → type_of h ≡ ty → (by_type reading ty h p).outcome ≡ Accepted → ShapedBy reading h p (by_type reading ty h p)
+  by_type_law : (ty : PduType) (d : Pdu) → type_of h ≡ ty → by_type reading ty h p ≡ Ok d → ShapedBy reading h p d
   unfolding by_type
-  by_type_law AdvInd is ok = undirected_sound AdvInd is refl ok
-  by_type_law AdvDirectInd is ok = directed_sound AdvDirectInd is (inl refl) ok
-  by_type_law AdvNonconnInd is ok = undirected_sound AdvNonconnInd is refl ok
-  by_type_law AdvScanInd is ok = undirected_sound AdvScanInd is refl ok
-  by_type_law ScanReq is ok = directed_sound ScanReq is (inr refl) ok
-  by_type_law ScanRsp is ok = undirected_sound ScanRsp is refl ok
-  by_type_law ConnectReq is ok = connect_sound is ok
-  by_type_law (Unknown n) is ok = let z : ◌≡◌ {A = ℕ} 0 1 = cc in absurd (omega arith)
+  by_type_law AdvInd d is ok = undirected_sound AdvInd d is refl ok
+  by_type_law AdvDirectInd d is ok = directed_sound AdvDirectInd d is (inl refl) ok
+  by_type_law AdvNonconnInd d is ok = undirected_sound AdvNonconnInd d is refl ok
+  by_type_law AdvScanInd d is ok = undirected_sound AdvScanInd d is refl ok
+  by_type_law ScanReq d is ok = directed_sound ScanReq d is (inr refl) ok
+  by_type_law ScanRsp d is ok = undirected_sound ScanRsp d is refl ok
+  by_type_law ConnectReq d is ok = connect_sound d is ok
+  by_type_law (Unknown n) d is ok = absurd (let z : true ≡ false = ap is_err ok in cc)
 
   -- the arms of the types
   arm_directed : (ty : PduType) → is_directed ty → by_type reading ty h p ≡ directed ty h p
@@ -101,22 +94,22 @@ module _ (reading : Reading) (h : Header) (p : List ℕ) where
   arm_directed ty (inr is) = rw is
 
   -- what the shapes decode to
-  undirected_is : (ty : PduType) {advA records : List ℕ} {n : ℕ} → Figure undirected_figure (advA ∷ []) records p → reading records ≡ area.Accepted n
-      → undirected reading ty h p ≡ decoded_as Accepted ty (address_of advA (kind_of (tx_add h))) no_address (record { start = 6; len = length records; count = n }) no_request
+  undirected_is : (ty : PduType) {advA records : List ℕ} {n : ℕ} → Figure undirected_figure (advA ∷ []) records p → reading records ≡ Ok n
+      → undirected reading ty h p ≡ decoded_as ty (address_of advA (kind_of (tx_add h))) no_address (record { start = 6; len = length records; count = n }) no_request
   unfolding undirected with_area
   undirected_is ty {advA} {records} fig good =
       let size : length p - 6 ≡ length records = omega (arith, long fig) in
       rw (le-ltb (length p) 6 (omega (arith, long fig)), behind fig, good, size, field_is fig 0)
 
   directed_is : (ty : PduType) {first second further : List ℕ} → Figure directed_figure (first ∷ second ∷ []) further p
-      → directed ty h p ≡ decoded_as Accepted ty (address_of first (kind_of (tx_add h))) (address_of second (kind_of (rx_add h))) no_data no_request
+      → directed ty h p ≡ decoded_as ty (address_of first (kind_of (tx_add h))) (address_of second (kind_of (rx_add h))) no_data no_request
   unfolding directed
   directed_is ty fig = rw (le-ltb (length p) 12 (omega (arith, long fig)), field_is fig 0, field_is fig 1)
 
   connect_is : {initA advA aa crcInit winSize winOffset interval latency timeout chM hopSca further : List ℕ}
       → Figure connect_figure (initA ∷ advA ∷ aa ∷ crcInit ∷ winSize ∷ winOffset ∷ interval ∷ latency ∷ timeout ∷ chM ∷ hopSca ∷ []) further p
       → by_type reading ConnectReq h p
-      ≡ decoded_as Accepted ConnectReq (address_of initA (kind_of (tx_add h))) (address_of advA (kind_of (rx_add h))) no_data (record {
+      ≡ decoded_as ConnectReq (address_of initA (kind_of (tx_add h))) (address_of advA (kind_of (rx_add h))) no_data (record {
         access_address = le aa;
         crc_init = le crcInit;
         win_size = le winSize * 1250;
@@ -133,22 +126,22 @@ module _ (reading : Reading) (h : Header) (p : List ℕ) where
       let at = field_is fig in
       rw (le-ltb (length p) 34 (omega (arith, long fig)), request_is p, at 0, at 1, at 2, at 3, at 4, at 5, at 6, at 7, at 8, at 9, at 10)
 
-  complete : (d : Decoded) → length_of h ≡ length p → ShapedBy reading h p d → decode_by reading h p ≡ d
+  complete : (d : Pdu) → length_of h ≡ length p → ShapedBy reading h p d → decode_by reading h p ≡ Ok d
   unfolding decode_by
   complete d counts (with_records_law ty advA records n is allows fig good e) =
-      rw (eq-eqb (length_of h) (length p) counts, is) (arm_undirected reading ty h p allows ∙ undirected_is ty fig good ∙ sym e)
+      rw (eq-eqb (length_of h) (length p) counts, is) (arm_undirected reading ty h p allows ∙ undirected_is ty fig good ∙ ap Ok (sym e))
   complete d counts (two_addresses ty first second further is which fig e) =
-      rw (eq-eqb (length_of h) (length p) counts, is) (arm_directed ty which ∙ directed_is ty fig ∙ sym e)
+      rw (eq-eqb (length_of h) (length p) counts, is) (arm_directed ty which ∙ directed_is ty fig ∙ ap Ok (sym e))
   complete d counts (with_lldata initA advA aa crcInit winSize winOffset interval latency timeout chM hopSca further is fig e) =
-      rw (eq-eqb (length_of h) (length p) counts, is) (connect_is fig ∙ sym e)
+      rw (eq-eqb (length_of h) (length p) counts, is) (connect_is fig ∙ ap Ok (sym e))
 
 accepting_by : (reading : Reading) (h : Header) (p : List ℕ) → AcceptingBy reading (decode_by reading) h p
 unfolding decode_by
 accepting_by reading h p =
     record {
-      sound = λ ok.
-          let same = passed (eqb (length_of h) (length p)) InvalidLength (by_type reading (type_of h) h p) ok in
-          (eqb-true (length_of h) (length p) same, rw same (by_type_law reading h p (type_of h) refl (rw same at ok)));
+      sound = λ d ok.
+          let same = passed (eqb (length_of h) (length p)) InvalidLength (by_type reading (type_of h) h p) d ok in
+          (eqb-true (length_of h) (length p) same, by_type_law reading h p (type_of h) d refl (rw same at ok));
       complete = complete reading h p;
     }
 
@@ -164,14 +157,14 @@ module _ (reading : Reading) (h : Header) (p : Bor (List ℕ)) where
     octets : data_in d p.now ≡ drop 6 p.now
     place : data_place d p ≡ (p.ref_ptr.0, p.ref_ptr.1 + 6)
 
-  lies : (d : Decoded) → allows_adv_data (type_of h) ≡ true → ShapedBy reading h p.now d → Lies d.pdu.adv_data
+  lies : (d : Pdu) → allows_adv_data (type_of h) ≡ true → ShapedBy reading h p.now d → Lies d.adv_data
   unfolding flatten
   lies d allows (with_records_law ty advA records n is allowed fig good e) =
       let size : length advA ≡ 6 = ap (λ (l : List ℕ). get_or l 0 0) fig.sizes in
       let tiles : p.now ≡ advA ++ (records ++ []) = fig.tiles ∙ rw (append-nil advA, append-nil records) in
       let part = (part_is p).there advA records [] tiles in
       let at : AdvData = record { start = 6; len = length records; count = n } in
-      subst Lies (ap (λ (x : Decoded). x.pdu.adv_data) (sym e)) (record {
+      subst Lies (ap (λ (x : Pdu). x.adv_data) (sym e)) (record {
         octets = ap (λ (k : ℕ). part_or (length records) p.now k) (sym size) ∙ part.0 ∙ sym (behind fig);
         place = ap (λ (k : ℕ). part_place (length records) p k) (sym size) ∙ part.1 ∙ ap (λ (k : ℕ). (p.ref_ptr.0, p.ref_ptr.1 + k)) size;
       })
@@ -191,8 +184,8 @@ module _ (reading : Reading) (h : Header) (p : Bor (List ℕ)) where
   record_area_by : RecordAreaBy (decode_by reading) h p
   record_area_by =
       record {
-        octets = λ allows ok. (lies (decode_by reading h p.now) allows ((accepting_by reading h p.now).sound ok).1).octets;
-        place = λ allows ok. (lies (decode_by reading h p.now) allows ((accepting_by reading h p.now).sound ok).1).place;
+        octets = λ d allows ok. (lies d allows ((accepting_by reading h p.now).sound d ok).1).octets;
+        place = λ d allows ok. (lies d allows ((accepting_by reading h p.now).sound d ok).1).place;
       }
 
 pub record_area : (h : Header) (p : Bor (List ℕ)) → RecordArea h p
@@ -209,58 +202,3 @@ data_part d p =
           (rw (starts, long) told.0, rw (starts, long) told.1);
       fewer = λ few. (part_is p).fewer d.len d.start few;
     }
-
--- beside a refusal there is no PDU, case by case
-
-abbrev Blank : Decoded → Type 0
-Blank d = (e : Error) → d.outcome ≡ Refused e → d.pdu ≡ (refused_pdu Eof).pdu
-
-blank_accepted : (ty : PduType) (s r : DeviceAddress) (d : AdvData) (l : ConnectRequestData) → Blank (decoded_as Accepted ty s r d l)
-blank_accepted ty s r d l e is = absurd (true≢false (ap is_accepted is))
-
-blank_either : (b : Bool) (x y : Decoded) → Blank x → Blank y → Blank (cond b x y)
-blank_either true x y first second = first
-blank_either false x y first second = second
-
-blank_refused : (e : Error) → Blank (refused_pdu e)
-blank_refused e e' is = refl
-
-blank_area : (ty : PduType) (h : Header) (p : List ℕ) (a : Area) → Blank (with_area ty h p a)
-unfolding with_area
-blank_area ty h p (area.Accepted n) = blank_accepted ty (sender_of h p) no_address (record { start = 6; len = length p - 6; count = n }) no_request
-blank_area ty h p (area.Refused e) = blank_refused e
-
-module _ (reading : Reading) (h : Header) (p : List ℕ) where
-  blank_undirected : (ty : PduType) → Blank (undirected reading ty h p)
-  unfolding undirected
-  blank_undirected ty = blank_either (ltb (length p) 6) (refused_pdu Eof) (with_area ty h p (reading (drop 6 p))) (blank_refused Eof) (blank_area ty h p (reading (drop 6 p)))
-
-  blank_directed : (ty : PduType) → Blank (directed ty h p)
-  unfolding directed
-  blank_directed ty =
-      blank_either (ltb (length p) 12) (refused_pdu Eof) (decoded_as Accepted ty (sender_of h p) (receiver_of h p) no_data no_request) (blank_refused Eof)
-      (blank_accepted ty (sender_of h p) (receiver_of h p) no_data no_request)
-
-  blank_request : Blank (connect_request h p)
-  unfolding connect_request
-  blank_request =
-      blank_either (ltb (length p) 34) (refused_pdu Eof) (decoded_as Accepted ConnectReq (sender_of h p) (receiver_of h p) no_data (request_of p)) (blank_refused Eof)
-      (blank_accepted ConnectReq (sender_of h p) (receiver_of h p) no_data (request_of p))
-
-  blank_type : (ty : PduType) → Blank (by_type reading ty h p)
-  unfolding by_type
-  blank_type AdvInd = blank_undirected AdvInd
-  blank_type AdvDirectInd = blank_directed AdvDirectInd
-  blank_type AdvNonconnInd = blank_undirected AdvNonconnInd
-  blank_type AdvScanInd = blank_undirected AdvScanInd
-  blank_type ScanReq = blank_directed ScanReq
-  blank_type ScanRsp = blank_undirected ScanRsp
-  blank_type ConnectReq = blank_request
-  blank_type (Unknown n) = blank_refused InvalidValue
-
-  blank : Blank (decode_by reading h p)
-  unfolding decode_by
-  blank = blank_either (eqb (length_of h) (length p)) (by_type reading (type_of h) h p) (refused_pdu InvalidLength) (blank_type (type_of h)) (blank_refused InvalidLength)
-
-pub no_pdu : (h : Header) (p : List ℕ) → NoPdu h p
-no_pdu h p = record { strictly = blank read_area h p; as_hub_law = blank as_hub h p; no_header = λ e. refl }

@@ -15,15 +15,13 @@ use Rattle.records_spec.proofs.RoundTrip.{round_trip}
 use Rattle.records_spec.specs.Area.{cut, reads, with_first, area_of, read_area, clean, rewritten}
 use Rattle.records_spec.specs.Record.{first, flags_read, data_read, up_to, record_read}
 use Rattle.flags.specs.Flags.{named}
-use Rattle.records_spec.specs.declared.area.Area.TheVariants as area
 use Rattle.advertising.specs.Builders.{Builds, Builders, Directed, Writing, Examples}
 use Rattle.advertising.specs.Pdu.{ll_data_of, connect_request, by_type, decode_by}
-use Rattle.octets.specs.Error.{outcome_number}
-use Rattle.advertising.specs.PduBuf.{header_for, buf_of, refused_buf, after_reading, with_records, built_of, flags_record, payload_of}
-use Rattle.octets.specs.declared.error.Outcome.TheVariants.{Accepted}
-use Rattle.advertising.specs.declared.pdu_buf.Built.{Built}
+use Rattle.advertising.specs.Refusals.{number_in}
+use Rattle.advertising.specs.PduBuf.{header_for, buf_of, after_reading, with_records, built_of, flags_record, payload_of}
 use Rattle.advertising.specs.declared.pdu_buf.PduBuf.{PduBuf}
 use Rattle.advertising.proofs.Building.{building, enough_space}
+use Rattle.std.specs.Prelude.{Ok, Err, is_ok}
 
 -- a bit that is clear is set
 tx_set : (x v : ℕ) → x / 64 % 2 ≡ 0 → x - 64 * (x / 64 % 2) + 64 * v ≡ x + 64 * v
@@ -67,11 +65,11 @@ module _ (ty : PduType) (flags : List ℕ) (most : ℕ) (small : type_code ty < 
   size : length octets ≡ 6 + (length flags + length s)
   size = simp length-append (omega (arith, (round_trip s).as_long))
 
-  fits : (n : ℕ) → read_area s ≡ area.Accepted n → length s ≤ most → built_of ty a flags s ≡ record { outcome = Accepted; pdu = buf_of ty (is_random a.kind) false octets }
+  fits : (n : ℕ) → read_area s ≡ Ok n → length s ≤ most → built_of ty a flags s ≡ Ok (buf_of ty (is_random a.kind) false octets)
   unfolding with_records after_reading
   fits n good few =
       rw good
-      (enough_space (37 - length (a.bytes ++ flags)) (length s) (refused_buf Eof) (record { outcome = Accepted; pdu = buf_of ty (is_random a.kind) false octets }) (omega (arith, front)))
+      (enough_space (37 - length (a.bytes ++ flags)) (length s) (Err Eof) (Ok (buf_of ty (is_random a.kind) false octets)) (omega (arith, front)))
 
   header_is : length s ≤ most → (header_for ty (is_random a.kind) false (length octets)).0 ≡ type_code ty + 64 * kind_number a.kind + 256 * (6 + (length flags + length s))
   header_is few =
@@ -82,13 +80,13 @@ module _ (ty : PduType) (flags : List ℕ) (most : ℕ) (small : type_code ty < 
   unfolding buf_of
   builds =
       record {
-        accepted = λ n good few. ap (λ (b : Built). b.outcome) (fits n good few);
-        header = λ n good few. ap (λ (b : Built). b.pdu.header.0) (fits n good few) ∙ header_is few;
+        accepted = λ n good few. ap is_ok (fits n good few);
+        header = λ n good few. rw (fits n good few) (header_is few);
         octets = λ n good few.
             let rest : 37 - length octets ≡ most - length s = omega (arith, size) in
-            ap (λ (b : Built). b.pdu.payload_buf) (fits n good few) ∙ ap (λ (k : ℕ). octets ++ replicate k 0) rest;
-        bad_area = λ e bad. ap (λ (b : Built). b.outcome) (building.bad_area ty a flags s e bad);
-        too_long = λ n good much. ap (λ (b : Built). outcome_number b.outcome) (building.too_long ty a flags s n good (omega (arith, front)) (omega (arith, front)));
+            rw (fits n good few) (ap (λ (k : ℕ). octets ++ replicate k 0) rest);
+        bad_area = λ e bad. building.bad_area ty a flags s e bad;
+        too_long = λ n good much. ap number_in (building.too_long ty a flags s n good (omega (arith, front)) (omega (arith, front)));
       }
 
 pub builders : (a : DeviceAddress) (s : List ℕ) → length a.bytes ≡ 6 → Builders a s

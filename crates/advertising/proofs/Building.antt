@@ -19,16 +19,15 @@ use Rattle.records_spec.proofs.Accepted.{decided}
 use Rattle.records_spec.proofs.RoundTrip.{round_trip}
 use Rattle.records_spec.specs.Accepted.{Tiling, Verdict}
 use Rattle.records_spec.specs.Area.{read_area, rewritten}
-use Rattle.records_spec.specs.declared.area.Area.TheVariants as area
 use Rattle.advertising.specs.Laws.{Figure, with_records_law, two_addresses, ReadsBack, Building}
-use Rattle.advertising.specs.Pdu.{undirected_figure, no_request, no_address, no_data, decoded_as, decode_of}
-use Rattle.advertising.specs.PduBuf.{to37, header_for, buf_of, refused_buf, after_reading, with_records, built_of, built_directed, flags_record, payload_of}
+use Rattle.advertising.specs.Pdu.{undirected_figure, no_request, no_address, no_data, pdu_as, decoded_as, decode_of}
+use Rattle.advertising.specs.PduBuf.{to37, header_for, buf_of, after_reading, with_records, built_of, built_directed, flags_record, payload_of}
 use Rattle.advertising.specs.declared.pdu.AdvData.{AdvData}
-use Rattle.octets.specs.declared.error.Outcome.TheVariants.{Accepted}
-use Rattle.advertising.specs.declared.pdu_buf.Built.{Built}
+use Rattle.advertising.specs.declared.pdu_buf.PduBuf.{PduBuf}
 use Rattle.advertising.proofs.Accepting.{accepting}
 use Rattle.advertising.proofs.Buffers.{room}
 use Rattle.advertising.proofs.Figures.{behind}
+use Rattle.std.specs.Prelude.{Result, Ok, Err}
 
 -- what a header says
 record Says (h : Header) (ty : PduType) (tx rx : Bool) (n : ℕ) : Type 0 where
@@ -87,15 +86,15 @@ payload_back ty tx rx xs code fits =
     ap (λ (n : ℕ). take n (to37 xs)) counts ∙ take_at xs (room xs) (length xs) refl
 
 -- what a test of a size picks
-too_small : (n m : ℕ) (x y : Built) → n < m → cond (ltb n m) x y ≡ x
+too_small : (n m : ℕ) (x y : Result PduBuf Error) → n < m → cond (ltb n m) x y ≡ x
 too_small n m x y h = rw (lt-ltb n m h)
 
-pub enough_space : (n m : ℕ) (x y : Built) → m ≤ n → cond (ltb n m) x y ≡ y
+pub enough_space : (n m : ℕ) (x y : Result PduBuf Error) → m ≤ n → cond (ltb n m) x y ≡ y
 enough_space n m x y h = rw (le-ltb n m h)
 
 -- an address, and records of which n are read
 back : (ty : PduType) (a : DeviceAddress) (flags s : List ℕ) (n m : ℕ) → allows_adv_data ty ≡ true → length a.bytes ≡ 6
-    → length flags + length s ≤ 31 → read_area s ≡ area.Accepted n → read_area (flags ++ rewritten s) ≡ area.Accepted m → ReadsBack ty a flags s m
+    → length flags + length s ≤ 31 → read_area s ≡ Ok n → read_area (flags ++ rewritten s) ≡ Ok m → ReadsBack ty a flags s m
 unfolding buf_of with_records after_reading flatten
 back ty a flags s n m allows six fits good again =
     let tx : Bool = is_random a.kind in
@@ -115,20 +114,20 @@ back ty a flags s n m allows six fits good again =
     rw (head.sender, kind_back a.kind) in
     record {
       pdu = buf_of ty tx false xs;
-      built = rw good (enough_space (37 - length (a.bytes ++ flags)) (length s) (refused_buf Eof) (record { outcome = Accepted; pdu = buf_of ty tx false xs }) (omega arith));
+      built = rw good (enough_space (37 - length (a.bytes ++ flags)) (length s) (Err Eof) (Ok (buf_of ty tx false xs)) (omega arith));
       header = let long : length xs ≡ 6 + (length flags + length s) = omega arith in ap (header_for ty tx false) long;
       payload = payload;
       place = place;
       reads =
           rw payload
-          ((accepting (buf_of ty tx false xs).header xs).complete (decoded_as Accepted ty a no_address place no_request) head.len
-          (with_records_law ty a.bytes records m head.type allows fig again (ap (λ (x : DeviceAddress). decoded_as Accepted ty x no_address place no_request) sender)));
+          ((accepting (buf_of ty tx false xs).header xs).complete (pdu_as ty a no_address place no_request) head.len
+          (with_records_law ty a.bytes records m head.type allows fig again (ap (λ (x : DeviceAddress). pdu_as ty x no_address place no_request) sender)));
       count = refl;
       records = rw (payload, enough (length records) xs 6 (omega arith), behind fig) (take-length records);
     }
 
 -- Flags before the records of an area
-with_flags : (t : List ℕ) (n : ℕ) → read_area t ≡ area.Accepted n → read_area (flags_record ++ t) ≡ area.Accepted (n + 1)
+with_flags : (t : List ℕ) (n : ℕ) → read_area t ≡ Ok n → read_area (flags_record ++ t) ≡ Ok (n + 1)
 unfolding flatten
 with_flags t n good =
     let tiles : Tiling t n = subst (Verdict t) good (decided t).verdict in
@@ -140,7 +139,7 @@ with_flags t n good =
     })
 
 directed_back : (a b : DeviceAddress) → length a.bytes ≡ 6 → length b.bytes ≡ 6
-    → decode_of (built_directed a b).header (payload_of (built_directed a b)) ≡ decoded_as Accepted AdvDirectInd a b no_data no_request
+    → decode_of (built_directed a b).header (payload_of (built_directed a b)) ≡ decoded_as AdvDirectInd a b no_data no_request
 unfolding buf_of pdu_type flatten
 directed_back a b six six' =
     let xs : List ℕ = a.bytes ++ b.bytes in
@@ -151,19 +150,19 @@ directed_back a b six six' =
     let sender : a ≡ address_of a.bytes (kind_of (tx_add h)) = rw (head.sender, kind_back a.kind) in
     let receiver : b ≡ address_of b.bytes (kind_of (rx_add h)) = rw (head.receiver, kind_back b.kind) in
     rw (payload_back AdvDirectInd (is_random a.kind) (is_random b.kind) xs code (omega arith))
-    ((accepting h xs).complete (decoded_as Accepted AdvDirectInd a b no_data no_request) head.len
+    ((accepting h xs).complete (pdu_as AdvDirectInd a b no_data no_request) head.len
     (two_addresses AdvDirectInd a.bytes b.bytes [] head.type (inl refl)
     (record { sizes = rw (six, six'); tiles = rw (append-nil b.bytes, append-nil xs) })
-    (λ i. decoded_as Accepted AdvDirectInd (sender i) (receiver i) no_data no_request)))
+    (λ i. pdu_as AdvDirectInd (sender i) (receiver i) no_data no_request)))
 
-refused_area : (ty : PduType) (a : DeviceAddress) (flags s : List ℕ) (e : Error) → read_area s ≡ area.Refused e → built_of ty a flags s ≡ refused_buf e
+refused_area : (ty : PduType) (a : DeviceAddress) (flags s : List ℕ) (e : Error) → read_area s ≡ Err e → built_of ty a flags s ≡ Err e
 unfolding with_records after_reading
 refused_area ty a flags s e bad = rw bad
 
-refused_size : (ty : PduType) (a : DeviceAddress) (flags s : List ℕ) (n : ℕ) → read_area s ≡ area.Accepted n → length (a.bytes ++ flags) ≤ 37
-    → 37 < length (a.bytes ++ flags) + length s → built_of ty a flags s ≡ refused_buf Eof
+refused_size : (ty : PduType) (a : DeviceAddress) (flags s : List ℕ) (n : ℕ) → read_area s ≡ Ok n → length (a.bytes ++ flags) ≤ 37
+    → 37 < length (a.bytes ++ flags) + length s → built_of ty a flags s ≡ Err Eof
 unfolding with_records after_reading
-refused_size ty a flags s n good front long = rw good (too_small (37 - length (a.bytes ++ flags)) (length s) (refused_buf Eof) _ (omega arith))
+refused_size ty a flags s n good front long = rw good (too_small (37 - length (a.bytes ++ flags)) (length s) (Err Eof) _ (omega arith))
 
 pub building : Building
 building =

@@ -1,6 +1,6 @@
 -- All laws of this crate. Assumes nothing.
 use Rattle.advertising.specs.Holds.{Holds}
-use Rattle.advertising.proofs.Accepting.{accepting, accepting_heard, record_area, record_area_heard, data_part, no_pdu}
+use Rattle.advertising.proofs.Accepting.{accepting, accepting_heard, record_area, record_area_heard, data_part}
 use Rattle.advertising.proofs.Builders.{builders, directed, writing, examples}
 use Rattle.advertising.proofs.Building.{building}
 use Rattle.advertising.proofs.Examples.{example, accuracies, window_end_law}
@@ -15,7 +15,6 @@ holds = record {
   record_area = record_area;
   record_area_heard = record_area_heard;
   data_part = data_part;
-  no_pdu = no_pdu;
   building = building;
   example = example;
   accuracies = accuracies;

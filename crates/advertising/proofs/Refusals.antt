@@ -12,16 +12,15 @@ use Rattle.addresses.specs.declared.header.Header.{Header}
 use Rattle.addresses.specs.declared.header.PduType.{PduType}
 use Rattle.addresses.specs.declared.header.PduType.TheVariants.{AdvInd, AdvDirectInd, AdvNonconnInd, AdvScanInd, ScanReq, ScanRsp, ConnectReq, Unknown}
 use Rattle.octets.proofs.Places.{enough, too_few}
-use Rattle.octets.specs.Error.{number_of, outcome_number}
+use Rattle.octets.specs.Error.{number_of}
 use Rattle.records_spec.specs.Area.{cut, reads, with_first, area_of, read_area}
 use Rattle.records_spec.specs.Record.{first, flags_read, data_read, up_to, record_read}
 use Rattle.flags.specs.Flags.{named}
-use Rattle.records_spec.specs.declared.area.Area.{Area}
-use Rattle.records_spec.specs.declared.area.Area.TheVariants as area
 use Rattle.advertising.specs.Pdu.{ll_data_of, with_area, undirected, directed, connect_request, by_type, decode_by, decode_of}
-use Rattle.advertising.specs.Refusals.{number_for, needed, Order, FromBytes, RefusalRows}
-use Rattle.advertising.specs.declared.pdu.Decoded.{Decoded}
+use Rattle.advertising.specs.Refusals.{number_in, number_for, needed, Order, FromBytes, RefusalRows}
 use Rattle.advertising.proofs.Accepting.{arm_undirected}
+use Rattle.std.specs.Prelude.{Result, Ok, Err}
+use Rattle.octets.specs.declared.error.Error.{Error}
 
 -- the types 7 to 15 have no name
 unnamed : (c : ℕ) → 6 < c → pdu_type c ≡ Unknown c
@@ -45,21 +44,21 @@ module _ (n : ℕ) (p : List ℕ) where
       rw (eq-eqb (length_of h) (length p) (omega arith)) (ap (λ (k : PduType). by_type read_area k h p) (ap pdu_type code ∙ named))
 
   -- the answers of the types, as numbers
-  undirected_short : (ty : PduType) → length p < 6 → outcome_number (undirected read_area ty h p).outcome ≡ 1
+  undirected_short : (ty : PduType) → length p < 6 → number_in (undirected read_area ty h p) ≡ 1
   unfolding undirected
   undirected_short ty few = rw (lt-ltb (length p) 6 few)
 
-  directed_short : (ty : PduType) → length p < 12 → outcome_number (directed ty h p).outcome ≡ 1
+  directed_short : (ty : PduType) → length p < 12 → number_in (directed ty h p) ≡ 1
   unfolding directed
   directed_short ty few = rw (lt-ltb (length p) 12 few)
 
-  connect_short : length p < 34 → outcome_number (connect_request h p).outcome ≡ 1
+  connect_short : length p < 34 → number_in (connect_request h p) ≡ 1
   unfolding connect_request
   connect_short few = rw (lt-ltb (length p) 34 few)
 
   -- a number of the answer by type is the number of the answer
-  by : (c : ℕ) (ty : PduType) (k : ℕ) → n / 256 % 64 ≡ length p → n % 16 ≡ c → pdu_type c ≡ ty → outcome_number (by_type read_area ty h p).outcome ≡ k → number_for n p ≡ k
-  by c ty k counts is named number = ap (λ (d : Decoded). outcome_number d.outcome) (typed c ty counts is named) ∙ number
+  by : (c : ℕ) (ty : PduType) (k : ℕ) → n / 256 % 64 ≡ length p → n % 16 ≡ c → pdu_type c ≡ ty → number_in (by_type read_area ty h p) ≡ k → number_for n p ≡ k
+  by c ty k counts is named number = ap number_in (typed c ty counts is named) ∙ number
 
   wrong_type : n / 256 % 64 ≡ length p → 6 < n % 16 → number_for n p ≡ 3
   unfolding by_type
@@ -95,13 +94,13 @@ module _ (n : ℕ) (p : List ℕ) where
   has_records (there (there (there (there e)))) = elim e [ ]
 
   -- the number, from what the area is read as
-  of_area : (k : ℕ) (a : Area) → n / 256 % 64 ≡ length p → Mem (n % 16) (0 ∷ 2 ∷ 4 ∷ 6 ∷ []) → 6 ≤ length p → read_area (drop 6 p) ≡ a
-      → ((ty : PduType) → outcome_number (with_area ty h p a).outcome ≡ k) → number_for n p ≡ k
+  of_area : (k : ℕ) (a : Result ℕ Error) → n / 256 % 64 ≡ length p → Mem (n % 16) (0 ∷ 2 ∷ 4 ∷ 6 ∷ []) → 6 ≤ length p → read_area (drop 6 p) ≡ a
+      → ((ty : PduType) → number_in (with_area ty h p a) ≡ k) → number_for n p ≡ k
   unfolding undirected
   of_area k a counts which enough reads number = ∥∥₁_elim which (ℕ_set (number_for n p) k) (λ (at : Memᴰ (n % 16) (0 ∷ 2 ∷ 4 ∷ 6 ∷ [])).
       let of = has_records at in
       by of.code of.type k counts of.is of.named
-      (ap (λ (d : Decoded). outcome_number d.outcome) (arm_undirected read_area of.type h p of.allows ∙ area_is of.type) ∙ number of.type))
+      (ap number_in (arm_undirected read_area of.type h p of.allows ∙ area_is of.type) ∙ number of.type))
     where
       area_is : (ty : PduType) → undirected read_area ty h p ≡ with_area ty h p a
       area_is ty = rw (le-ltb (length p) 6 enough, reads)
@@ -120,8 +119,8 @@ module _ (n : ℕ) (p : List ℕ) where
         by_length = wrong_length;
         by_type_law = wrong_type;
         by_fields = too_short;
-        by_records = λ e counts which enough bad. of_area (number_of e) (area.Refused e) counts which enough bad (λ ty. refl);
-        with_records_law = λ k counts which enough good. of_area 0 (area.Accepted k) counts which enough good (λ ty. refl);
+        by_records = λ e counts which enough bad. of_area (number_of e) (Err e) counts which enough bad (λ ty. refl);
+        with_records_law = λ k counts which enough good. of_area 0 (Ok k) counts which enough good (λ ty. refl);
         others = λ counts which long. ∥∥₁_elim which (ℕ_set (number_for n p) 0) (further counts long);
       }
 

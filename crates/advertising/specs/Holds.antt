@@ -4,7 +4,7 @@ use Rattle.std.specs.Borrow.{Bor}
 use Rattle.addresses.specs.declared.device_address.DeviceAddress.{DeviceAddress}
 use Rattle.addresses.specs.declared.header.Header.{Header}
 use Rattle.advertising.specs.Builders.{Builders, Directed, Writing, Examples}
-use Rattle.advertising.specs.Laws.{Accepting, AcceptingHeard, Building, RequestExample, Accuracies, WindowEnd, RecordArea, RecordAreaHeard, DataPart, NoPdu}
+use Rattle.advertising.specs.Laws.{Accepting, AcceptingHeard, Building, RequestExample, Accuracies, WindowEnd, RecordArea, RecordAreaHeard, DataPart}
 use Rattle.advertising.specs.Padded.{Heard, Alike, DecodedRows}
 use Rattle.advertising.specs.Refusals.{Order, FromBytes, RefusalRows}
 use Rattle.advertising.specs.Table.{Table}
@@ -17,7 +17,6 @@ pub record Holds : Type 0 where
   pub record_area : (h : Header) (p : Bor (List ℕ)) → RecordArea h p
   pub record_area_heard : (h : Header) (p : Bor (List ℕ)) → RecordAreaHeard h p
   pub data_part : (d : AdvData) (p : Bor (List ℕ)) → DataPart d p
-  pub no_pdu : (h : Header) (p : List ℕ) → NoPdu h p
   pub building : Building
   pub example : RequestExample
   pub accuracies : Accuracies

@@ -7,6 +7,7 @@
 --   AcceptingHeard h p              (Accepting.accepting_heard)    the same of the hub's decoder
 --   ReadsBack ty a flags s n        == a PDU of type ty is built of the address a, the octets `flags` and the n records of s, and decodes to these
 --   Building                        (Building.building)            what is read of a PDU that was built
+--   read_of part d                  == a part of what a decoder answers, or its refusal
 --   row h0 h1 p                     == what the two octets of a header and a payload decode to
 --   nine                            == the nine octets of document 01's first rows
 --   counted                         == the payload of a connect request: the octets 00 to 21, counted in hexadecimal
@@ -18,8 +19,7 @@
 --   RecordArea h p                  (Accepting.record_area)        where the records of a payload lie that the general decoder accepts
 --   RecordAreaHeard h p             (Accepting.record_area_heard)  the same of the hub's decoder
 --   DataPart d p                    (Accepting.data_part)          what a place of any values hands on of a payload
---   NoPdu h p                       (Accepting.no_pdu)             beside a refusal there is no PDU
-use Rattle.std.specs.Prelude.{◌≡◌, ℕ, ◌+◌, ◌*◌, ◌/◌, ◌%◌, ◌^◌, ◌<◌, ◌≤◌, true, false, ◌⊎◌, List, [], ◌∷◌, ◌++◌, map, length, take, drop, slice_index}
+use Rattle.std.specs.Prelude.{◌≡◌, ℕ, ◌+◌, ◌*◌, ◌/◌, ◌%◌, ◌^◌, ◌<◌, ◌≤◌, true, false, ◌⊎◌, List, [], ◌∷◌, ◌++◌, map, length, take, drop, slice_index, Result, Ok, Err}
 use mathlib.Core.List.{flatten}
 use Rattle.std.specs.Borrow.{Bor}
 use Rattle.addresses.specs.Address.{kind_of, is_random, address_of}
@@ -27,21 +27,18 @@ use Rattle.addresses.specs.Header.{header_of, type_of, tx_add, rx_add, length_of
 use Rattle.addresses.specs.declared.device_address.AddressKind.TheVariants.{Public, Random}
 use Rattle.addresses.specs.declared.device_address.DeviceAddress.{DeviceAddress}
 use Rattle.addresses.specs.declared.header.Header.{Header}
-use Rattle.addresses.specs.declared.header.HeaderRead.TheVariants as read
 use Rattle.addresses.specs.declared.header.PduType.{PduType}
-use Rattle.addresses.specs.declared.header.PduType.TheVariants.{AdvInd, AdvDirectInd, ScanReq, ConnectReq, Unknown}
+use Rattle.addresses.specs.declared.header.PduType.TheVariants.{AdvInd, AdvDirectInd, ScanReq, ConnectReq}
 use Rattle.channels.specs.Map.{from_raw}
 use Rattle.octets.specs.Bytes.{le}
 use Rattle.octets.specs.declared.error.Error.{Error}
 use Rattle.octets.specs.declared.error.Error.TheVariants.{Eof}
 use Rattle.records_spec.specs.Area.{read_area, rewritten}
-use Rattle.records_spec.specs.declared.area.Area.TheVariants as area
-use Rattle.advertising.specs.Pdu.{undirected_figure, directed_figure, connect_figure, accuracy_of, window_end, no_request, no_address, no_data, data_in, data_place, decoded_as, Reading, decode_of, decoded_at, as_hub, heard_of}
-use Rattle.advertising.specs.PduBuf.{header_for, refused_buf, built_of, built_directed, flags_record, payload_of}
+use Rattle.advertising.specs.Pdu.{undirected_figure, directed_figure, connect_figure, accuracy_of, window_end, no_request, no_address, no_data, data_in, data_place, pdu_as, decoded_as, Reading, decode_of, as_hub, heard_of}
+use Rattle.advertising.specs.PduBuf.{header_for, built_of, built_directed, flags_record, payload_of}
 use Rattle.advertising.specs.declared.pdu.AdvData.{AdvData}
 use Rattle.advertising.specs.declared.pdu.ConnectRequestData.{ConnectRequestData}
-use Rattle.advertising.specs.declared.pdu.Decoded.{Decoded}
-use Rattle.octets.specs.declared.error.Outcome.TheVariants.{Accepted, Refused}
+use Rattle.advertising.specs.declared.pdu.Pdu.{Pdu}
 use Rattle.advertising.specs.declared.pdu.SleepClockAccuracy.{SleepClockAccuracy}
 use Rattle.advertising.specs.declared.pdu.SleepClockAccuracy.TheVariants.{Ppm251To500, Ppm151To250, Ppm101To150, Ppm76To100, Ppm51To75, Ppm31To50, Ppm21To30, Ppm0To20}
 use Rattle.advertising.specs.declared.pdu_buf.PduBuf.{PduBuf}
@@ -53,21 +50,21 @@ pub record Figure (widths : List ℕ) (fields : List (List ℕ)) (further p : Li
 
 -- A payload begins with the fields of a figure of the Core, drawn in specs/Pdu.antt, for the header's type; and both say what d says. Records are read by
 -- a given reading: strictly, or as the hub does.
-pub data ShapedBy (reading : Reading) (h : Header) (p : List ℕ) (d : Decoded) : Type 0 where
+pub data ShapedBy (reading : Reading) (h : Header) (p : List ℕ) (d : Pdu) : Type 0 where
   -- an address and records
   with_records_law : (ty : PduType) (advA records : List ℕ) (n : ℕ) → type_of h ≡ ty → allows_adv_data ty ≡ true
-      → Figure undirected_figure (advA ∷ []) records p → reading records ≡ area.Accepted n
-      → d ≡ decoded_as Accepted ty (address_of advA (kind_of (tx_add h))) no_address (record { start = 6; len = length records; count = n }) no_request
+      → Figure undirected_figure (advA ∷ []) records p → reading records ≡ Ok n
+      → d ≡ pdu_as ty (address_of advA (kind_of (tx_add h))) no_address (record { start = 6; len = length records; count = n }) no_request
       → ShapedBy reading h p d
   -- two addresses
   two_addresses : (ty : PduType) (first second further : List ℕ) → type_of h ≡ ty → (ty ≡ AdvDirectInd) ⊎ (ty ≡ ScanReq)
       → Figure directed_figure (first ∷ second ∷ []) further p
-      → d ≡ decoded_as Accepted ty (address_of first (kind_of (tx_add h))) (address_of second (kind_of (rx_add h))) no_data no_request
+      → d ≡ pdu_as ty (address_of first (kind_of (tx_add h))) (address_of second (kind_of (rx_add h))) no_data no_request
       → ShapedBy reading h p d
   -- two addresses and LLData
   with_lldata : (initA advA aa crcInit winSize winOffset interval latency timeout chM hopSca further : List ℕ) → type_of h ≡ ConnectReq
       → Figure connect_figure (initA ∷ advA ∷ aa ∷ crcInit ∷ winSize ∷ winOffset ∷ interval ∷ latency ∷ timeout ∷ chM ∷ hopSca ∷ []) further p
-      → d ≡ decoded_as Accepted ConnectReq (address_of initA (kind_of (tx_add h))) (address_of advA (kind_of (rx_add h))) no_data (record {
+      → d ≡ pdu_as ConnectReq (address_of initA (kind_of (tx_add h))) (address_of advA (kind_of (rx_add h))) no_data (record {
         access_address = le aa;
         crc_init = le crcInit;
         win_size = le winSize * 1250;
@@ -82,9 +79,9 @@ pub data ShapedBy (reading : Reading) (h : Header) (p : List ℕ) (d : Decoded) 
       → ShapedBy reading h p d
 
 -- A header and a payload are accepted exactly if the header counts the payload and they are so shaped; what is then read is what the shape says.
-pub record AcceptingBy (reading : Reading) (decoder : Header → List ℕ → Decoded) (h : Header) (p : List ℕ) : Type 0 where
-  pub sound : (decoder h p).outcome ≡ Accepted → (length_of h ≡ length p) × ShapedBy reading h p (decoder h p)
-  pub complete : (d : Decoded) → length_of h ≡ length p → ShapedBy reading h p d → decoder h p ≡ d
+pub record AcceptingBy (reading : Reading) (decoder : Header → List ℕ → Result Pdu Error) (h : Header) (p : List ℕ) : Type 0 where
+  pub sound : (d : Pdu) → decoder h p ≡ Ok d → (length_of h ≡ length p) × ShapedBy reading h p d
+  pub complete : (d : Pdu) → length_of h ≡ length p → ShapedBy reading h p d → decoder h p ≡ Ok d
 
 -- the general decoder, by the strict reading
 abbrev pub Accepting : Header → List ℕ → Type 0
@@ -97,13 +94,13 @@ AcceptingHeard h p = AcceptingBy as_hub heard_of h p
 -- a PDU of type ty from the address a was built with these records, n of them, and is read as that
 pub record ReadsBack (ty : PduType) (a : DeviceAddress) (flags s : List ℕ) (n : ℕ) : Type 0 where
   pub pdu : PduBuf
-  pub built : built_of ty a flags s ≡ record { outcome = Accepted; pdu = pdu }
+  pub built : built_of ty a flags s ≡ Ok pdu
   -- its header: the type, the kind of the address, no RxAdd and no reserved bit, and the number of its octets
   pub header : pdu.header ≡ header_for ty (is_random a.kind) false (6 + (length flags + length s))
   -- its octets: the address, Flags where the builder puts them, and the records
   pub payload : payload_of pdu ≡ (a.bytes ++ flags) ++ rewritten s
   pub place : AdvData
-  pub reads : decode_of pdu.header (payload_of pdu) ≡ decoded_as Accepted ty a no_address place no_request
+  pub reads : decode_of pdu.header (payload_of pdu) ≡ decoded_as ty a no_address place no_request
   pub count : place.count ≡ n
   -- the records are those given, with undefined Flags bits cleared
   pub records : data_in place (payload_of pdu) ≡ flags ++ rewritten s
@@ -111,19 +108,24 @@ pub record ReadsBack (ty : PduType) (a : DeviceAddress) (flags s : List ℕ) (n 
 -- Decoding what a builder built gives the type, the address with its kind and the records, for every address and every accepted area that fits.
 pub record Building : Type 0 where
   pub adv : (ty : PduType) (a : DeviceAddress) (s : List ℕ) (n : ℕ) → allows_adv_data ty ≡ true → length a.bytes ≡ 6
-      → read_area s ≡ area.Accepted n → length s ≤ 31 → ReadsBack ty a [] s n
+      → read_area s ≡ Ok n → length s ≤ 31 → ReadsBack ty a [] s n
   pub discoverable : (a : DeviceAddress) (s : List ℕ) (n : ℕ) → length a.bytes ≡ 6
-      → read_area s ≡ area.Accepted n → length s ≤ 28 → ReadsBack AdvInd a flags_record s (n + 1)
+      → read_area s ≡ Ok n → length s ≤ 28 → ReadsBack AdvInd a flags_record s (n + 1)
   pub directed : (a b : DeviceAddress) → length a.bytes ≡ 6 → length b.bytes ≡ 6
-      → decode_of (built_directed a b).header (payload_of (built_directed a b)) ≡ decoded_as Accepted AdvDirectInd a b no_data no_request
+      → decode_of (built_directed a b).header (payload_of (built_directed a b)) ≡ decoded_as AdvDirectInd a b no_data no_request
   -- a bad area is refused as its first bad record is, and a good one that does not fit with 1
-  pub bad_area : (ty : PduType) (a : DeviceAddress) (flags s : List ℕ) (e : Error) → read_area s ≡ area.Refused e → built_of ty a flags s ≡ refused_buf e
-  pub too_long : (ty : PduType) (a : DeviceAddress) (flags s : List ℕ) (n : ℕ) → read_area s ≡ area.Accepted n → length (a.bytes ++ flags) ≤ 37
+  pub bad_area : (ty : PduType) (a : DeviceAddress) (flags s : List ℕ) (e : Error) → read_area s ≡ Err e → built_of ty a flags s ≡ Err e
+  pub too_long : (ty : PduType) (a : DeviceAddress) (flags s : List ℕ) (n : ℕ) → read_area s ≡ Ok n → length (a.bytes ++ flags) ≤ 37
       → 37 < length (a.bytes ++ flags) + length s
-      → built_of ty a flags s ≡ refused_buf Eof
+      → built_of ty a flags s ≡ Err Eof
+
+-- what a part of a PDU that was decoded says, or its refusal
+abbrev pub read_of : {A : Type 0} → (Pdu → A) → Result Pdu Error → Result A Error
+read_of part (Ok d) = Ok (part d)
+read_of part (Err e) = Err e
 
 -- what the two octets of a header and a payload decode to
-abbrev pub row : ℕ → ℕ → List ℕ → Decoded
+abbrev pub row : ℕ → ℕ → List ℕ → Result Pdu Error
 row h0 h1 p = decode_of (header_of (le (h0 ∷ h1 ∷ []))) p
 
 -- the nine octets of document 01's first rows
@@ -138,7 +140,7 @@ counted =
 
 pub record RequestExample : Type 0 where
   pub connect_request_law : row 0x85 0x22 counted
-      ≡ decoded_as Accepted ConnectReq
+      ≡ decoded_as ConnectReq
       (address_of (0x00 ∷ 0x01 ∷ 0x02 ∷ 0x03 ∷ 0x04 ∷ 0x05 ∷ []) Public)
       (address_of (0x06 ∷ 0x07 ∷ 0x08 ∷ 0x09 ∷ 0x0A ∷ 0x0B ∷ []) Random)
       no_data
@@ -155,12 +157,13 @@ pub record RequestExample : Type 0 where
         sca = Ppm151To250;
       })
   -- its last octet: the hop in the low 5 bits, the clock accuracy in the high 3
-  pub hops : map (λ (o : ℕ). (row 0x85 0x22 (take 33 counted ++ (o ∷ []))).pdu.lldata.hop) (0x1F ∷ 0x20 ∷ 0xFF ∷ []) ≡ 31 ∷ 0 ∷ 31 ∷ []
-  pub clocks : map (λ (o : ℕ). (row 0x85 0x22 (take 33 counted ++ (o ∷ []))).pdu.lldata.sca) (0x1F ∷ 0x20 ∷ 0xFF ∷ []) ≡ Ppm251To500 ∷ Ppm151To250 ∷ Ppm0To20 ∷ []
-  -- what a type lacks is zero, and so is all of a refused PDU, whose type is none
-  pub no_receiver : (row 0x02 0x06 (take 6 nine)).pdu.receiver ≡ address_of (0 ∷ 0 ∷ 0 ∷ 0 ∷ 0 ∷ 0 ∷ []) Public
-  pub no_lldata : (row 0x02 0x06 (take 6 nine)).pdu.lldata
-      ≡ record {
+  pub hops : map (λ (o : ℕ). read_of (λ d. d.lldata.hop) (row 0x85 0x22 (take 33 counted ++ (o ∷ [])))) (0x1F ∷ 0x20 ∷ 0xFF ∷ []) ≡ Ok 31 ∷ Ok 0 ∷ Ok 31 ∷ []
+  pub clocks : map (λ (o : ℕ). read_of (λ d. d.lldata.sca) (row 0x85 0x22 (take 33 counted ++ (o ∷ [])))) (0x1F ∷ 0x20 ∷ 0xFF ∷ [])
+      ≡ Ok Ppm251To500 ∷ Ok Ppm151To250 ∷ Ok Ppm0To20 ∷ []
+  -- what a type lacks is zero
+  pub no_receiver : read_of (λ d. d.receiver) (row 0x02 0x06 (take 6 nine)) ≡ Ok (address_of (0 ∷ 0 ∷ 0 ∷ 0 ∷ 0 ∷ 0 ∷ []) Public)
+  pub no_lldata : read_of (λ d. d.lldata) (row 0x02 0x06 (take 6 nine))
+      ≡ Ok (record {
         access_address = 0;
         crc_init = 0;
         win_size = 0;
@@ -171,9 +174,9 @@ pub record RequestExample : Type 0 where
         chm = from_raw (0 ∷ 0 ∷ 0 ∷ 0 ∷ 0 ∷ []);
         hop = 0;
         sca = Ppm251To500;
-      }
-  pub no_records : (row 0x85 0x22 counted).pdu.adv_data ≡ record { start = 0; len = 0; count = 0 }
-  pub refused : (row 0x02 0x05 (take 5 nine)).pdu ≡ record { ty = Unknown 15; sender = no_address; receiver = no_address; adv_data = no_data; lldata = no_request }
+      })
+  pub no_records : read_of (λ d. d.adv_data) (row 0x85 0x22 counted) ≡ Ok (record { start = 0; len = 0; count = 0 })
+  pub refused : row 0x02 0x05 (take 5 nine) ≡ Err Eof
 
 -- the worst clock of an accuracy, in ppm
 abbrev pub worst_of : SleepClockAccuracy → ℕ
@@ -195,9 +198,9 @@ abbrev pub WindowEnd : Type 0
 WindowEnd = (d : ConnectRequestData) → window_end d ≡ (d.win_offset + d.win_size + 1250) % 2 ^ 32
 
 -- The record area of a PDU that was read is the part of its payload after the six octets of the address, in its own place.
-pub record RecordAreaBy (decoder : Header → List ℕ → Decoded) (h : Header) (p : Bor (List ℕ)) : Type 0 where
-  pub octets : allows_adv_data (type_of h) ≡ true → (decoder h p.now).outcome ≡ Accepted → data_in (decoder h p.now).pdu.adv_data p.now ≡ drop 6 p.now
-  pub place : allows_adv_data (type_of h) ≡ true → (decoder h p.now).outcome ≡ Accepted → data_place (decoder h p.now).pdu.adv_data p ≡ (p.ref_ptr.0, p.ref_ptr.1 + 6)
+pub record RecordAreaBy (decoder : Header → List ℕ → Result Pdu Error) (h : Header) (p : Bor (List ℕ)) : Type 0 where
+  pub octets : (d : Pdu) → allows_adv_data (type_of h) ≡ true → decoder h p.now ≡ Ok d → data_in d.adv_data p.now ≡ drop 6 p.now
+  pub place : (d : Pdu) → allows_adv_data (type_of h) ≡ true → decoder h p.now ≡ Ok d → data_place d.adv_data p ≡ (p.ref_ptr.0, p.ref_ptr.1 + 6)
 
 abbrev pub RecordArea : Header → Bor (List ℕ) → Type 0
 RecordArea h p = RecordAreaBy decode_of h p
@@ -210,9 +213,3 @@ pub record DataPart (d : AdvData) (p : Bor (List ℕ)) : Type 0 where
   pub there : (before xs rest : List ℕ) → p.now ≡ before ++ (xs ++ rest) → d.start ≡ length before → d.len ≡ length xs
       → (data_in d p.now ≡ xs) × (data_place d p ≡ (p.ref_ptr.0, p.ref_ptr.1 + length before))
   pub fewer : length p.now < d.start + d.len → (data_in d p.now ≡ []) × (data_place d p ≡ p.ref_ptr)
-
--- type 15, which no PDU has, and zeros, whatever was refused
-pub record NoPdu (h : Header) (p : List ℕ) : Type 0 where
-  pub strictly : (e : Error) → (decode_of h p).outcome ≡ Refused e → (decode_of h p).pdu ≡ record { ty = Unknown 15; sender = no_address; receiver = no_address; adv_data = no_data; lldata = no_request }
-  pub as_hub_law : (e : Error) → (heard_of h p).outcome ≡ Refused e → (heard_of h p).pdu ≡ record { ty = Unknown 15; sender = no_address; receiver = no_address; adv_data = no_data; lldata = no_request }
-  pub no_header : (e : Error) → (decoded_at (read.Refused e) p).pdu ≡ record { ty = Unknown 15; sender = no_address; receiver = no_address; adv_data = no_data; lldata = no_request }

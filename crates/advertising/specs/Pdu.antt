@@ -19,8 +19,8 @@
 --   sender_of h p, receiver_of h p         == the first and the second address
 --   has_receiver ty                       == a type with a second address
 --   data_in d p, data_place d p            == the part of a payload where records lie, and where that part lies
---   decoded_as o ty s r d l               == an answer, with all that it says
---   refused_pdu e                         == the refusal e, with an empty PDU
+--   pdu_as ty s r d l                     == a PDU, with all that it says
+--   decoded_as ty s r d l                 == that PDU as an answer
 --   with_area ty h p a                    == the answer for a type with records, by what reading these found
 --   Reading                              == a way to read an area of records
 --   undirected, directed, connect_request == the answer by type, once the length agrees
@@ -32,37 +32,31 @@
 --   as_hub s                              == an area as the hub reads it, the octets taken left out
 --   heard_of h p                          == the answer where records are read as the hub does: zeros may follow them (document 02, Note 3)
 --   octets_taken d p                      == how many octets the records take of the part d of a payload
+--   counted p d                           == the answer d, and how many octets of the payload p its records took
 --   padded_of h p                         == what is heard, and how many octets its records took
-use Rattle.std.specs.Prelude.{ℕ, ◌-◌, ◌*◌, ◌/◌, ◌%◌, Bool, true, false, cond, ◌&&◌, List, [], ◌∷◌, ◌++◌, length, take, drop, ◌==◌, nat_le, nat_lt, slice_index}
+use Rattle.std.specs.Prelude.{ℕ, ◌-◌, ◌*◌, ◌/◌, ◌%◌, Bool, true, false, cond, ◌&&◌, List, [], ◌∷◌, ◌++◌, length, take, drop, ◌==◌, nat_le, nat_lt, slice_index, Result, Ok, Err, is_ok}
 use Rattle.std.specs.Borrow.{Bor}
 use Rattle.octets.specs.Lists.{total}
 use Rattle.channels.specs.Map.{from_raw}
 use Rattle.octets.specs.Bytes.{part, part_or, part_place, le}
-use Rattle.octets.specs.Error.{is_accepted}
 use Rattle.octets.specs.Time.{later}
 use Rattle.octets.specs.declared.error.Error.{Error}
 use Rattle.octets.specs.declared.error.Error.TheVariants.{Eof, InvalidLength, InvalidValue}
 use Rattle.records_spec.specs.Area.{read_area}
 use Rattle.records_spec.specs.HubReading.{unpadded, read_padded, area_in}
-use Rattle.records_spec.specs.declared.area.Area.{Area}
-use Rattle.records_spec.specs.declared.area.Area.TheVariants as area
 use Rattle.addresses.specs.Address.{kind_of, address_of}
 use Rattle.addresses.specs.Header.{type_of, tx_add, rx_add, length_of, allows_adv_data}
 use Rattle.addresses.specs.declared.device_address.AddressKind.TheVariants.{Public}
 use Rattle.addresses.specs.declared.device_address.DeviceAddress.{DeviceAddress}
 use Rattle.addresses.specs.declared.header.Header.{Header}
-use Rattle.addresses.specs.declared.header.HeaderRead.{HeaderRead}
-use Rattle.addresses.specs.declared.header.HeaderRead.TheVariants as read
 use Rattle.addresses.specs.declared.header.PduType.{PduType}
 use Rattle.addresses.specs.declared.header.PduType.TheVariants.{AdvInd, AdvDirectInd, AdvNonconnInd, AdvScanInd, ScanReq, ScanRsp, ConnectReq, Unknown}
 use Rattle.advertising.specs.declared.pdu.AdvData.{AdvData}
 use Rattle.advertising.specs.declared.pdu.ConnectRequestData.{ConnectRequestData}
-use Rattle.advertising.specs.declared.pdu.Decoded.{Decoded}
-use Rattle.octets.specs.declared.error.Outcome.{Outcome}
-use Rattle.octets.specs.declared.error.Outcome.TheVariants.{Accepted, Refused}
-use Rattle.advertising.specs.declared.pdu.Padded.{Padded}
+use Rattle.advertising.specs.declared.pdu.Pdu.{Pdu}
 use Rattle.advertising.specs.declared.pdu.SleepClockAccuracy.{SleepClockAccuracy}
 use Rattle.advertising.specs.declared.pdu.SleepClockAccuracy.TheVariants.{Ppm251To500, Ppm151To250, Ppm101To150, Ppm76To100, Ppm51To75, Ppm31To50, Ppm21To30, Ppm0To20}
+use Rattle.octets.specs.declared.bytes.ByteReader.{ByteReader}
 
 abbrev pub field_at : List ℕ → ℕ → List ℕ → List ℕ
 field_at widths k p = part (slice_index widths k) p (total (take k widths))
@@ -160,40 +154,36 @@ data_in d p = part_or d.len p d.start
 abbrev pub data_place : AdvData → Bor (List ℕ) → ℕ × ℕ
 data_place d p = part_place d.len p d.start
 
-abbrev pub decoded_as : Outcome → PduType → DeviceAddress → DeviceAddress → AdvData → ConnectRequestData → Decoded
-decoded_as outcome ty sender receiver records lldata =
-    record {
-      outcome = outcome;
-      pdu = record { ty = ty; sender = sender; receiver = receiver; adv_data = records; lldata = lldata };
-    }
+abbrev pub pdu_as : PduType → DeviceAddress → DeviceAddress → AdvData → ConnectRequestData → Pdu
+pdu_as ty sender receiver records lldata = record { ty = ty; sender = sender; receiver = receiver; adv_data = records; lldata = lldata }
 
-abbrev pub refused_pdu : Error → Decoded
-refused_pdu e = decoded_as (Refused e) (Unknown 15) no_address no_address no_data no_request
+abbrev pub decoded_as : PduType → DeviceAddress → DeviceAddress → AdvData → ConnectRequestData → Result Pdu Error
+decoded_as ty sender receiver records lldata = Ok (pdu_as ty sender receiver records lldata)
 
 -- by what reading the record area after the address found
-unfoldable pub with_area : PduType → Header → List ℕ → Area → Decoded
-with_area ty h p (area.Accepted n) =
-    decoded_as Accepted ty (sender_of h p) no_address (record { start = 6; len = length p - 6; count = n }) no_request
-with_area ty h p (area.Refused e) = refused_pdu e
+unfoldable pub with_area : PduType → Header → List ℕ → Result ℕ Error → Result Pdu Error
+with_area ty h p (Ok n) =
+    decoded_as ty (sender_of h p) no_address (record { start = 6; len = length p - 6; count = n }) no_request
+with_area ty h p (Err e) = Err e
 
 -- how an area of records is read
 abbrev pub Reading : Type 0
-Reading = List ℕ → Area
+Reading = List ℕ → Result ℕ Error
 
-unfoldable pub undirected : Reading → PduType → Header → List ℕ → Decoded
-undirected reading ty h p = cond (nat_lt (length p) (total undirected_figure)) (refused_pdu Eof) (with_area ty h p (reading (drop (total undirected_figure) p)))
+unfoldable pub undirected : Reading → PduType → Header → List ℕ → Result Pdu Error
+undirected reading ty h p = cond (nat_lt (length p) (total undirected_figure)) (Err Eof) (with_area ty h p (reading (drop (total undirected_figure) p)))
 
-unfoldable pub directed : PduType → Header → List ℕ → Decoded
+unfoldable pub directed : PduType → Header → List ℕ → Result Pdu Error
 directed ty h p =
-    cond (nat_lt (length p) (total directed_figure)) (refused_pdu Eof)
-    (decoded_as Accepted ty (sender_of h p) (receiver_of h p) no_data no_request)
+    cond (nat_lt (length p) (total directed_figure)) (Err Eof)
+    (decoded_as ty (sender_of h p) (receiver_of h p) no_data no_request)
 
-unfoldable pub connect_request : Header → List ℕ → Decoded
+unfoldable pub connect_request : Header → List ℕ → Result Pdu Error
 connect_request h p =
-    cond (nat_lt (length p) (total connect_figure)) (refused_pdu Eof)
-    (decoded_as Accepted ConnectReq (sender_of h p) (receiver_of h p) no_data (request_of p))
+    cond (nat_lt (length p) (total connect_figure)) (Err Eof)
+    (decoded_as ConnectReq (sender_of h p) (receiver_of h p) no_data (request_of p))
 
-unfoldable pub by_type : Reading → PduType → Header → List ℕ → Decoded
+unfoldable pub by_type : Reading → PduType → Header → List ℕ → Result Pdu Error
 by_type reading AdvInd h p = undirected reading AdvInd h p
 by_type reading AdvDirectInd h p = directed AdvDirectInd h p
 by_type reading AdvNonconnInd h p = undirected reading AdvNonconnInd h p
@@ -201,21 +191,21 @@ by_type reading AdvScanInd h p = undirected reading AdvScanInd h p
 by_type reading ScanReq h p = directed ScanReq h p
 by_type reading ScanRsp h p = undirected reading ScanRsp h p
 by_type reading ConnectReq h p = connect_request h p
-by_type reading (Unknown n) h p = refused_pdu InvalidValue
+by_type reading (Unknown n) h p = Err InvalidValue
 
-unfoldable pub decode_by : Reading → Header → List ℕ → Decoded
-decode_by reading h p = cond (length_of h == length p) (by_type reading (type_of h) h p) (refused_pdu InvalidLength)
+unfoldable pub decode_by : Reading → Header → List ℕ → Result Pdu Error
+decode_by reading h p = cond (length_of h == length p) (by_type reading (type_of h) h p) (Err InvalidLength)
 
-abbrev pub decode_of : Header → List ℕ → Decoded
+abbrev pub decode_of : Header → List ℕ → Result Pdu Error
 decode_of h p = decode_by read_area h p
 
 -- "well-formed if its header and payload decode without refusal"
 abbrev pub well_formed : Header → List ℕ → Bool
-well_formed h p = is_accepted (decode_of h p).outcome
+well_formed h p = is_ok (decode_of h p)
 
-abbrev pub decoded_at : HeaderRead → List ℕ → Decoded
-decoded_at (read.Header h next) s = decode_of h (drop next.at s)
-decoded_at (read.Refused e) s = refused_pdu e
+abbrev pub decoded_at : Result (Header × ByteReader) Error → List ℕ → Result Pdu Error
+decoded_at (Ok (h, next)) s = decode_of h (drop next.at s)
+decoded_at (Err e) s = Err e
 
 -- header and payload have records to read
 abbrev pub has_area : Header → List ℕ → Bool
@@ -224,11 +214,15 @@ has_area h p = allows_adv_data (type_of h) && (length_of h == length p && nat_le
 abbrev pub as_hub : Reading
 as_hub s = area_in (read_padded s)
 
-abbrev pub heard_of : Header → List ℕ → Decoded
+abbrev pub heard_of : Header → List ℕ → Result Pdu Error
 heard_of h p = decode_by as_hub h p
 
 abbrev pub octets_taken : AdvData → List ℕ → ℕ
 octets_taken d p = length (unpadded (data_in d p))
 
-abbrev pub padded_of : Header → List ℕ → Padded
-padded_of h p = record { decoded = heard_of h p; taken = octets_taken (heard_of h p).pdu.adv_data p }
+abbrev pub counted : List ℕ → Result Pdu Error → Result (Pdu × ℕ) Error
+counted p (Ok d) = Ok (d, octets_taken d.adv_data p)
+counted p (Err e) = Err e
+
+abbrev pub padded_of : Header → List ℕ → Result (Pdu × ℕ) Error
+padded_of h p = counted p (heard_of h p)

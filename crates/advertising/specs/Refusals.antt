@@ -1,4 +1,5 @@
 -- Which header and payload are refused, and with which number (document 01: "Order: length, type, fields from the front.").
+--   number_in r      == the number of an answer: that of its refusal, 0 where it is none
 --   number_for n p   == document 01's number for a header of the 16 bits n and the payload p, 0 where they are accepted
 --   needed          == how many octets the fields of types 0 to 6 need
 --   Order n p       (Refusals.order)       that number, by the header's bits and the payload's length
@@ -7,22 +8,24 @@
 --   zeros ty k      == the number for a header of type ty that counts k octets, all zero
 --   refusal_from s at == the number of what is read from position `at` on
 --   RefusalRows     (Refusals.rows)        worked values beside each limit, and where two conditions hold at once
-use Rattle.std.specs.Prelude.{◌≡◌, ℕ, ◌+◌, ◌*◌, ◌/◌, ◌%◌, ◌<◌, ◌≤◌, List, [], ◌∷◌, ◌++◌, map, length, drop, replicate, ◌≢◌, slice_index}
+use Rattle.std.specs.Prelude.{◌≡◌, ℕ, ◌+◌, ◌*◌, ◌/◌, ◌%◌, ◌<◌, ◌≤◌, List, [], ◌∷◌, ◌++◌, map, length, drop, replicate, ◌≢◌, slice_index, Result, Ok, Err}
 use mathlib.Core.List.{Mem}
 use Rattle.addresses.specs.Header.{header_of, header_read}
 use Rattle.octets.specs.Bytes.{u16_read}
-use Rattle.octets.specs.Error.{number_of, outcome_number}
+use Rattle.octets.specs.Error.{number_of}
 use Rattle.octets.specs.declared.error.Error.{Error}
 use Rattle.octets.specs.declared.error.Error.TheVariants.{Eof, InvalidLength, InvalidValue}
 use Rattle.records_spec.specs.Area.{read_area}
-use Rattle.records_spec.specs.declared.area.Area.TheVariants as area
 use Rattle.advertising.specs.Laws.{nine}
 use Rattle.advertising.specs.Pdu.{decode_of, decoded_at}
-use Rattle.advertising.specs.declared.pdu.Decoded.{Decoded}
-use Rattle.octets.specs.declared.error.Outcome.TheVariants.{Accepted, Refused}
+use Rattle.advertising.specs.declared.pdu.Pdu.{Pdu}
+
+abbrev pub number_in : {A : Type 0} → Result A Error → ℕ
+number_in (Ok x) = 0
+number_in (Err e) = number_of e
 
 abbrev pub number_for : ℕ → List ℕ → ℕ
-number_for n p = outcome_number (decode_of (header_of n) p).outcome
+number_for n p = number_in (decode_of (header_of n) p)
 
 -- "Types 0, 2, 4, 6 need 6 octets, then records; 1 and 3 need 12; 5 needs 34"
 abbrev pub needed : List ℕ
@@ -37,17 +40,17 @@ pub record Order (n : ℕ) (p : List ℕ) : Type 0 where
   -- the type is 0 to 6, and its fields need more octets: 1
   pub by_fields : n / 256 % 64 ≡ length p → n % 16 ≤ 6 → length p < slice_index needed (n % 16) → number_for n p ≡ 1
   -- an address and records: these decide
-  pub by_records : (e : Error) → n / 256 % 64 ≡ length p → Mem (n % 16) (0 ∷ 2 ∷ 4 ∷ 6 ∷ []) → 6 ≤ length p → read_area (drop 6 p) ≡ area.Refused e → number_for n p ≡ number_of e
-  pub with_records_law : (k : ℕ) → n / 256 % 64 ≡ length p → Mem (n % 16) (0 ∷ 2 ∷ 4 ∷ 6 ∷ []) → 6 ≤ length p → read_area (drop 6 p) ≡ area.Accepted k → number_for n p ≡ 0
+  pub by_records : (e : Error) → n / 256 % 64 ≡ length p → Mem (n % 16) (0 ∷ 2 ∷ 4 ∷ 6 ∷ []) → 6 ≤ length p → read_area (drop 6 p) ≡ Err e → number_for n p ≡ number_of e
+  pub with_records_law : (k : ℕ) → n / 256 % 64 ≡ length p → Mem (n % 16) (0 ∷ 2 ∷ 4 ∷ 6 ∷ []) → 6 ≤ length p → read_area (drop 6 p) ≡ Ok k → number_for n p ≡ 0
   -- "for 1, 3 and 5 further octets are accepted"
   pub others : n / 256 % 64 ≡ length p → Mem (n % 16) (1 ∷ 3 ∷ 5 ∷ []) → slice_index needed (n % 16) ≤ length p → number_for n p ≡ 0
 
-abbrev pub pdu_from : List ℕ → ℕ → Decoded
+abbrev pub pdu_from : List ℕ → ℕ → Result Pdu Error
 pdu_from s at = decoded_at (header_read (u16_read s at)) s
 
 -- `Pdu::from_bytes`: a reader with fewer than two octets left is 1, where `Header::parse` answers 4; else the payload is all that follows the header.
 pub record FromBytes (s : List ℕ) : Type 0 where
-  pub short : (at : ℕ) → length s < at + 2 → outcome_number (pdu_from s at).outcome ≡ 1
+  pub short : (at : ℕ) → length s < at + 2 → number_in (pdu_from s at) ≡ 1
   pub reads : (before : List ℕ) (h0 h1 : ℕ) (payload : List ℕ) → s ≡ before ++ (h0 ∷ h1 ∷ payload) → pdu_from s (length before) ≡ decode_of (header_of (h0 + 256 * h1)) payload
 
 -- the number of a header of type ty that counts k octets, all zero
@@ -56,7 +59,7 @@ zeros ty k = number_for (ty + 256 * k) (replicate k 0)
 
 -- the number of what is read from position `at` on
 abbrev pub refusal_from : List ℕ → ℕ → ℕ
-refusal_from s at = outcome_number (pdu_from s at).outcome
+refusal_from s at = number_in (pdu_from s at)
 
 -- Document 01, "Refused calls" and advertising.rs. A zero octet after the address is a record of length 0, so 2.
 pub record RefusalRows : Type 0 where
@@ -84,4 +87,4 @@ pub record RefusalRows : Type 0 where
   pub two_left : refusal_from (0x07 ∷ 0x00 ∷ []) 0 ∷ refusal_from (0xFF ∷ 0x07 ∷ 0x00 ∷ []) 1 ∷ [] ≡ 3 ∷ 3 ∷ []
   pub behind : refusal_from (0xFF ∷ 0x42 ∷ 0x09 ∷ nine) 1 ≡ 0
   -- the numbers of the three refusals, and of none
-  pub numbers : map outcome_number (Accepted ∷ Refused Eof ∷ Refused InvalidLength ∷ Refused InvalidValue ∷ []) ≡ 0 ∷ 1 ∷ 2 ∷ 3 ∷ []
+  pub numbers : map (number_in {A = ℕ}) (Ok 0 ∷ Err Eof ∷ Err InvalidLength ∷ Err InvalidValue ∷ []) ≡ 0 ∷ 1 ∷ 2 ∷ 3 ∷ []

@@ -1,20 +1,19 @@
 // Advertising channel PDUs, read. Their payloads are drawn in specs/Pdu.antt.
-ghost use Rattle.std.specs.Prelude.{◌≡◌, ◌+◌, ◌*◌, ◌≤◌, true, length};
-ghost use Rattle.octets.specs.Bytes.{part, le, u16_read};
+ghost use Rattle.std.specs.Prelude.{◌≡◌, ◌+◌, ◌-◌, ◌*◌, ◌≤◌, length};
+ghost use Rattle.octets.specs.Bytes.{part, u16_read};
 ghost use Rattle.addresses.specs.Header.{header_read};
 ghost use Rattle.records_spec.specs.Area.{read_area};
 ghost use Rattle.addresses.specs.Address.{kind_of, address_of};
-ghost use Rattle.advertising.specs.Pdu.{accuracy_of, ll_data_of, no_request, no_address, no_data, window_end, has_receiver, data_in, data_place, decoded_as, refused_pdu, with_area, undirected, directed, connect_request, decode_of, decoded_at, has_area, padded_of};
+ghost use Rattle.advertising.specs.Pdu.{accuracy_of, ll_data_of, no_request, no_address, no_data, sender_of, window_end, has_receiver, data_in, data_place, pdu_as, undirected, directed, connect_request, decode_of, decoded_at, has_area, padded_of};
 
 use addresses::device_address::{AddressKind, DeviceAddress};
-use addresses::header::{Header, HeaderRead, PduType};
+use addresses::header::{Header, PduType};
 use channels::channel_map::ChannelMap;
-use octets::bytes::{ByteReader, part_of, u16_from_le_bytes, u32_from_le_bytes};
+use octets::bytes::{ByteReader, FromBytes, part_of, u16_from_le_bytes, u32_from_le_bytes};
 use octets::error::Error;
-pub use octets::error::Outcome;
-use records::area::{Area, PaddedArea, read_area, read_padded_area};
+use records::area::{read_area, read_padded_area};
 
-// A PDU that was read. rubble's is an enum, whose variants hold addresses; here the type says which fields have a meaning.
+// A PDU that was read. rubble's is an enum, whose variants hold addresses; here the type says which fields have a meaning, and `RequestExample` what the others hold.
 #[derive(Clone, Copy)]
 pub struct Pdu {
     pub ty: PduType,
@@ -29,6 +28,7 @@ pub struct Pdu {
 }
 
 // Where the record area of a PDU lies in its payload, and how many records it has.
+// By start and length: the functions to link hand both to C.
 #[derive(Clone, Copy)]
 pub struct AdvData {
     pub start: usize,
@@ -45,67 +45,38 @@ impl AdvData {
     }
 }
 
-// What reading a PDU finds. Where it is refused, the PDU is empty and has no meaning.
-#[derive(Clone, Copy)]
-pub struct Decoded {
-    pub outcome: Outcome,
-    pub pdu: Pdu,
-}
-
-// What the hub's decoding finds, and how many octets the records took: none where there are no records, or a refusal.
-#[derive(Clone, Copy)]
-pub struct Padded {
-    pub decoded: Decoded,
-    pub taken: usize,
-}
-
-impl Decoded {
-    // A refusal, with an empty PDU.
-    pub fn refused(e: Error) -> Decoded
-        ensures { result ≡ refused_pdu e }
-    {
-        let none = PduType::Unknown(15);
-        answered(
-            Outcome::Refused(e),
-            none,
-            no_address(),
-            no_address(),
-            no_data(),
-            no_request(),
-        )
-    }
-}
-
 impl Pdu {
     // Reads a PDU. Order: the length, the type, then fields from the front.
-    #[tactic(auto, using(crate::proofs::Accepting::arm_undirected, crate::proofs::Payloads::without_records), unfolding(crate::specs::Pdu::decode_by, crate::specs::Pdu::by_type))]
-    pub fn from_header_and_payload(header: Header, payload: &[u8]) -> Decoded
+    #[tactic(auto, unfolding(crate::specs::Pdu::decode_by, crate::specs::Pdu::by_type))]
+    pub fn from_header_and_payload(header: Header, payload: &[u8]) -> Result<Pdu, Error>
         ensures { result ≡ decode_of header payload.now }
     {
-        if header.payload_length() as usize != payload.len() {
-            return Decoded::refused(Error::InvalidLength);
+        if usize::from(header.payload_length()) != payload.len() {
+            return Err(Error::InvalidLength);
         }
         let ty = header.type_();
-        if ty.allows_adv_data() {
-            return read_undirected(ty, header, payload);
-        }
         match ty {
+            PduType::AdvInd | PduType::AdvNonconnInd | PduType::AdvScanInd | PduType::ScanRsp => {
+                read_undirected(ty, header, payload)
+            }
+            PduType::AdvDirectInd | PduType::ScanReq => read_directed(ty, header, payload),
             PduType::ConnectReq => read_connect_request(header, payload),
-            PduType::Unknown(_) => Decoded::refused(Error::InvalidValue),
-            _ => read_directed(ty, header, payload),
+            PduType::Unknown(_) => Err(Error::InvalidValue),
         }
     }
 
-    // Reads a PDU as the hub does: zeros may follow its records.
-    pub fn from_padded(header: Header, payload: &[u8]) -> Padded
+    // Reads a PDU as the hub does: zeros may follow its records. With it, how many octets the records took.
+    #[tactic(auto, using(crate::proofs::Payloads::hears_records, crate::proofs::Payloads::refuses_records, crate::proofs::Payloads::hears_bare, crate::proofs::Payloads::refuses_bare))]
+    pub fn from_padded(header: Header, payload: &[u8]) -> Result<(Pdu, usize), Error>
         ensures { result ≡ padded_of header payload.now }
     {
         if has_area(header, payload) {
-            return read_padded(header, payload);
+            let (count, taken) = read_padded_area(&payload[6..])?;
+            return Ok((with_records(header.type_(), header, payload, count), taken));
         }
         // Without records both decoders answer alike.
-        let decoded = Pdu::from_header_and_payload(header, payload);
-        Padded { decoded, taken: 0 }
+        let pdu = Pdu::from_header_and_payload(header, payload)?;
+        Ok((pdu, 0))
     }
 
     // The device that sends this PDU.
@@ -119,17 +90,10 @@ impl Pdu {
     pub fn has_receiver(self) -> bool
         ensures { result ≡ has_receiver self.ty }
     {
-        let ty = self.ty;
-        match ty {
-            PduType::AdvDirectInd => true,
-            PduType::ScanReq => true,
-            PduType::ConnectReq => true,
-            PduType::AdvInd => false,
-            PduType::AdvNonconnInd => false,
-            PduType::AdvScanInd => false,
-            PduType::ScanRsp => false,
-            PduType::Unknown(_) => false,
-        }
+        matches!(
+            self.ty,
+            PduType::AdvDirectInd | PduType::ScanReq | PduType::ConnectReq
+        )
     }
 
     // The second address, zeros where there is none.
@@ -149,59 +113,46 @@ impl Pdu {
     pub fn advertising_data(self, payload: &[u8]) -> &[u8]
         ensures { (result.ref_ptr ≡ data_place self.adv_data payload.entry) × (result.now ≡ data_in self.adv_data payload.now) }
     {
-        let place = self.adv_data;
-        place.within(payload)
+        self.adv_data.within(payload)
     }
 
     // Reads header and payload from one slice. The payload is all that follows the header.
-    pub fn from_bytes(reader: ByteReader, s: &[u8]) -> Decoded
+    pub fn from_bytes(reader: ByteReader, s: &[u8]) -> Result<Pdu, Error>
         ensures { result ≡ decoded_at (header_read (u16_read s.now reader.at)) s.now }
     {
-        match Header::from_bytes(reader, s) {
-            HeaderRead::Header(header, next) => {
-                let at = next.at;
-                Pdu::from_header_and_payload(header, &s[at..])
-            }
-            HeaderRead::Refused(e) => Decoded::refused(e),
-        }
+        let (header, next) = Header::from_bytes(reader, s)?;
+        Pdu::from_header_and_payload(header, &s[next.at..])
     }
 }
 
 // Types 0, 2, 4 and 6: an address, then records.
-#[tactic(auto, using(crate::proofs::Payloads::passed), unfolding(crate::specs::Pdu::undirected))]
-fn read_undirected(ty: PduType, header: Header, payload: &[u8]) -> Decoded
+#[tactic(auto, unfolding(crate::specs::Pdu::undirected, crate::specs::Pdu::with_area))]
+fn read_undirected(ty: PduType, header: Header, payload: &[u8]) -> Result<Pdu, Error>
     ensures { result ≡ undirected read_area ty header payload.now }
 {
     if payload.len() < 6 {
-        return Decoded::refused(Error::Eof);
+        return Err(Error::Eof);
     }
-    with_area(ty, header, payload, read_area(&payload[6..]))
+    let count = read_area(&payload[6..])?;
+    Ok(with_records(ty, header, payload, count))
 }
 
-// An address, then records that were read so.
-#[tactic(auto, unfolding(crate::specs::Pdu::with_area))]
-fn with_area(ty: PduType, header: Header, payload: &[u8], area: Area) -> Decoded
+// An address, then so many records.
+// That the payload is long enough for it is asked for here and below, and no type's: the payload is lent, and each asks for another length.
+fn with_records(ty: PduType, header: Header, payload: &[u8], count: usize) -> Pdu
     requires { 6 ≤ length payload.now }
-    ensures { result ≡ with_area ty header payload.now area }
+    ensures { result ≡ pdu_as ty (sender_of header payload.now) no_address (record { start = 6; len = length payload.now - 6; count = count }) no_request }
 {
-    match area {
-        Area::Accepted(count) => {
-            let adv_data = AdvData {
-                start: 6,
-                len: payload.len() - 6,
-                count,
-            };
-            let sender = address_at(header.tx_add(), payload, 0);
-            answered(
-                Outcome::Accepted,
-                ty,
-                sender,
-                no_address(),
-                adv_data,
-                no_request(),
-            )
-        }
-        Area::Refused(e) => Decoded::refused(e),
+    Pdu {
+        ty,
+        sender: address_at(header.tx_add(), payload, 0),
+        receiver: no_address(),
+        adv_data: AdvData {
+            start: 6,
+            len: payload.len() - 6,
+            count,
+        },
+        lldata: no_request(),
     }
 }
 
@@ -209,93 +160,43 @@ fn with_area(ty: PduType, header: Header, payload: &[u8], area: Area) -> Decoded
 fn has_area(header: Header, payload: &[u8]) -> bool
     ensures { result ≡ has_area header payload.now }
 {
-    if header.type_().allows_adv_data() {
-        if header.payload_length() as usize == payload.len() {
-            return 6 <= payload.len();
-        }
-        return false;
-    }
-    false
-}
-
-// An address, then records, read as the hub does.
-fn read_padded(header: Header, payload: &[u8]) -> Padded
-    requires { has_area header payload.now ≡ true }
-    ensures { result ≡ padded_of header payload.now }
-{
-    let ty = header.type_();
-    match read_padded_area(&payload[6..]) {
-        PaddedArea::Accepted(count, taken) => {
-            let decoded = with_area(ty, header, payload, Area::Accepted(count));
-            Padded { decoded, taken }
-        }
-        PaddedArea::Refused(e) => {
-            let decoded = Decoded::refused(e);
-            Padded { decoded, taken: 0 }
-        }
-    }
+    header.type_().allows_adv_data()
+        && usize::from(header.payload_length()) == payload.len()
+        && 6 <= payload.len()
 }
 
 // Types 1 and 3: two addresses.
 #[tactic(auto, unfolding(crate::specs::Pdu::directed))]
-fn read_directed(ty: PduType, header: Header, payload: &[u8]) -> Decoded
+fn read_directed(ty: PduType, header: Header, payload: &[u8]) -> Result<Pdu, Error>
     ensures { result ≡ directed ty header payload.now }
 {
     if payload.len() < 12 {
-        return Decoded::refused(Error::Eof);
+        return Err(Error::Eof);
     }
-    let sender = address_at(header.tx_add(), payload, 0);
-    let receiver = address_at(header.rx_add(), payload, 6);
-    answered(
-        Outcome::Accepted,
+    Ok(Pdu {
         ty,
-        sender,
-        receiver,
-        no_data(),
-        no_request(),
-    )
+        sender: address_at(header.tx_add(), payload, 0),
+        receiver: address_at(header.rx_add(), payload, 6),
+        adv_data: no_data(),
+        lldata: no_request(),
+    })
 }
 
 // Type 5: two addresses, then connection parameters.
 #[tactic(auto, unfolding(crate::specs::Pdu::connect_request))]
-fn read_connect_request(header: Header, payload: &[u8]) -> Decoded
+fn read_connect_request(header: Header, payload: &[u8]) -> Result<Pdu, Error>
     ensures { result ≡ connect_request header payload.now }
 {
     if payload.len() < 34 {
-        return Decoded::refused(Error::Eof);
+        return Err(Error::Eof);
     }
-    let sender = address_at(header.tx_add(), payload, 0);
-    let receiver = address_at(header.rx_add(), payload, 6);
-    let lldata = read_request(&payload[12..]);
-    answered(
-        Outcome::Accepted,
-        PduType::ConnectReq,
-        sender,
-        receiver,
-        no_data(),
-        lldata,
-    )
-}
-
-// What reading found, field by field.
-fn answered(
-    outcome: Outcome,
-    ty: PduType,
-    sender: DeviceAddress,
-    receiver: DeviceAddress,
-    adv_data: AdvData,
-    lldata: ConnectRequestData,
-) -> Decoded
-    ensures { result ≡ decoded_as outcome ty sender receiver adv_data lldata }
-{
-    let pdu = Pdu {
-        ty,
-        sender,
-        receiver,
-        adv_data,
-        lldata,
-    };
-    Decoded { outcome, pdu }
+    Ok(Pdu {
+        ty: PduType::ConnectReq,
+        sender: address_at(header.tx_add(), payload, 0),
+        receiver: address_at(header.rx_add(), payload, 6),
+        adv_data: no_data(),
+        lldata: read_request(&payload[12..]),
+    })
 }
 
 // The address of six octets, random or not.
@@ -303,8 +204,8 @@ fn address_at(random: bool, payload: &[u8], at: usize) -> DeviceAddress
     requires { at + 6 ≤ length payload.now }
     ensures { result ≡ address_of (part 6 payload.now at) (kind_of random) }
 {
-    let read = ByteReader { at }.read_array6(payload);
-    let octets = read.octets;
+    let mut octets = [0u8; 6];
+    let _ = ByteReader { at }.read_into(payload, &mut octets);
     DeviceAddress::new(octets, AddressKind::of(random))
 }
 
@@ -439,20 +340,18 @@ fn read_request(lldata: &[u8]) -> ConnectRequestData
     requires { 22 ≤ length lldata.now }
     ensures { result ≡ ll_data_of lldata.now }
 {
-    let hop_and_sca = octet_at(lldata, 21);
-    let raw = ByteReader { at: 16 }.read_array5(lldata);
-    let octets = raw.octets;
+    let hop_and_sca = lldata[21];
     ConnectRequestData {
         access_address: u32_from_le_bytes(lldata[0], lldata[1], lldata[2], lldata[3]),
         crc_init: u32_from_le_bytes(lldata[4], lldata[5], lldata[6], 0),
-        win_size: micros(octet_at(lldata, 7) as u16),
-        win_offset: micros(u16_at(lldata, 8)),
-        interval: micros(u16_at(lldata, 10)),
-        latency: u16_at(lldata, 12),
-        timeout: (u16_at(lldata, 14) as u32) * 10_000,
-        chm: ChannelMap::from_raw(octets),
+        win_size: micros(u16::from(lldata[7])),
+        win_offset: micros(u16_from_le_bytes(lldata[8], lldata[9])),
+        interval: micros(u16_from_le_bytes(lldata[10], lldata[11])),
+        latency: u16_from_le_bytes(lldata[12], lldata[13]),
+        timeout: u32::from(u16_from_le_bytes(lldata[14], lldata[15])) * 10_000,
+        chm: ChannelMap::from_raw([lldata[16], lldata[17], lldata[18], lldata[19], lldata[20]]),
         hop: hop_and_sca % 32,
-        sca: SleepClockAccuracy::from_u8(hop_and_sca / 32),
+        sca: SleepClockAccuracy::from(hop_and_sca / 32),
     }
 }
 
@@ -477,26 +376,11 @@ fn no_request() -> ConnectRequestData
 fn micros(count: u16) -> u32
     ensures { result ≡ count * 1250 }
 {
-    (count as u32) * 1250
-}
-
-// The number of one octet and of two.
-fn octet_at(s: &[u8], at: usize) -> u8
-    requires { at + 1 ≤ length s.now }
-    ensures { result ≡ le (part 1 s.now at) }
-{
-    s[at]
-}
-
-fn u16_at(s: &[u8], at: usize) -> u16
-    requires { at + 2 ≤ length s.now }
-    ensures { result ≡ le (part 2 s.now at) }
-{
-    u16_from_le_bytes(s[at], s[at + 1])
+    u32::from(count) * 1250
 }
 
 // SCA, by the parts per million that the clock may be off.
-#[derive(Clone, Copy)]
+#[derive(Clone, Copy, Debug, PartialEq, Eq)]
 pub enum SleepClockAccuracy {
     Ppm251To500,
     Ppm151To250,
@@ -508,12 +392,12 @@ pub enum SleepClockAccuracy {
     Ppm0To20,
 }
 
-impl SleepClockAccuracy {
-    // The accuracy of a code of three bits.
-    fn from_u8(sca: u8) -> SleepClockAccuracy
-        ensures { result ≡ accuracy_of sca }
-    {
-        match sca {
+// The accuracy of a code of three bits.
+impl From<u8> for SleepClockAccuracy {
+    ghost from_gives = { λ code sca. sca ≡ accuracy_of code };
+
+    fn from(code: u8) -> SleepClockAccuracy {
+        match code {
             0 => SleepClockAccuracy::Ppm251To500,
             1 => SleepClockAccuracy::Ppm151To250,
             2 => SleepClockAccuracy::Ppm101To150,

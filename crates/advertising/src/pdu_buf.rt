@@ -1,13 +1,12 @@
 // Advertising channel PDUs, built.
-ghost use Rattle.std.specs.Prelude.{◌≡◌, ◌+◌, ◌≤◌, [], ◌++◌, length, take, drop};
+ghost use Rattle.std.specs.Prelude.{◌≡◌, ◌≤◌, [], length};
 ghost use Rattle.octets.specs.Bytes.{out_after};
-ghost use Rattle.records_spec.specs.Area.{rewritten_to, rewritten_after};
-ghost use Rattle.advertising.specs.PduBuf.{to37, header_for, empty_buf, refused_buf, with_records, built_of, connectable_pdu, nonconnectable_pdu, scannable_pdu, beacon_pdu, discoverable_pdu, scan_response_pdu, built_directed, payload_to, payload_after};
+ghost use Rattle.advertising.specs.PduBuf.{header_for, empty_buf, with_records, built_of, connectable_pdu, nonconnectable_pdu, scannable_pdu, beacon_pdu, discoverable_pdu, scan_response_pdu, built_directed, payload_to, payload_after};
 
 use addresses::device_address::DeviceAddress;
-use addresses::header::{Header, HeaderMade, PduType};
-use octets::bytes::{ByteWriter, Written, least};
-use octets::error::{Error, Outcome};
+use addresses::header::{Header, PduType};
+use octets::bytes::ByteWriter;
+use octets::error::Error;
 use records::ad_structure::Flags;
 use records::area::rewrite_area;
 
@@ -17,15 +16,9 @@ pub const MAX_PAYLOAD_SIZE: usize = 37;
 // A PDU that was built: its header, and its payload with zeros after it.
 #[derive(Clone, Copy)]
 pub struct PduBuf {
+    // The length of the payload stands in the header, as on the air; the buffer is of one size, since there is no heap.
     header: Header,
     payload_buf: [u8; MAX_PAYLOAD_SIZE],
-}
-
-// What building a PDU finds. Where it is refused, the PDU is all zeros and has no meaning.
-#[derive(Clone, Copy)]
-pub struct Built {
-    pub outcome: Outcome,
-    pub pdu: PduBuf,
 }
 
 impl PduBuf {
@@ -40,16 +33,18 @@ impl PduBuf {
     }
 
     // A PDU of an address and records, which are lent encoded: all of them are read, then written again.
-    fn adv(ty: PduType, adv: DeviceAddress, adv_data: &[u8]) -> Built
+    fn adv(ty: PduType, adv: DeviceAddress, adv_data: &[u8]) -> Result<PduBuf, Error>
         ensures { result ≡ built_of ty adv [] adv_data.now }
     {
-        let bytes = adv.raw();
-        let front = placed([0u8; MAX_PAYLOAD_SIZE], 0, &bytes);
-        fill(ty, adv.is_random(), front, 6, adv_data)
+        fill(ty, adv.is_random(), &adv.raw(), adv_data)
     }
 
     // An `ADV_IND` with these records.
-    pub fn connectable_undirected(advertiser_addr: DeviceAddress, advertiser_data: &[u8]) -> Built
+    // A builder for each type, by rubble's names, over `adv`.
+    pub fn connectable_undirected(
+        advertiser_addr: DeviceAddress,
+        advertiser_data: &[u8],
+    ) -> Result<PduBuf, Error>
         ensures { result ≡ connectable_pdu advertiser_addr advertiser_data.now }
     {
         PduBuf::adv(PduType::AdvInd, advertiser_addr, advertiser_data)
@@ -62,10 +57,8 @@ impl PduBuf {
     ) -> PduBuf
         ensures { result ≡ built_directed advertiser_addr initiator_addr }
     {
-        let bytes = advertiser_addr.raw();
-        let other = initiator_addr.raw();
-        let front = placed([0u8; MAX_PAYLOAD_SIZE], 0, &bytes);
-        let payload_buf = placed(front, 6, &other);
+        let front = placed([0u8; MAX_PAYLOAD_SIZE], 0, &advertiser_addr.raw());
+        let payload_buf = placed(front, 6, &initiator_addr.raw());
         let header = header_for(
             PduType::AdvDirectInd,
             advertiser_addr.is_random(),
@@ -82,45 +75,48 @@ impl PduBuf {
     pub fn nonconnectable_undirected(
         advertiser_addr: DeviceAddress,
         advertiser_data: &[u8],
-    ) -> Built
+    ) -> Result<PduBuf, Error>
         ensures { result ≡ nonconnectable_pdu advertiser_addr advertiser_data.now }
     {
         PduBuf::adv(PduType::AdvNonconnInd, advertiser_addr, advertiser_data)
     }
 
     // An `ADV_SCAN_IND` with these records.
-    pub fn scannable_undirected(advertiser_addr: DeviceAddress, advertiser_data: &[u8]) -> Built
+    pub fn scannable_undirected(
+        advertiser_addr: DeviceAddress,
+        advertiser_data: &[u8],
+    ) -> Result<PduBuf, Error>
         ensures { result ≡ scannable_pdu advertiser_addr advertiser_data.now }
     {
         PduBuf::adv(PduType::AdvScanInd, advertiser_addr, advertiser_data)
     }
 
     // What a beacon sends: an `ADV_NONCONN_IND` with these records.
-    pub fn beacon(advertiser_addr: DeviceAddress, advertiser_data: &[u8]) -> Built
+    pub fn beacon(advertiser_addr: DeviceAddress, advertiser_data: &[u8]) -> Result<PduBuf, Error>
         ensures { result ≡ beacon_pdu advertiser_addr advertiser_data.now }
     {
         PduBuf::nonconnectable_undirected(advertiser_addr, advertiser_data)
     }
 
     // What a start sends: an `ADV_IND` with the record of Flags and then these.
-    pub fn discoverable(advertiser_addr: DeviceAddress, advertiser_data: &[u8]) -> Built
+    pub fn discoverable(
+        advertiser_addr: DeviceAddress,
+        advertiser_data: &[u8],
+    ) -> Result<PduBuf, Error>
         ensures { result ≡ discoverable_pdu advertiser_addr advertiser_data.now }
     {
-        let bytes = advertiser_addr.raw();
-        let front = placed([0u8; MAX_PAYLOAD_SIZE], 0, &bytes);
-        let flags = [2, 1, Flags::discoverable().to_u8()];
-        let front = placed(front, 6, &flags);
+        let [b0, b1, b2, b3, b4, b5] = advertiser_addr.raw();
+        let front = [b0, b1, b2, b3, b4, b5, 2, 1, Flags::discoverable().to_u8()];
         fill(
             PduType::AdvInd,
             advertiser_addr.is_random(),
-            front,
-            9,
+            &front,
             advertiser_data,
         )
     }
 
     // A `SCAN_RSP` with these records.
-    pub fn scan_response(advertiser_addr: DeviceAddress, scan_data: &[u8]) -> Built
+    pub fn scan_response(advertiser_addr: DeviceAddress, scan_data: &[u8]) -> Result<PduBuf, Error>
         ensures { result ≡ scan_response_pdu advertiser_addr scan_data.now }
     {
         PduBuf::adv(PduType::ScanRsp, advertiser_addr, scan_data)
@@ -140,13 +136,11 @@ impl PduBuf {
     }
 
     // Copies the payload to the front of `out`, or writes nothing where that is too short.
-    pub fn write_payload(self, out: &mut [u8]) -> Written
+    pub fn write_payload(self, out: &mut [u8]) -> Result<ByteWriter, Error>
         ensures { (result ≡ payload_to self out.old) × (out.new ≡ payload_after self out.old) }
     {
-        let header = self.header;
-        let payload = self.payload_buf;
-        let n = least(header.payload_length() as usize, MAX_PAYLOAD_SIZE);
-        ByteWriter::new().write_slice(out, &payload[..n])
+        let n = usize::from(self.header.payload_length()).min(MAX_PAYLOAD_SIZE);
+        ByteWriter::new().write_slice(out, &self.payload_buf[..n])
     }
 }
 
@@ -155,7 +149,7 @@ fn placed(payload: [u8; MAX_PAYLOAD_SIZE], at: usize, octets: &[u8]) -> [u8; MAX
     ensures { result ≡ out_after octets.now payload at }
 {
     let mut out = payload;
-    ByteWriter { at }.write_slice(&mut out, octets);
+    let _ = ByteWriter { at }.write_slice(&mut out, octets);
     out
 }
 
@@ -164,56 +158,30 @@ fn header_for(ty: PduType, tx_add: bool, rx_add: bool, length: u8) -> Header
     requires { (6 ≤ length) × (length ≤ 37) }
     ensures { result ≡ header_for ty tx_add rx_add length }
 {
-    let new = Header::new(ty);
-    match new.set_payload_length(length) {
-        HeaderMade::Header(header) => header.set_tx_add(tx_add).set_rx_add(rx_add),
-        // Not reached: the length is 6 to 37.
-        HeaderMade::Refused(_) => new,
-    }
+    let header = Header::new(ty);
+    header
+        .set_payload_length(length)
+        .unwrap_or(header)
+        .set_tx_add(tx_add)
+        .set_rx_add(rx_add)
 }
 
-// Rewrites records after the first `start` octets.
-fn rewrite_behind(adv_data: &[u8], payload: &mut [u8], start: usize) -> Written
-    requires { start ≤ length payload.old }
-    ensures { (result ≡ rewritten_to adv_data.now (drop start payload.old)) × (payload.new ≡ take start payload.old ++ rewritten_after adv_data.now (drop start payload.old)) }
-{
-    rewrite_area(adv_data, &mut payload[start..])
-}
-
-// The PDU whose payload begins with the first `start` octets of `front` and goes on with records.
-fn fill(
+// The PDU whose payload begins with these octets and goes on with records. Their number is known where it is compiled, so that no `memset` is called for those after them.
+fn fill<const N: usize>(
     ty: PduType,
     random: bool,
-    front: [u8; MAX_PAYLOAD_SIZE],
-    start: usize,
+    front: &[u8; N],
     adv_data: &[u8],
-) -> Built
-    requires { ((6 ≤ start) × (start ≤ 9)) × (front ≡ to37 (take start front)) }
-    ensures { result ≡ with_records ty random (take start front) adv_data.now }
+) -> Result<PduBuf, Error>
+    requires { (6 ≤ length front.now) × (length front.now ≤ 9) }
+    ensures { result ≡ with_records ty random front.now adv_data.now }
 {
-    let mut payload_buf = front;
-    match rewrite_behind(adv_data, &mut payload_buf, start) {
-        Written::To(next) => {
-            let length = (start + next.at) as u8;
-            let header = header_for(ty, random, false, length);
-            let pdu = PduBuf {
-                header,
-                payload_buf,
-            };
-            Built {
-                outcome: Outcome::Accepted,
-                pdu,
-            }
-        }
-        Written::Refused(e) => no_pdu(e),
-    }
-}
-
-fn no_pdu(e: Error) -> Built
-    ensures { result ≡ refused_buf e }
-{
-    Built {
-        outcome: Outcome::Refused(e),
-        pdu: PduBuf::empty(),
-    }
+    let mut payload_buf = [0u8; MAX_PAYLOAD_SIZE];
+    let writer = ByteWriter::new().write_slice(&mut payload_buf, front)?;
+    let next = rewrite_area(adv_data, &mut payload_buf[writer.at..])?;
+    let length = (writer.at + next.at) as u8;
+    Ok(PduBuf {
+        header: header_for(ty, random, false, length),
+        payload_buf,
+    })
 }

@@ -1,7 +1,7 @@
 -- What is sent on a channel passes through the air: `air`, `examples`. Assumes nothing.
-use mathlib.Core.Bool.{true, xor, cond}
-use mathlib.Core.List.{List, [], ◌++◌, flatten, append_assoc}
-use mathlib.Core.Path.{◌≡◌, refl, sym, ap, ap₂, ◌∙◌}
+use mathlib.Core.Bool.{true, xor}
+use mathlib.Core.List.{List, ◌++◌, flatten, append_assoc}
+use mathlib.Core.Path.{◌≡◌, refl, ap, ap₂, subst, ◌∙◌}
 use Prim.Native.Nat.{ℕ, ◌+◌, ◌-◌, ◌*◌, ◌/◌, ◌%◌, ◌≤◌, ◌<◌, ◌^◌}
 use native.Mathlib.Omega.{arith}
 use lib.ListN.{length, take, length-append}
@@ -9,7 +9,6 @@ use lib.Seq.{take_at}
 use Rattle.records_spec.specs.Area.{cut, reads, with_first, area_of, read_area, clean, rewritten}
 use Rattle.records_spec.specs.Record.{first, flags_read, data_read, up_to, record_read}
 use Rattle.flags.specs.Flags.{named}
-use Rattle.records_spec.specs.declared.area.Area.TheVariants as area
 use Rattle.addresses.specs.Address.{kind_number}
 use Rattle.addresses.specs.Header.{header_of, header_octets}
 use Rattle.addresses.specs.declared.device_address.AddressKind.{AddressKind}
@@ -19,21 +18,22 @@ use Rattle.addresses.specs.declared.header.Header.{Header}
 use Rattle.advertising.proofs.Builders.{builders}
 use Rattle.advertising.specs.Builders.{as_sent}
 use Rattle.advertising.specs.Pdu.{data_in, decode_of}
-use Rattle.octets.specs.Error.{is_accepted}
 use Rattle.advertising.specs.PduBuf.{buf_of, after_reading, with_records, beacon_pdu, payload_of}
-use Rattle.octets.specs.declared.error.Outcome.{Outcome}
+use Rattle.advertising.specs.declared.pdu_buf.PduBuf.{PduBuf}
 use Rattle.beacon_spec.proofs.Broadcasts.{broadcasting}
 use Rattle.beacon_spec.specs.Scanner.{scanned}
-use Rattle.beacon_spec.specs.Sending.{beacon_of}
-use Rattle.beacon_spec.specs.State.{Beacon, Made}
+use Rattle.beacon_spec.specs.Sending.{beacon_in}
+use Rattle.beacon_spec.specs.State.{Beacon}
 use Rattle.whitening.proofs.Errors.{crc_octets_length}
 use Rattle.whitening.proofs.Heard.{hears}
 use Rattle.whitening.proofs.Whitens.{whitens}
 use Rattle.whitening.specs.Bits.{bits, number, bits_of, octets_in_bits, added}
 use Rattle.whitening.specs.Crc.{crc_after, crc_octets}
-use Rattle.whitening.specs.Packet.{start_on, flag_of}
+use Rattle.whitening.specs.Packet.{start_on}
 use Rattle.whitening.specs.Whitening.{leaving, whitening, plus, whitened}
-use Rattle.air.specs.Laws.{packet_on, header_on_air, payload_in, Passes, clear, Beacons, Air, Examples}
+use Rattle.air.specs.Laws.{packet_on, header_on_air, payload_in, sent_on, Passes, Beacons, Air, Examples}
+use Rattle.std.specs.Prelude.{Result, Ok, Err, IfOk}
+use Rattle.octets.specs.declared.error.Error.{Error}
 
 -- the two octets of a header are read back
 header_back : (h : Header) (rest : List ℕ) → h.0 < 2 ^ 16 → header_on_air (header_octets h ++ rest) ≡ h
@@ -66,33 +66,33 @@ kind_small : (k : AddressKind) → kind_number k ≤ 1
 kind_small Public = omega arith
 kind_small Random = omega arith
 
--- the 16 bits of a beacon's header
-header_is : (a : DeviceAddress) (s : List ℕ) (n : ℕ) → length a.bytes ≡ 6 → read_area s ≡ area.Accepted n → length s ≤ 31
-    → (beacon_of a s).beacon.pdu.header.0 ≡ 2 + 64 * kind_number a.kind + 256 * (6 + (0 + length s))
-header_is a s n six good fits =
-    let built = (builders a s six).beacon in
-    ap (λ (o : Outcome). (cond (is_accepted o) (beacon_pdu a s).pdu (beacon_pdu a []).pdu).header.0) (built.accepted n good fits) ∙ built.header n good fits
+-- what holds of the PDU that was built holds of the beacon's
+of_built : (P : PduBuf → Type 0) (r : Result PduBuf Error) (b : Beacon) → beacon_in r ≡ Ok b → IfOk r P → P b.pdu
+of_built P (Ok p) b is holds =
+    let same : p ≡ b.pdu = cc in
+    subst P same holds
+of_built P (Err e) b is holds = (cc)
 
-beacons : (a : DeviceAddress) (s : List ℕ) (n channel start : ℕ) → length a.bytes ≡ 6 → read_area s ≡ area.Accepted n → length s ≤ 31 → channel ≤ 39
+beacons : (a : DeviceAddress) (s : List ℕ) (n channel start : ℕ) → length a.bytes ≡ 6 → read_area s ≡ Ok n → length s ≤ 31 → channel ≤ 39
     → Beacons a s n channel start
 beacons a s n channel start six good fits there =
     let b = broadcasting a s n six good fits in
     let h : Header = b.beacon.pdu.header in
     let p : List ℕ = payload_of b.beacon.pdu in
-    let is : (beacon_of a s).beacon ≡ b.beacon = ap (λ (m : Made). m.beacon) b.made in
-    let sixteen : h.0 ≡ 2 + 64 * kind_number a.kind + 256 * (6 + (0 + length s)) = ap (λ (x : Beacon). x.pdu.header.0) (sym is) ∙ header_is a s n six good fits in
+    let sixteen : h.0 ≡ 2 + 64 * kind_number a.kind + 256 * (6 + (0 + length s)) =
+    of_built (λ (x : PduBuf). x.header.0 ≡ 2 + 64 * kind_number a.kind + 256 * (6 + (0 + length s))) (beacon_pdu a s) b.beacon b.made ((builders a s six).beacon.header n good fits) in
     let small : h.0 < 2 ^ 16 = omega (arith, kind_small a.kind) in
     let through = passes channel start h p there small (omega (arith, b.size)) in
-    let header : header_on_air (clear a s channel start) ≡ h = ap (λ (x : Beacon). header_on_air (whitened channel (packet_on channel start (as_sent x.pdu)))) is ∙ through.header in
-    let payload : payload_in (clear a s channel start) ≡ p = ap (λ (x : Beacon). payload_in (whitened channel (packet_on channel start (as_sent x.pdu)))) is ∙ through.payload in
     record {
-      good = ap (λ (x : Beacon). flag_of channel start (packet_on channel start (as_sent x.pdu))) is ∙ through.good;
+      packet = packet_on channel start (as_sent b.beacon.pdu);
+      sent = ap (sent_on channel start) b.made;
+      good = through.good;
       place = b.place;
-      decoded = ap₂ decode_of header payload ∙ b.decoded;
+      decoded = ap₂ decode_of through.header through.payload ∙ b.decoded;
       number_of_records = b.number_of_records;
-      records = ap (data_in b.place) payload ∙ b.records;
+      records = ap (data_in b.place) through.payload ∙ b.records;
       reported = λ scanner list lets.
-          ap₂ (λ (x : Header) (y : List ℕ). scanned scanner x y true list) header payload ∙ b.heard scanner list lets;
+          ap₂ (λ (x : Header) (y : List ℕ). scanned scanner x y true list) through.header through.payload ∙ b.heard scanner list lets;
     }
 
 pub air : Air

@@ -6,13 +6,28 @@ use native.Mathlib.Omega.{arith}
 use borrow.Author.Tests.{ne_eqb}
 use Rattle.flags.specs.Flags.{named}
 use Rattle.records_spec.specs.declared.ad_structure.AdStructure.TheVariants as ad
-use Rattle.advertising.specs.declared.pdu.Decoded.{Decoded}
+use Rattle.advertising.specs.declared.pdu.Pdu.{Pdu}
 use Rattle.answers.specs.Given.{structure_in}
-use Rattle.answers.specs.Packet.{packet_said}
+use Rattle.answers.specs.Packet.{pdu_said}
 use Rattle.answers.specs.Laws.{NumbersGot, Kinds, Passing, Packets, AccuracyCodes}
 
 pub numbers : NumbersGot
-numbers = record { two = λ a b. refl; not_found = λ e. refl; wrote = λ to. refl; not_written = λ e. refl; passed = λ to. refl; not_passed = λ e. refl }
+numbers =
+    record {
+      two = λ a b. refl;
+      not_found = λ e. refl;
+      one = λ a. refl;
+      not_one = λ e. refl;
+      both = λ a b. refl;
+      not_both = λ e. refl;
+      so = refl;
+      not_so = refl;
+      not_told = λ e. refl;
+      wrote = λ to. refl;
+      not_written = λ e. refl;
+      passed = λ to. refl;
+      not_passed = λ e. refl;
+    }
 
 pub kinds : (complete : Bool) (value start len : ℕ) → Kinds complete value start len
 unfolding structure_in named
@@ -44,9 +59,9 @@ kinds complete value start len =
 pub passing : Passing
 passing = record { in_use = refl; not_in_use = refl }
 
-pub packets : (d : Decoded) → Packets d
-unfolding packet_said
-packets d =
+pub packets : (p : Pdu) → Packets p
+unfolding pdu_said
+packets p =
     record {
       number_is = refl;
       ty_is = refl;
@@ -70,6 +85,7 @@ packets d =
       map_count_is = refl;
       hop_is = refl;
       sca_is = refl;
+      refused_is = λ e. refl;
     }
 
 pub accuracies : AccuracyCodes

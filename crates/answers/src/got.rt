@@ -1,10 +1,11 @@
 // Answers that are up to two numbers.
-ghost use Rattle.std.specs.Prelude.{cond, ◌≡◌};
-ghost use Rattle.answers.specs.Got.{found, refused_as, written_got, passed_got};
+ghost use Rattle.std.specs.Prelude.{◌≡◌};
+ghost use Rattle.answers.specs.Got.{found, refused_as, one_got, two_got, flag_got, written_got, passed_got};
 
-use octets::bytes::{Skipped, Written};
+use octets::bytes::{ByteReader, ByteWriter};
 use octets::error::Error;
 
+// For C: up to two numbers, and that of a refusal, or 0.
 #[repr(C)]
 #[derive(Clone, Copy)]
 pub struct Got {
@@ -33,26 +34,40 @@ pub fn refused(e: Error) -> Got
     }
 }
 
-pub fn flag(is: bool) -> usize
-    ensures { result ≡ cond is 1 0 }
+pub fn one_number(answer: Result<usize, Error>) -> Got
+    ensures { result ≡ one_got answer }
 {
-    if is { 1 } else { 0 }
-}
-
-pub fn written(w: Written) -> Got
-    ensures { result ≡ written_got w }
-{
-    match w {
-        Written::To(next) => found(next.at, 0),
-        Written::Refused(e) => refused(e),
+    match answer {
+        Ok(first) => found(first, 0),
+        Err(e) => refused(e),
     }
 }
 
-pub fn passed(s: Skipped) -> Got
-    ensures { result ≡ passed_got s }
+pub fn two_numbers(answer: Result<(usize, usize), Error>) -> Got
+    ensures { result ≡ two_got answer }
 {
-    match s {
-        Skipped::To(next) => found(next.at, 0),
-        Skipped::Refused(e) => refused(e),
+    match answer {
+        Ok((first, second)) => found(first, second),
+        Err(e) => refused(e),
     }
+}
+
+// 1 where it is so.
+pub fn flag(answer: Result<bool, Error>) -> Got
+    ensures { result ≡ flag_got answer }
+{
+    one_number(answer.map(usize::from))
+}
+
+// Of a writer and of a reader: their positions are two types.
+pub fn written(answer: Result<ByteWriter, Error>) -> Got
+    ensures { result ≡ written_got answer }
+{
+    one_number(answer.map(|writer| writer.at))
+}
+
+pub fn passed(answer: Result<ByteReader, Error>) -> Got
+    ensures { result ≡ passed_got answer }
+{
+    one_number(answer.map(|reader| reader.at))
 }

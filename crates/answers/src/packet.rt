@@ -1,10 +1,11 @@
 // A PDU read, as numbers.
 ghost use Rattle.std.specs.Prelude.{◌≡◌};
-ghost use Rattle.answers.specs.Packet.{accuracy_number, packet_said};
+ghost use Rattle.answers.specs.Packet.{accuracy_number, pdu_said, not_said, packet_said};
 
-use advertising::pdu::{Decoded, SleepClockAccuracy};
+use advertising::pdu::{Pdu, SleepClockAccuracy};
+use octets::error::Error;
 
-// A PDU with all its fields.
+// For C: a PDU with all its fields.
 #[repr(C)]
 #[derive(Clone, Copy)]
 pub struct Packet {
@@ -47,13 +48,19 @@ fn accuracy_number(sca: SleepClockAccuracy) -> u8
     }
 }
 
-#[tactic(auto, unfolding(crate::specs::Packet::packet_said))]
-pub fn packet_said(decoded: Decoded) -> Packet
+pub fn packet_said(decoded: Result<Pdu, Error>) -> Packet
     ensures { result ≡ packet_said decoded }
 {
-    let outcome = decoded.outcome;
-    let pdu = decoded.pdu;
-    let ty = pdu.ty;
+    match decoded {
+        Ok(pdu) => said(pdu),
+        Err(e) => not_said(e),
+    }
+}
+
+#[tactic(auto, unfolding(crate::specs::Packet::pdu_said))]
+fn said(pdu: Pdu) -> Packet
+    ensures { result ≡ pdu_said pdu }
+{
     let from = pdu.sender;
     let to = pdu.receiver;
     let place = pdu.adv_data;
@@ -63,8 +70,8 @@ pub fn packet_said(decoded: Decoded) -> Packet
     let receiver = to.raw();
     let map = channels.to_raw();
     Packet {
-        number: outcome.number(),
-        ty: ty.to_u8(),
+        number: 0,
+        ty: u8::from(pdu.ty),
         sender_random: from.is_random(),
         sender,
         has_receiver: pdu.has_receiver(),
@@ -85,5 +92,35 @@ pub fn packet_said(decoded: Decoded) -> Packet
         map_count: channels.num_used_channels(),
         hop: request.hop(),
         sca: accuracy_number(request.sca()),
+    }
+}
+
+// A refusal: type 15, and no field has a meaning.
+fn not_said(e: Error) -> Packet
+    ensures { result ≡ not_said e }
+{
+    Packet {
+        number: e.number(),
+        ty: 15,
+        sender_random: false,
+        sender: [0; 6],
+        has_receiver: false,
+        receiver_random: false,
+        receiver: [0; 6],
+        start: 0,
+        len: 0,
+        count: 0,
+        access_address: 0,
+        crc_init: 0,
+        win_size: 0,
+        win_offset: 0,
+        window_end: 1250,
+        interval: 0,
+        latency: 0,
+        timeout: 0,
+        map: [0; 5],
+        map_count: 0,
+        hop: 0,
+        sca: 0,
     }
 }

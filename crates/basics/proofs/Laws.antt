@@ -7,8 +7,9 @@ use borrow.Author.Tests.{le-leb, lt-leb, ne_eqb}
 use lib.Dec.{eqb}
 use Rattle.addresses.specs.declared.header.Header.{Header}
 use Rattle.flags.specs.Flags.{named}
-use Rattle.settings.specs.declared.ConnectionSettings.{ConnectionSettings}
-use Rattle.answers.specs.declared.got.Got.{Got}
+use Rattle.settings.specs.Settings.{Settings}
+use Rattle.octets.specs.declared.bytes.ByteReader.{ByteReader}
+use Rattle.octets.specs.declared.error.Error.{Error}
 use Rattle.basics.specs.Areas.{structure_said}
 use Rattle.basics.specs.Laws.{Areas, Structures, Readings, FlagsSay, Names, SettingsSay, PartsGot, Reads, Headers, Channels, CyclesGot, Filters}
 
@@ -73,19 +74,22 @@ names =
       name_refused = λ e. refl;
     }
 
-pub taking : (s : ConnectionSettings) → SettingsSay s
+pub taking : (s : Settings) → SettingsSay s
 taking s =
     record {
       taken = refl;
       not_taken = λ e. refl;
     }
 
-pub parts : (octets : List ℕ) (g : Got) → PartsGot octets g
-parts octets g =
+pub parts : (octets : List ℕ) (next : ByteReader) (e : Error) → PartsGot octets next e
+parts octets next e =
     record {
       five = refl;
+      not_five = refl;
       six = refl;
+      not_six = refl;
       sixteen = refl;
+      not_sixteen = refl;
     }
 
 pub reads : Reads
@@ -95,12 +99,8 @@ reads =
       spent = λ n. refl;
       part_is = λ start len next. refl;
       part_refused = λ e. refl;
-      u8_is = λ v next. refl;
-      u8_refused = λ e. refl;
-      u16_is = λ v next. refl;
-      u16_refused = λ e. refl;
-      u32_is = λ v next. refl;
-      u32_refused = λ e. refl;
+      value_is = λ v next. refl;
+      value_refused = λ e. refl;
       uuid16_is = λ v next. refl;
       uuid16_refused = λ e. refl;
       uuid32_is = λ v next. refl;
@@ -129,9 +129,6 @@ channels =
       third_is = refl;
       data_is = λ c. refl;
       data_refused = λ e. refl;
-      marked = refl;
-      not_marked = refl;
-      marked_refused = λ e. refl;
       at_place = λ c. refl;
       at_place_refused = λ e. refl;
       hops_to = λ unmapped c. refl;
@@ -148,10 +145,4 @@ turns =
     }
 
 pub filters : Filters
-filters =
-    record {
-      passes = refl;
-      does_not = refl;
-      list_refused = λ e. refl;
-      scan_by = λ f. refl;
-    }
+filters = record { scan_by = λ f. refl }

@@ -6,40 +6,31 @@
 --   parsed_said p next, read_said r             == the numbers of what was parsed, and of what was read
 --   known_said s r                             == those of what was read, read on
 --   flags_said x                               == the numbers of an octet of Flags
-use Rattle.std.specs.Prelude.{Bool, false, List, ℕ, eqb}
+use Rattle.std.specs.Prelude.{Bool, false, List, ℕ, eqb, Result, Ok, Err, Option, Some, None}
 use Rattle.octets.specs.Error.{number_of}
 use Rattle.octets.specs.declared.error.Error.{Error}
 use Rattle.records_spec.specs.Record.{known_read}
 use Rattle.flags.specs.Flags.{named, bit_at}
 use Rattle.records_spec.specs.declared.ad_structure.AdStructure.{AdStructure}
 use Rattle.records_spec.specs.declared.ad_structure.AdStructure.TheVariants as ad
-use Rattle.records_spec.specs.declared.ad_structure.NextUuid16.{NextUuid16}
-use Rattle.records_spec.specs.declared.ad_structure.NextUuid16.TheVariants as uuid
-use Rattle.records_spec.specs.declared.ad_structure.Parsed.{Parsed}
-use Rattle.records_spec.specs.declared.ad_structure.Parsed.TheVariants as parsed
-use Rattle.records_spec.specs.declared.ad_structure.Read.{Read}
-use Rattle.records_spec.specs.declared.ad_structure.Read.TheVariants as read
-use Rattle.records_spec.specs.declared.area.Area.{Area}
-use Rattle.records_spec.specs.declared.area.Area.TheVariants as area
-use Rattle.records_spec.specs.declared.area.PaddedArea.{PaddedArea}
-use Rattle.records_spec.specs.declared.area.PaddedArea.TheVariants as padded
 use Rattle.answers.specs.Got.{found, refused_as}
 use Rattle.basics.specs.declared.areas.FlagsSaid.{FlagsSaid}
 use Rattle.basics.specs.declared.areas.Structure.{Structure}
 use Rattle.answers.specs.declared.got.Got.{Got}
+use Rattle.octets.specs.declared.uuid.Uuid16.{Uuid16}
 
-abbrev pub area_got : Area → Got
-area_got (area.Accepted n) = found n 0
-area_got (area.Refused e) = refused_as e
+abbrev pub area_got : Result ℕ Error → Got
+area_got (Ok n) = found n 0
+area_got (Err e) = refused_as e
 
-abbrev pub padded_got : PaddedArea → Got
-padded_got (padded.Accepted n taken) = found n taken
-padded_got (padded.Refused e) = refused_as e
+abbrev pub padded_got : Result (ℕ × ℕ) Error → Got
+padded_got (Ok (n, taken)) = found n taken
+padded_got (Err e) = refused_as e
 
-abbrev pub uuid_got : ℕ → NextUuid16 → Got
-uuid_got at (uuid.Uuid u next) = found u.0 next
-uuid_got at uuid.End = found 0 at
-uuid_got at (uuid.Refused e) = refused_as e
+abbrev pub uuid_got : ℕ → Result (Option (Uuid16 × ℕ)) Error → Got
+uuid_got at (Ok (Some (u, next))) = found u.0 next
+uuid_got at (Ok None) = found 0 at
+uuid_got at (Err e) = refused_as e
 
 abbrev pub said : ℕ → Bool → ℕ → ℕ → ℕ → ℕ → Structure
 said kind complete value start len next =
@@ -59,19 +50,19 @@ structure_said (ad.ShortenedLocalName start len) next = said 7 false 0 start len
 structure_said (ad.ManufacturerSpecificData company start len) next = said 8 false company.0 start len next
 structure_said (ad.Unknown ty start len) next = said 9 false ty start len next
 
-abbrev pub parsed_said : Parsed → ℕ → Structure
-parsed_said (parsed.Structure a) next = structure_said a next
-parsed_said (parsed.Refused e) next = refused_said e
+abbrev pub parsed_said : Result AdStructure Error → ℕ → Structure
+parsed_said (Ok a) next = structure_said a next
+parsed_said (Err e) next = refused_said e
 
-abbrev pub read_said : Read → Structure
-read_said (read.Record a next) = structure_said a next
-read_said read.End = said 0 false 0 0 0 0
-read_said (read.Refused e) = refused_said e
+abbrev pub read_said : Result (Option (AdStructure × ℕ)) Error → Structure
+read_said (Ok (Some (a, next))) = structure_said a next
+read_said (Ok None) = said 0 false 0 0 0 0
+read_said (Err e) = refused_said e
 
-abbrev pub known_said : List ℕ → Read → Structure
-known_said s (read.Record a next) = parsed_said (known_read a s) next
-known_said s read.End = said 0 false 0 0 0 0
-known_said s (read.Refused e) = refused_said e
+abbrev pub known_said : List ℕ → Result (Option (AdStructure × ℕ)) Error → Structure
+known_said s (Ok (Some (a, next))) = parsed_said (known_read a s) next
+known_said s (Ok None) = said 0 false 0 0 0 0
+known_said s (Err e) = refused_said e
 
 abbrev pub flags_said : ℕ → FlagsSaid
 flags_said x =

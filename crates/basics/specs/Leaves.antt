@@ -1,20 +1,17 @@
 -- Channels, maps and hops as numbers.
 --   channel_after times        == the advertising channel after up to 3 cycles from the first
 --   advertising_channel, data_channel   == what there is to say of a channel
---   used_got, found_got, hop_got == the answers of a map
-use Rattle.std.specs.Prelude.{cond, ℕ, eqb}
+--   found_got, hop_got          == the answers of a map
+use Rattle.std.specs.Prelude.{cond, ℕ, eqb, Result, Ok, Err}
 use Rattle.octets.specs.Error.{number_of}
 use Rattle.channels.specs.Phy.{frequency, whitening_start, index_of, first_channel, cycled, advertising_rf, data_rf}
-use Rattle.channels.specs.declared.channel_map.Used.{Used}
-use Rattle.channels.specs.declared.channel_map.Used.TheVariants as used
 use Rattle.channels.specs.declared.connection.Hop.{Hop}
-use Rattle.channels.specs.declared.connection.Hop.TheVariants as hop
 use Rattle.channels.specs.declared.phy.AdvertisingChannel.{AdvertisingChannel}
-use Rattle.channels.specs.declared.phy.Found.{Found}
-use Rattle.channels.specs.declared.phy.Found.TheVariants as channel
 use Rattle.answers.specs.Got.{found, refused_as}
 use Rattle.answers.specs.declared.got.Got.{Got}
 use Rattle.basics.specs.declared.leaves.Channel.{Channel}
+use Rattle.octets.specs.declared.error.Error.{Error}
+use Rattle.channels.specs.declared.phy.DataChannel.{DataChannel}
 
 abbrev pub channel_after : ℕ → AdvertisingChannel
 channel_after times =
@@ -33,8 +30,8 @@ advertising_channel c =
       freq = frequency (advertising_rf c);
     }
 
-abbrev pub data_channel : Found → Channel
-data_channel (channel.Channel c) =
+abbrev pub data_channel : Result DataChannel Error → Channel
+data_channel (Ok c) =
     record {
       number = 0;
       index = c.index;
@@ -42,16 +39,12 @@ data_channel (channel.Channel c) =
       whitening_iv = whitening_start c.index;
       freq = frequency (data_rf c.index);
     }
-data_channel (channel.Refused e) = record { number = number_of e; index = 0; rf_channel = 0; whitening_iv = 0; freq = 0 }
+data_channel (Err e) = record { number = number_of e; index = 0; rf_channel = 0; whitening_iv = 0; freq = 0 }
 
-abbrev pub used_got : Used → Got
-used_got (used.Is b) = found (cond b 1 0) 0
-used_got (used.Refused e) = refused_as e
+abbrev pub found_got : Result DataChannel Error → Got
+found_got (Ok c) = found c.index 0
+found_got (Err e) = refused_as e
 
-abbrev pub found_got : Found → Got
-found_got (channel.Channel c) = found c.index 0
-found_got (channel.Refused e) = refused_as e
-
-abbrev pub hop_got : Hop → Got
-hop_got (hop.To unmapped c) = found unmapped c.index
-hop_got (hop.Refused e) = refused_as e
+abbrev pub hop_got : Result Hop Error → Got
+hop_got (Ok h) = found h.unmapped h.channel.index
+hop_got (Err e) = refused_as e

@@ -1,9 +1,10 @@
 -- A write that was cut to the space left, as numbers: how many octets were written, and the position after them.
-use Rattle.octets.specs.declared.bytes.Truncated.{Truncated}
-use Rattle.octets.specs.declared.bytes.Truncated.TheVariants as truncated
 use Rattle.answers.specs.Got.{found, refused_as}
 use Rattle.answers.specs.declared.got.Got.{Got}
+use Rattle.std.specs.Prelude.{Result, Ok, Err, ℕ}
+use Rattle.octets.specs.declared.bytes.ByteWriter.{ByteWriter}
+use Rattle.octets.specs.declared.error.Error.{Error}
 
-abbrev pub truncated_got : Truncated → Got
-truncated_got (truncated.To n next) = found n next.at
-truncated_got (truncated.Refused e) = refused_as e
+abbrev pub truncated_got : Result (ℕ × ByteWriter) Error → Got
+truncated_got (Ok (n, next)) = found n next.at
+truncated_got (Err e) = refused_as e

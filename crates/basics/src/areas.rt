@@ -10,16 +10,15 @@ ghost use Rattle.answers.specs.Got.{written_got};
 ghost use Rattle.basics.specs.Areas.{said, area_got, padded_got, uuid_got, structure_said, refused_said, parsed_said, read_said, known_said, flags_said};
 
 use answers::given::structure;
-use answers::got::{Got, found, refused, written};
+use answers::got::{Got, found, one_number, refused, two_numbers, written};
 use octets::bytes::ByteWriter;
 use octets::error::Error;
 use records::ad_structure::{
-    AdStructure, Flags, NextUuid16, Parsed, Read, next_uuid16, read_known, read_record,
-    write_record,
+    AdStructure, Flags, next_uuid16, read_known, read_record, write_record,
 };
-use records::area::{Area, PaddedArea, read_area, read_padded_area, rewrite_area};
+use records::area::{read_area, read_padded_area, rewrite_area};
 
-// A record. `kind` is 0 at the end of an area, then 1 to 9 in the order of `AdStructure`; `value` the bits of Flags, a UUID, a company or a type.
+// For C: a record. `kind` is 0 at the end of an area, then 1 to 9 in the order of `AdStructure`; `value` the bits of Flags, a UUID, a company or a type.
 #[repr(C)]
 #[derive(Clone, Copy)]
 pub struct Structure {
@@ -32,7 +31,7 @@ pub struct Structure {
     pub next: usize,
 }
 
-// The answers of Flags.
+// For C: the answers of Flags.
 #[repr(C)]
 #[derive(Clone, Copy)]
 pub struct FlagsSaid {
@@ -48,20 +47,14 @@ pub struct FlagsSaid {
 pub fn board_area(s: &[u8]) -> Got
     ensures { result ≡ area_got (read_area s.now) }
 {
-    match read_area(s) {
-        Area::Accepted(count) => found(count, 0),
-        Area::Refused(e) => refused(e),
-    }
+    one_number(read_area(s))
 }
 
 // The number of records as the hub reads an area, and how many octets they took.
 pub fn board_padded_area(s: &[u8]) -> Got
     ensures { result ≡ padded_got (read_padded s.now) }
 {
-    match read_padded_area(s) {
-        PaddedArea::Accepted(count, taken) => found(count, taken),
-        PaddedArea::Refused(e) => refused(e),
-    }
+    two_numbers(read_padded_area(s))
 }
 
 // The position after what was written.
@@ -76,9 +69,9 @@ pub fn board_uuid_at(data: &[u8], at: usize) -> Got
     ensures { result ≡ uuid_got at (uuid16_at «data».now at) }
 {
     match next_uuid16(data, at) {
-        NextUuid16::Uuid(uuid, next) => found(uuid.0 as usize, next),
-        NextUuid16::End => found(0, at),
-        NextUuid16::Refused(e) => refused(e),
+        Ok(Some((uuid, next))) => found(uuid.0 as usize, next),
+        Ok(None) => found(0, at),
+        Err(e) => refused(e),
     }
 }
 
@@ -86,9 +79,9 @@ pub fn board_record(s: &[u8], at: usize) -> Structure
     ensures { result ≡ read_said (record_at s.now at) }
 {
     match read_record(s, at) {
-        Read::Record(ad, next) => say(ad, next),
-        Read::End => said(0, false, 0, 0, 0, 0),
-        Read::Refused(e) => say_refused(e),
+        Ok(Some((ad, next))) => say(ad, next),
+        Ok(None) => said(0, false, 0, 0, 0, 0),
+        Err(e) => say_refused(e),
     }
 }
 
@@ -97,9 +90,9 @@ pub fn board_known(s: &[u8], at: usize) -> Structure
     ensures { result ≡ known_said s.now (record_at s.now at) }
 {
     match read_record(s, at) {
-        Read::Record(ad, next) => say_parsed(read_known(ad, s), next),
-        Read::End => said(0, false, 0, 0, 0, 0),
-        Read::Refused(e) => say_refused(e),
+        Ok(Some((ad, next))) => say_parsed(read_known(ad, s), next),
+        Ok(None) => said(0, false, 0, 0, 0, 0),
+        Err(e) => say_refused(e),
     }
 }
 
@@ -181,12 +174,12 @@ fn say(ad: AdStructure, next: usize) -> Structure
     }
 }
 
-fn say_parsed(parsed: Parsed, next: usize) -> Structure
+fn say_parsed(parsed: Result<AdStructure, Error>, next: usize) -> Structure
     ensures { result ≡ parsed_said parsed next }
 {
     match parsed {
-        Parsed::Structure(ad) => say(ad, next),
-        Parsed::Refused(e) => say_refused(e),
+        Ok(ad) => say(ad, next),
+        Err(e) => say_refused(e),
     }
 }
 

@@ -5,35 +5,27 @@ ghost use Rattle.addresses.specs.Address.{kind_of, address_of};
 ghost use Rattle.addresses.specs.Filter.{matches_of, adv_filter_of, may_scan, may_connect, should_scan};
 ghost use Rattle.addresses.specs.declared.filter.AddressFilter.TheVariants.{Whitelist};
 ghost use Rattle.answers.specs.Given.{filter_for};
-ghost use Rattle.basics.specs.Filters.{matches_got, scan_filter_of};
+ghost use Rattle.answers.specs.Got.{flag_got};
+ghost use Rattle.basics.specs.Filters.{scan_filter_of};
 
-use addresses::filter::{AddressFilter, AdvFilter, Matches, ScanFilter};
+use addresses::filter::{AddressFilter, AdvFilter, ScanFilter};
 use answers::given::{address, filter};
-use answers::got::{Got, flag, found, refused};
+use answers::got::{Got, flag};
 use records::ad_structure::Flags;
-
-fn matched(m: Matches) -> Got
-    ensures { result ≡ matches_got m }
-{
-    match m {
-        Matches::Is(is) => found(flag(is), 0),
-        Matches::Refused(e) => refused(e),
-    }
-}
 
 // Whether a list holds an address.
 pub fn board_whitelist(list: &[u8], octets: &[u8; 6], random: bool) -> Got
-    ensures { result ≡ matches_got (matches_of Whitelist list.now (address_of octets.now (kind_of random))) }
+    ensures { result ≡ flag_got (matches_of Whitelist list.now (address_of octets.now (kind_of random))) }
 {
-    matched(AddressFilter::Whitelist.matches(list, address(*octets, random)))
+    flag(AddressFilter::Whitelist.matches(list, address(*octets, random)))
 }
 
 // Whether an address may scan, and whether it may connect, where the list is in use for scan requests, for connect requests, or not.
 pub fn board_may_scan(scan: bool, connect: bool, list: &[u8], octets: &[u8; 6], random: bool) -> Got
-    ensures { result ≡ matches_got (may_scan (adv_filter_of (filter_for scan) (filter_for connect)) list.now (address_of octets.now (kind_of random))) }
+    ensures { result ≡ flag_got (may_scan (adv_filter_of (filter_for scan) (filter_for connect)) list.now (address_of octets.now (kind_of random))) }
 {
     let policy = AdvFilter::new(filter(scan), filter(connect));
-    matched(policy.may_scan(list, address(*octets, random)))
+    flag(policy.may_scan(list, address(*octets, random)))
 }
 
 pub fn board_may_connect(
@@ -43,18 +35,18 @@ pub fn board_may_connect(
     octets: &[u8; 6],
     random: bool,
 ) -> Got
-    ensures { result ≡ matches_got (may_connect (adv_filter_of (filter_for scan) (filter_for connect)) list.now (address_of octets.now (kind_of random))) }
+    ensures { result ≡ flag_got (may_connect (adv_filter_of (filter_for scan) (filter_for connect)) list.now (address_of octets.now (kind_of random))) }
 {
     let policy = AdvFilter::new(filter(scan), filter(connect));
-    matched(policy.may_connect(list, address(*octets, random)))
+    flag(policy.may_connect(list, address(*octets, random)))
 }
 
 // Whether a scanner hears an address, where the list is in use or not.
 pub fn board_should_scan(scan: bool, list: &[u8], octets: &[u8; 6], random: bool) -> Got
-    ensures { result ≡ matches_got (should_scan (scan_filter_of (filter_for scan)) list.now (address_of octets.now (kind_of random))) }
+    ensures { result ≡ flag_got (should_scan (scan_filter_of (filter_for scan)) list.now (address_of octets.now (kind_of random))) }
 {
     let policy = ScanFilter::new(filter(scan));
-    matched(policy.should_scan(list, address(*octets, random)))
+    flag(policy.should_scan(list, address(*octets, random)))
 }
 
 // The Flags of a start, and those of a beacon.

@@ -6,23 +6,25 @@ ghost use Rattle.octets.specs.Uuid.{full_uuid};
 ghost use Rattle.channels.specs.Hop.{hopped};
 ghost use Rattle.channels.specs.Map.{from_raw, all_channels, is_used, by_index};
 ghost use Rattle.channels.specs.Phy.{new_channel};
-ghost use Rattle.basics.specs.Leaves.{advertising_channel, channel_after, data_channel, found_got, used_got, hop_got};
+ghost use Rattle.answers.specs.Got.{flag_got};
+ghost use Rattle.basics.specs.Leaves.{advertising_channel, channel_after, data_channel, found_got, hop_got};
 
-use answers::got::{Got, flag, found, refused};
-use channels::channel_map::{ChannelMap, Used};
-use channels::connection::{Hop, hop_channel};
-use channels::phy::{AdvertisingChannel, DataChannel, Found};
+use answers::got::{Got, flag, one_number, two_numbers};
+use channels::channel_map::ChannelMap;
+use channels::connection::hop_channel;
+use channels::phy::{AdvertisingChannel, DataChannel};
 use octets::time::Instant;
 use octets::uuid::{Uuid16, Uuid32, Uuid128};
 use utf8::is_utf8;
 
+// For C: a full UUID.
 #[repr(C)]
 #[derive(Clone, Copy)]
 pub struct Uuid {
     pub octets: [u8; 16],
 }
 
-// A channel's index, RF channel, centre frequency and start of whitening.
+// For C: a channel's index, RF channel, centre frequency and start of whitening.
 #[repr(C)]
 #[derive(Clone, Copy)]
 pub struct Channel {
@@ -33,7 +35,7 @@ pub struct Channel {
     pub freq: u16,
 }
 
-// A map's octets and count.
+// For C: a map's octets and count.
 #[repr(C)]
 #[derive(Clone, Copy)]
 pub struct Map {
@@ -50,7 +52,7 @@ pub fn board_utf8(s: &[u8]) -> bool
 pub fn board_uuid16(value: u16) -> Uuid
     ensures { result.octets ≡ full_uuid value }
 {
-    let uuid = Uuid128::from_uuid16(Uuid16(value));
+    let uuid = Uuid128::from(Uuid16(value));
     let octets = uuid.0;
     Uuid { octets }
 }
@@ -58,7 +60,7 @@ pub fn board_uuid16(value: u16) -> Uuid
 pub fn board_uuid32(value: u32) -> Uuid
     ensures { result.octets ≡ full_uuid value }
 {
-    let uuid = Uuid128::from_uuid32(Uuid32(value));
+    let uuid = Uuid128::from(Uuid32(value));
     let octets = uuid.0;
     Uuid { octets }
 }
@@ -105,14 +107,14 @@ pub fn board_data_channel(index: u8) -> Channel
     ensures { result ≡ data_channel (new_channel index) }
 {
     match DataChannel::new(index) {
-        Found::Channel(channel) => Channel {
+        Ok(channel) => Channel {
             number: 0,
             index: channel.index(),
             rf_channel: channel.rf_channel(),
             whitening_iv: channel.whitening_iv(),
             freq: channel.freq(),
         },
-        Found::Refused(e) => Channel {
+        Err(e) => Channel {
             number: e.number(),
             index: 0,
             rf_channel: 0,
@@ -125,19 +127,19 @@ pub fn board_data_channel(index: u8) -> Channel
 pub fn board_map(raw: &[u8; 5]) -> Map
     ensures { (result.raw ≡ (from_raw raw.now).raw) × (result.count ≡ (from_raw raw.now).num_used_channels) }
 {
-    let map = ChannelMap::from_raw(*raw);
-    let raw = map.to_raw();
-    Map {
-        raw,
-        count: map.num_used_channels(),
-    }
+    map_said(ChannelMap::from_raw(*raw))
 }
 
 // The map of all data channels.
 pub fn board_all_channels() -> Map
     ensures { (result.raw ≡ all_channels.raw) × (result.count ≡ all_channels.num_used_channels) }
 {
-    let map = ChannelMap::with_all_channels();
+    map_said(ChannelMap::with_all_channels())
+}
+
+fn map_said(map: ChannelMap) -> Map
+    ensures { (result.raw ≡ map.raw) × (result.count ≡ map.num_used_channels) }
+{
     let raw = map.to_raw();
     Map {
         raw,
@@ -146,35 +148,22 @@ pub fn board_all_channels() -> Map
 }
 
 pub fn board_is_used(raw: &[u8; 5], channel: u8) -> Got
-    ensures { result ≡ used_got (is_used (from_raw raw.now) channel) }
+    ensures { result ≡ flag_got (is_used (from_raw raw.now) channel) }
 {
-    let map = ChannelMap::from_raw(*raw);
-    match map.is_used(channel) {
-        Used::Is(used) => found(flag(used), 0),
-        Used::Refused(e) => refused(e),
-    }
+    flag(ChannelMap::from_raw(*raw).is_used(channel))
 }
 
 pub fn board_by_index(raw: &[u8; 5], n: u8) -> Got
     ensures { result ≡ found_got (by_index (from_raw raw.now) n) }
 {
-    let map = ChannelMap::from_raw(*raw);
-    match map.by_index(n) {
-        Found::Channel(channel) => found(channel.index() as usize, 0),
-        Found::Refused(e) => refused(e),
-    }
+    let found = ChannelMap::from_raw(*raw).by_index(n);
+    one_number(found.map(|channel| channel.index() as usize))
 }
 
 // The next unmapped channel, and the channel to use.
 pub fn board_hop(raw: &[u8; 5], unmapped: u8, hop: u8) -> Got
     ensures { result ≡ hop_got (hopped (from_raw raw.now) unmapped hop) }
 {
-    let map = ChannelMap::from_raw(*raw);
-    match hop_channel(map, unmapped, hop) {
-        Hop::To {
-            unmapped: next,
-            channel,
-        } => found(next as usize, channel.index() as usize),
-        Hop::Refused(e) => refused(e),
-    }
+    let hopped = hop_channel(ChannelMap::from_raw(*raw), unmapped, hop);
+    two_numbers(hopped.map(|hop| (hop.unmapped as usize, hop.channel.index() as usize)))
 }

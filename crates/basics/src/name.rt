@@ -5,7 +5,7 @@ ghost use Rattle.basics.specs.Names.{name_said};
 
 use names::{NamePlace, find_name};
 
-// Which area holds the name, where it begins there, and how many octets it has; zeros beside a refusal's number.
+// For C: which area holds the name, where it begins there, and how many octets it has; zeros beside a refusal's number.
 #[repr(C)]
 #[derive(Clone, Copy)]
 pub struct NameSaid {
@@ -19,19 +19,19 @@ pub fn board_name(advertisement: &[u8], reply: &[u8]) -> NameSaid
     ensures { result ≡ name_said (name_of advertisement.now reply.now) }
 {
     match find_name(advertisement, reply) {
-        NamePlace::InReply { start, len } => NameSaid {
+        Ok(NamePlace::InReply(part)) => NameSaid {
             number: 0,
             in_reply: true,
-            start,
-            len,
+            start: part.start,
+            len: part.len,
         },
-        NamePlace::InAdvertisement { start, len } => NameSaid {
+        Ok(NamePlace::InAdvertisement(part)) => NameSaid {
             number: 0,
             in_reply: false,
-            start,
-            len,
+            start: part.start,
+            len: part.len,
         },
-        NamePlace::Refused(e) => NameSaid {
+        Err(e) => NameSaid {
             number: e.number(),
             in_reply: false,
             start: 0,

@@ -1,13 +1,13 @@
 // Octets read at a position, which may lie past the end.
 ghost use Rattle.std.specs.Prelude.{◌≡◌, length};
-ghost use Rattle.octets.specs.Bytes.{left_from, is_spent, skip_to, u8_read, u16_read, u32_read, slice_read, filled, array_read};
+ghost use Rattle.octets.specs.Bytes.{left_from, is_spent, skip_to, u8_read, u16_read, u32_read, slice_read, filled, array_from};
 ghost use Rattle.answers.specs.Got.{passed_got};
-ghost use Rattle.basics.specs.Reads.{left_got, u8_got, u16_got, u32_got, part_said, five_said, six_said};
+ghost use Rattle.basics.specs.Reads.{left_got, value_got, part_said, five_said, six_said};
 
-use answers::got::{Got, flag, found, passed, refused};
-use octets::bytes::{ByteReader, SliceRead, U8Read, U16Read, U32Read};
+use answers::got::{Got, found, passed, two_numbers};
+use octets::bytes::ByteReader;
 
-// A part that was read, and the position after it.
+// For C: a part that was read, and the position after it.
 #[repr(C)]
 #[derive(Clone, Copy)]
 pub struct Part {
@@ -17,7 +17,7 @@ pub struct Part {
     pub next: usize,
 }
 
-// Octets that were read, zeros where the read was refused, and the position after them.
+// For C, which has no const parameters: octets that were read, zeros where the read was refused, and the position after them.
 #[repr(C)]
 #[derive(Clone, Copy)]
 pub struct Five {
@@ -46,8 +46,7 @@ pub fn board_bytes_left(s: &[u8], at: usize) -> Got
     ensures { result ≡ left_got (left_from s.now at) (is_spent s.now at) }
 {
     let reader = ByteReader { at };
-    let empty = flag(reader.is_empty(s));
-    found(reader.bytes_left(s), empty)
+    found(reader.bytes_left(s), usize::from(reader.is_empty(s)))
 }
 
 pub fn board_read_slice(s: &[u8], at: usize, n: usize) -> Part
@@ -55,13 +54,13 @@ pub fn board_read_slice(s: &[u8], at: usize, n: usize) -> Part
 {
     let reader = ByteReader { at };
     match reader.read_slice(s, n) {
-        SliceRead::Part { start, len, next } => Part {
+        Ok((part, next)) => Part {
             number: 0,
-            start,
-            len,
+            start: part.start,
+            len: part.len,
             next: next.at,
         },
-        SliceRead::Refused(e) => Part {
+        Err(e) => Part {
             number: e.number(),
             start: 0,
             len: 0,
@@ -78,60 +77,55 @@ pub fn board_read_into(s: &[u8], at: usize, dst: &mut [u8]) -> Got
 }
 
 pub fn board_read_array5(s: &[u8], at: usize) -> Five
-    ensures { result ≡ five_said (array_read 5 s.now at) (passed_got (skip_to 5 s.now at)) }
+    ensures { result ≡ five_said (array_from 5 s.now at) }
 {
-    let array = ByteReader { at }.read_array5(s);
-    let octets = array.octets;
-    let read = array.read;
-    let got = passed(read);
-    Five {
-        number: got.number,
-        octets,
-        next: got.first,
+    let mut said = Five {
+        number: 0,
+        octets: [0; 5],
+        next: 0,
+    };
+    let reader = ByteReader { at };
+    match reader.read_into(s, &mut said.octets) {
+        Ok(next) => said.next = next.at,
+        Err(e) => said.number = e.number(),
     }
+    said
 }
 
 pub fn board_read_array6(s: &[u8], at: usize) -> Six
-    ensures { result ≡ six_said (array_read 6 s.now at) (passed_got (skip_to 6 s.now at)) }
+    ensures { result ≡ six_said (array_from 6 s.now at) }
 {
-    let array = ByteReader { at }.read_array6(s);
-    let octets = array.octets;
-    let read = array.read;
-    let got = passed(read);
-    Six {
-        number: got.number,
-        octets,
-        next: got.first,
+    let mut said = Six {
+        number: 0,
+        octets: [0; 6],
+        next: 0,
+    };
+    let reader = ByteReader { at };
+    match reader.read_into(s, &mut said.octets) {
+        Ok(next) => said.next = next.at,
+        Err(e) => said.number = e.number(),
     }
+    said
 }
 
 // A number, and the position after it.
 pub fn board_read_u8(s: &[u8], at: usize) -> Got
-    ensures { result ≡ u8_got (u8_read s.now at) }
+    ensures { result ≡ value_got (u8_read s.now at) }
 {
-    let reader = ByteReader { at };
-    match reader.read_u8(s) {
-        U8Read::Value(value, next) => found(value as usize, next.at),
-        U8Read::Refused(e) => refused(e),
-    }
+    let read = ByteReader { at }.read_u8(s);
+    two_numbers(read.map(|(value, next)| (value as usize, next.at)))
 }
 
 pub fn board_read_u16_le(s: &[u8], at: usize) -> Got
-    ensures { result ≡ u16_got (u16_read s.now at) }
+    ensures { result ≡ value_got (u16_read s.now at) }
 {
-    let reader = ByteReader { at };
-    match reader.read_u16_le(s) {
-        U16Read::Value(value, next) => found(value as usize, next.at),
-        U16Read::Refused(e) => refused(e),
-    }
+    let read = ByteReader { at }.read_u16_le(s);
+    two_numbers(read.map(|(value, next)| (value as usize, next.at)))
 }
 
 pub fn board_read_u32_le(s: &[u8], at: usize) -> Got
-    ensures { result ≡ u32_got (u32_read s.now at) }
+    ensures { result ≡ value_got (u32_read s.now at) }
 {
-    let reader = ByteReader { at };
-    match reader.read_u32_le(s) {
-        U32Read::Value(value, next) => found(value as usize, next.at),
-        U32Read::Refused(e) => refused(e),
-    }
+    let read = ByteReader { at }.read_u32_le(s);
+    two_numbers(read.map(|(value, next)| (value as usize, next.at)))
 }

@@ -1,12 +1,11 @@
 // The settings of a connect request.
 ghost use Rattle.std.specs.Prelude.{◌≡◌};
-ghost use Rattle.settings.specs.Settings.{alone_of};
+ghost use Rattle.settings.specs.Settings.{settings_of, alone_of};
 ghost use Rattle.basics.specs.Settings.{said_of, settings_said};
 
-use octets::error::Outcome;
 use settings::ConnectionSettings;
 
-// Counts of 1,250 µs, of 10 ms for the timeout, of events for the latency; zeros beside a refusal's number.
+// For C: counts of 1,250 µs, of 10 ms for the timeout, of events for the latency; zeros beside a refusal's number.
 #[repr(C)]
 #[derive(Clone, Copy)]
 pub struct SettingsSaid {
@@ -24,15 +23,12 @@ pub struct SettingsSaid {
 pub fn board_settings(octets: &[u8; 22]) -> SettingsSaid
     ensures { result ≡ settings_said (alone_of octets.now) }
 {
-    let taken = ConnectionSettings::from_octets(*octets);
-    let settings = taken.settings;
-    let outcome = taken.outcome;
-    match outcome {
-        Outcome::Accepted => said(settings),
-        Outcome::Refused(e) => SettingsSaid {
+    match ConnectionSettings::from_octets(*octets) {
+        Ok(settings) => said(settings),
+        Err(e) => SettingsSaid {
             number: e.number(),
             hop: 0,
-            map: [0, 0, 0, 0, 0],
+            map: [0; 5],
             channels: 0,
             interval: 0,
             latency: 0,
@@ -44,7 +40,7 @@ pub fn board_settings(octets: &[u8; 22]) -> SettingsSaid
 }
 
 fn said(settings: ConnectionSettings) -> SettingsSaid
-    ensures { result ≡ said_of settings }
+    ensures { result ≡ said_of (settings_of settings) }
 {
     let chm = settings.channel_map();
     let map = chm.to_raw();

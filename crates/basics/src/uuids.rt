@@ -1,15 +1,15 @@
 // UUIDs read and written at a position.
 ghost use Rattle.std.specs.Prelude.{◌≡◌};
-ghost use Rattle.octets.specs.Bytes.{skip_to, u16_read, u32_read, array_read, le_bytes, write_to, out_after};
-ghost use Rattle.octets.specs.Uuid.{uuid16_from, uuid32_from};
-ghost use Rattle.answers.specs.Got.{written_got, passed_got};
+ghost use Rattle.octets.specs.Bytes.{u16_read, u32_read, array_from, le_bytes, write_to, out_after};
+ghost use Rattle.octets.specs.Uuid.{uuid16_from, uuid32_from, uuid128_from};
+ghost use Rattle.answers.specs.Got.{written_got};
 ghost use Rattle.basics.specs.Uuids.{uuid16_got, uuid32_got, uuid_said};
 
-use answers::got::{Got, found, passed, refused, written};
-use octets::bytes::{ByteReader, ByteWriter};
-use octets::uuid::{Uuid16, Uuid16Read, Uuid32, Uuid32Read, Uuid128};
+use answers::got::{Got, two_numbers, written};
+use octets::bytes::{ByteReader, ByteWriter, FromBytes, ToBytes};
+use octets::uuid::{Uuid16, Uuid32, Uuid128};
 
-// A UUID of 128 bits that was read, zeros where the read was refused, and the position after it.
+// For C: a UUID of 128 bits that was read, zeros where the read was refused, and the position after it.
 #[repr(C)]
 #[derive(Clone, Copy)]
 pub struct UuidRead {
@@ -22,35 +22,34 @@ pub struct UuidRead {
 pub fn board_read_uuid16(s: &[u8], at: usize) -> Got
     ensures { result ≡ uuid16_got (uuid16_from (u16_read s.now at)) }
 {
-    let reader = ByteReader { at };
-    match Uuid16::from_bytes(reader, s) {
-        Uuid16Read::Value(uuid, next) => found(uuid.0 as usize, next.at),
-        Uuid16Read::Refused(e) => refused(e),
-    }
+    let read = Uuid16::from_bytes(ByteReader { at }, s);
+    two_numbers(read.map(|(uuid, next)| (uuid.0 as usize, next.at)))
 }
 
 pub fn board_read_uuid32(s: &[u8], at: usize) -> Got
     ensures { result ≡ uuid32_got (uuid32_from (u32_read s.now at)) }
 {
-    let reader = ByteReader { at };
-    match Uuid32::from_bytes(reader, s) {
-        Uuid32Read::Value(uuid, next) => found(uuid.0 as usize, next.at),
-        Uuid32Read::Refused(e) => refused(e),
-    }
+    let read = Uuid32::from_bytes(ByteReader { at }, s);
+    two_numbers(read.map(|(uuid, next)| (uuid.0 as usize, next.at)))
 }
 
 pub fn board_read_uuid128(s: &[u8], at: usize) -> UuidRead
-    ensures { result ≡ uuid_said (array_read 16 s.now at) (passed_got (skip_to 16 s.now at)) }
+    ensures { result ≡ uuid_said (uuid128_from (array_from 16 s.now at)) }
 {
-    let found = Uuid128::from_bytes(ByteReader { at }, s);
-    let uuid = found.uuid;
-    let octets = uuid.0;
-    let read = found.read;
-    let got = passed(read);
-    UuidRead {
-        number: got.number,
-        octets,
-        next: got.first,
+    match Uuid128::from_bytes(ByteReader { at }, s) {
+        Ok((uuid, next)) => {
+            let octets = uuid.0;
+            UuidRead {
+                number: 0,
+                octets,
+                next: next.at,
+            }
+        }
+        Err(e) => UuidRead {
+            number: e.number(),
+            octets: [0; 16],
+            next: 0,
+        },
     }
 }
 

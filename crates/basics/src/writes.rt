@@ -4,8 +4,8 @@ ghost use Rattle.octets.specs.Bytes.{left_from, le_bytes, write_to, out_after, f
 ghost use Rattle.answers.specs.Got.{written_got};
 ghost use Rattle.basics.specs.Writes.{truncated_got};
 
-use answers::got::{Got, found, refused, written};
-use octets::bytes::{ByteWriter, Truncated};
+use answers::got::{Got, two_numbers, written};
+use octets::bytes::ByteWriter;
 
 // The position n octets on, which are kept.
 pub fn board_write_skip(out: &[u8], at: usize, n: usize) -> Got
@@ -28,19 +28,11 @@ pub fn board_write_slice(out: &mut [u8], at: usize, other: &[u8]) -> Got
 }
 
 // The number of octets that were written, and the position after them.
-fn counted(t: Truncated) -> Got
-    ensures { result ≡ truncated_got t }
-{
-    match t {
-        Truncated::To(n, next) => found(n, next.at),
-        Truncated::Refused(e) => refused(e),
-    }
-}
-
 pub fn board_write_slice_truncate(out: &mut [u8], at: usize, other: &[u8]) -> Got
     ensures { (result ≡ truncated_got (truncate_to other.now out.old at)) × (out.new ≡ out_after (fitting other.now out.old at) out.old at) }
 {
-    counted(ByteWriter { at }.write_slice_truncate(out, other))
+    let cut = ByteWriter { at }.write_slice_truncate(out, other);
+    two_numbers(cut.map(|(n, next)| (n, next.at)))
 }
 
 pub fn board_write_u8(out: &mut [u8], at: usize, byte: u8) -> Got

@@ -5,7 +5,8 @@ ghost use Rattle.addresses.specs.Address.{kind_of, address_of};
 ghost use Rattle.addresses.specs.Filter.{matches_of, adv_filter_of, may_scan, may_connect, should_scan};
 ghost use Rattle.addresses.specs.declared.filter.AddressFilter.TheVariants.{Whitelist};
 ghost use Rattle.answers.specs.Given.{filter_for};
-ghost use Rattle.basics.specs.Filters.{matches_got, scan_filter_of};
+ghost use Rattle.answers.specs.Got.{flag_got};
+ghost use Rattle.basics.specs.Filters.{scan_filter_of};
 
 use answers::got::Got;
 use basics::filters;
@@ -13,7 +14,7 @@ use basics::filters;
 // Whether a list holds an address.
 #[unsafe(no_mangle)]
 pub extern "C" fn board_whitelist(list: &[u8], octets: &[u8; 6], random: bool) -> Got
-    ensures { result ≡ matches_got (matches_of Whitelist list.now (address_of octets.now (kind_of random))) }
+    ensures { result ≡ flag_got (matches_of Whitelist list.now (address_of octets.now (kind_of random))) }
 {
     filters::board_whitelist(list, octets, random)
 }
@@ -27,7 +28,7 @@ pub extern "C" fn board_may_scan(
     octets: &[u8; 6],
     random: bool,
 ) -> Got
-    ensures { result ≡ matches_got (may_scan (adv_filter_of (filter_for scan) (filter_for connect)) list.now (address_of octets.now (kind_of random))) }
+    ensures { result ≡ flag_got (may_scan (adv_filter_of (filter_for scan) (filter_for connect)) list.now (address_of octets.now (kind_of random))) }
 {
     filters::board_may_scan(scan, connect, list, octets, random)
 }
@@ -40,7 +41,7 @@ pub extern "C" fn board_may_connect(
     octets: &[u8; 6],
     random: bool,
 ) -> Got
-    ensures { result ≡ matches_got (may_connect (adv_filter_of (filter_for scan) (filter_for connect)) list.now (address_of octets.now (kind_of random))) }
+    ensures { result ≡ flag_got (may_connect (adv_filter_of (filter_for scan) (filter_for connect)) list.now (address_of octets.now (kind_of random))) }
 {
     filters::board_may_connect(scan, connect, list, octets, random)
 }
@@ -48,7 +49,7 @@ pub extern "C" fn board_may_connect(
 // Whether a scanner hears an address, where the list is in use or not.
 #[unsafe(no_mangle)]
 pub extern "C" fn board_should_scan(scan: bool, list: &[u8], octets: &[u8; 6], random: bool) -> Got
-    ensures { result ≡ matches_got (should_scan (scan_filter_of (filter_for scan)) list.now (address_of octets.now (kind_of random))) }
+    ensures { result ≡ flag_got (should_scan (scan_filter_of (filter_for scan)) list.now (address_of octets.now (kind_of random))) }
 {
     filters::board_should_scan(scan, list, octets, random)
 }

@@ -6,7 +6,8 @@ ghost use Rattle.octets.specs.Uuid.{full_uuid};
 ghost use Rattle.channels.specs.Hop.{hopped};
 ghost use Rattle.channels.specs.Map.{from_raw, all_channels, is_used, by_index};
 ghost use Rattle.channels.specs.Phy.{new_channel};
-ghost use Rattle.basics.specs.Leaves.{advertising_channel, channel_after, data_channel, found_got, used_got, hop_got};
+ghost use Rattle.answers.specs.Got.{flag_got};
+ghost use Rattle.basics.specs.Leaves.{advertising_channel, channel_after, data_channel, found_got, hop_got};
 
 use answers::got::Got;
 use basics::leaves;
@@ -79,7 +80,7 @@ pub extern "C" fn board_all_channels() -> Map
 
 #[unsafe(no_mangle)]
 pub extern "C" fn board_is_used(raw: &[u8; 5], channel: u8) -> Got
-    ensures { result ≡ used_got (is_used (from_raw raw.now) channel) }
+    ensures { result ≡ flag_got (is_used (from_raw raw.now) channel) }
 {
     leaves::board_is_used(raw, channel)
 }

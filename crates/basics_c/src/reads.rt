@@ -1,8 +1,8 @@
 // Octets read at a position, which may lie past the end.
 ghost use Rattle.std.specs.Prelude.{◌≡◌, length};
-ghost use Rattle.octets.specs.Bytes.{left_from, is_spent, skip_to, u8_read, u16_read, u32_read, slice_read, filled, array_read};
+ghost use Rattle.octets.specs.Bytes.{left_from, is_spent, skip_to, u8_read, u16_read, u32_read, slice_read, filled, array_from};
 ghost use Rattle.answers.specs.Got.{passed_got};
-ghost use Rattle.basics.specs.Reads.{left_got, u8_got, u16_got, u32_got, part_said, five_said, six_said};
+ghost use Rattle.basics.specs.Reads.{left_got, value_got, part_said, five_said, six_said};
 
 use answers::got::Got;
 use basics::reads;
@@ -41,14 +41,14 @@ pub extern "C" fn board_read_into(s: &[u8], at: usize, dst: &mut [u8]) -> Got
 
 #[unsafe(no_mangle)]
 pub extern "C" fn board_read_array5(s: &[u8], at: usize) -> Five
-    ensures { result ≡ five_said (array_read 5 s.now at) (passed_got (skip_to 5 s.now at)) }
+    ensures { result ≡ five_said (array_from 5 s.now at) }
 {
     reads::board_read_array5(s, at)
 }
 
 #[unsafe(no_mangle)]
 pub extern "C" fn board_read_array6(s: &[u8], at: usize) -> Six
-    ensures { result ≡ six_said (array_read 6 s.now at) (passed_got (skip_to 6 s.now at)) }
+    ensures { result ≡ six_said (array_from 6 s.now at) }
 {
     reads::board_read_array6(s, at)
 }
@@ -56,21 +56,21 @@ pub extern "C" fn board_read_array6(s: &[u8], at: usize) -> Six
 // A number, and the position after it.
 #[unsafe(no_mangle)]
 pub extern "C" fn board_read_u8(s: &[u8], at: usize) -> Got
-    ensures { result ≡ u8_got (u8_read s.now at) }
+    ensures { result ≡ value_got (u8_read s.now at) }
 {
     reads::board_read_u8(s, at)
 }
 
 #[unsafe(no_mangle)]
 pub extern "C" fn board_read_u16_le(s: &[u8], at: usize) -> Got
-    ensures { result ≡ u16_got (u16_read s.now at) }
+    ensures { result ≡ value_got (u16_read s.now at) }
 {
     reads::board_read_u16_le(s, at)
 }
 
 #[unsafe(no_mangle)]
 pub extern "C" fn board_read_u32_le(s: &[u8], at: usize) -> Got
-    ensures { result ≡ u32_got (u32_read s.now at) }
+    ensures { result ≡ value_got (u32_read s.now at) }
 {
     reads::board_read_u32_le(s, at)
 }

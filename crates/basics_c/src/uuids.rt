@@ -1,8 +1,8 @@
 // UUIDs read and written at a position.
 ghost use Rattle.std.specs.Prelude.{◌≡◌};
-ghost use Rattle.octets.specs.Bytes.{skip_to, u16_read, u32_read, array_read, le_bytes, write_to, out_after};
-ghost use Rattle.octets.specs.Uuid.{uuid16_from, uuid32_from};
-ghost use Rattle.answers.specs.Got.{written_got, passed_got};
+ghost use Rattle.octets.specs.Bytes.{u16_read, u32_read, array_from, le_bytes, write_to, out_after};
+ghost use Rattle.octets.specs.Uuid.{uuid16_from, uuid32_from, uuid128_from};
+ghost use Rattle.answers.specs.Got.{written_got};
 ghost use Rattle.basics.specs.Uuids.{uuid16_got, uuid32_got, uuid_said};
 
 use answers::got::Got;
@@ -26,7 +26,7 @@ pub extern "C" fn board_read_uuid32(s: &[u8], at: usize) -> Got
 
 #[unsafe(no_mangle)]
 pub extern "C" fn board_read_uuid128(s: &[u8], at: usize) -> UuidRead
-    ensures { result ≡ uuid_said (array_read 16 s.now at) (passed_got (skip_to 16 s.now at)) }
+    ensures { result ≡ uuid_said (uuid128_from (array_from 16 s.now at)) }
 {
     uuids::board_read_uuid128(s, at)
 }

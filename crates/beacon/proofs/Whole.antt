@@ -1,10 +1,11 @@
 -- Reading beacons, scanners and what their calls return as records leaves nothing out (`whole`) and changes nothing that callers see (`as_it_is`). Assumes nothing.
-use mathlib.Core.Path.{refl, ap}
+use mathlib.Core.Path.{◌≡◌, refl, sym, ap, ◌∙◌}
+use Rattle.std.specs.Prelude.{Result, Ok, Err}
+use Rattle.octets.specs.declared.error.Error.{Error}
 use Rattle.beacon_spec.specs.State as spec
-use Rattle.beacon.specs.State.{Whole, AsItIs}
+use Rattle.beacon.specs.State.{made_step, Whole, AsItIs}
 use Rattle.beacon.specs.declared.beacon.Beacon.{Beacon}
 use Rattle.beacon.specs.declared.beacon.BeaconScanner.{BeaconScanner}
-use Rattle.beacon.specs.declared.beacon.Made.{Made}
 use Rattle.beacon.specs.declared.beacon.Scanned.{Scanned}
 use Rattle.beacon.specs.declared.beacon.Updated.{Updated}
 
@@ -12,8 +13,13 @@ use Rattle.beacon.specs.declared.beacon.Updated.{Updated}
 abbrev beacon_of : spec.Beacon → Beacon
 beacon_of b = record { pdu = b.pdu }
 
-abbrev made_of : spec.Made → Made
-made_of r = record { outcome = r.outcome; beacon = beacon_of r.beacon }
+abbrev made_of : Result spec.Beacon Error → Result Beacon Error
+made_of (Ok b) = Ok (beacon_of b)
+made_of (Err e) = Err e
+
+made_back : (r : Result Beacon Error) → made_of (made_step r) ≡ r
+made_back (Ok b) = refl
+made_back (Err e) = refl
 
 abbrev scanner_of : spec.BeaconScanner → BeaconScanner
 scanner_of s = record { filter = s.filter; interval = s.interval; channel = s.channel }
@@ -22,12 +28,12 @@ abbrev updated_of : spec.Updated → Updated
 updated_of r = record { scanner = scanner_of r.scanner; cmd = r.cmd }
 
 abbrev scanned_of : spec.Scanned → Scanned
-scanned_of r = record { report = r.report; sender = r.sender; adv_data = r.adv_data; taken = r.taken; channel = r.channel }
+scanned_of r = record { report = r.report; channel = r.channel }
 
 pub whole : Whole
 whole =
     record {
-      made = λ a b same. ap made_of same;
+      made = λ a b same. sym (made_back a) ∙ ap made_of same ∙ made_back b;
       beacon = λ a b same. ap beacon_of same;
       scanner = λ a b same. ap scanner_of same;
       updated = λ a b same. ap updated_of same;
@@ -35,15 +41,4 @@ whole =
     }
 
 pub as_it_is : AsItIs
-as_it_is =
-    record {
-      outcome = λ r. refl;
-      beacon = λ r. refl;
-      cmd = λ r. refl;
-      scanner = λ r. refl;
-      report = λ r. refl;
-      sender = λ r. refl;
-      place = λ r. refl;
-      taken = λ r. refl;
-      channel = λ r. refl;
-    }
+as_it_is = record { refusal = λ e. refl; beacon = λ b. refl; cmd = λ r. refl; scanner = λ r. refl; report = λ r. refl; area = λ x. refl; no_sighting = refl; no_report = λ e. refl; channel = λ r. refl }

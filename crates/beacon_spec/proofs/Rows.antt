@@ -1,7 +1,7 @@
 -- Document 01's row, heard by a scanner that accepts all: `row`; worked values: `examples`. Computed. Assumes nothing.
 use mathlib.Core.List.{flatten}
 use mathlib.Core.Path.{refl}
-use Rattle.addresses.specs.Address.{same_octets, same_address}
+use Rattle.addresses.specs.Address.{same_address}
 use Rattle.addresses.specs.Filter.{any, whitelisted}
 use Rattle.addresses.specs.Header.{pdu_type}
 use Rattle.advertising.specs.Pdu.{decode_by, by_type, undirected, with_area}
@@ -10,14 +10,14 @@ use Rattle.records_spec.specs.HubReading.{before_zero, unpadded, is_zeros, ended
 use Rattle.records_spec.specs.Record.{first, flags_read, data_read, up_to, record_read}
 use Rattle.flags.specs.Flags.{named}
 use Rattle.beacon_spec.specs.Laws.{run, BeaconRow, Examples}
-use Rattle.beacon_spec.specs.Scanner.{scanned}
+use Rattle.beacon_spec.specs.Scanner.{sighted, scanned}
 
 pub row : BeaconRow
-unfolding scanned decode_by by_type undirected with_area pdu_type read_padded ended_by is_zeros unpadded before_zero area_in flatten read_area area_of reads with_first cut first record_read data_read flags_read up_to named
+unfolding scanned sighted decode_by by_type undirected with_area pdu_type read_padded ended_by is_zeros unpadded before_zero area_in flatten read_area area_of reads with_first cut first record_read data_read flags_read up_to named
 row = record { row_42_09 = λ list. refl; records = refl }
 
 pub examples : Examples
-unfolding run scanned whitelisted any same_address same_octets decode_by by_type undirected with_area pdu_type read_padded ended_by is_zeros unpadded before_zero area_in flatten read_area area_of reads with_first cut first record_read data_read flags_read up_to named
+unfolding run scanned sighted whitelisted any same_address decode_by by_type undirected with_area pdu_type read_padded ended_by is_zeros unpadded before_zero area_in flatten read_area area_of reads with_first cut first record_read data_read flags_read up_to named
 examples =
     record {
       lists = refl;

@@ -1,12 +1,11 @@
 -- A run of a scanner's calls follows the cycle from 37 on: `scanning`; and so does a new scanner: `new_scanner`. Assumes nothing.
-use mathlib.Core.Bool.{Bool, true, false, cond, ◌&&◌}
+use mathlib.Core.Bool.{Bool}
 use mathlib.Core.List.{List}
 use mathlib.Core.Path.{◌≡◌, refl, ap, ◌∙◌}
 use Prim.Native.Nat.{ℕ, zero, suc, ◌+◌}
 use native.Mathlib.Omega.{arith}
 use lib.Dec.{eqb}
 use Rattle.octets.specs.Time.{later}
-use Rattle.octets.specs.declared.error.Error.TheVariants.{InvalidValue}
 use Rattle.octets.specs.declared.time.Instant.{Instant}
 use Rattle.channels.specs.Laws.{cycles}
 use Rattle.channels.specs.Phy.{index_of, first_channel}
@@ -15,23 +14,14 @@ use Rattle.channels.proofs.Counting.{count_ext}
 use Rattle.channels.proofs.Cycles.{once_each, cycles_add}
 use Rattle.addresses.specs.declared.filter.AddressFilter.{AddressFilter}
 use Rattle.addresses.specs.declared.header.Header.{Header}
-use Rattle.advertising.specs.Pdu.{heard_of, padded_of}
 use Rattle.beacon_spec.specs.Laws.{run, NewScanner, Scanning}
-use Rattle.beacon_spec.specs.Scanner.{scanner_of, timer_updated, is_list_for, passes, is_beacon_packet, report_of, unreported, scanned}
+use Rattle.beacon_spec.specs.Scanner.{scanner_of, timer_updated, scanned}
 use Rattle.beacon_spec.specs.State.{BeaconScanner}
-use Rattle.beacon_spec.specs.declared.beacon.Report.TheVariants as report
 
 -- a packet leaves the channel
 channel_kept : (s : BeaconScanner) (h : Header) (p : List ℕ) (crcOk : Bool) (list : List ℕ) → (scanned s h p crcOk list).channel ≡ s.channel
 unfolding scanned
-channel_kept s h p crcOk list = go (is_list_for s.filter.scan list) (is_beacon_packet h p crcOk && passes s.filter.scan list (heard_of h p).pdu.sender)
-  where
-    go : (l t : Bool)
-        → (cond l (cond t (report_of s.channel (padded_of h p)) (unreported report.Nothing s.channel)) (unreported (report.Refused InvalidValue) s.channel)).channel
-        ≡ s.channel
-    go true true = refl
-    go true false = refl
-    go false t = refl
+channel_kept s h p crcOk list = refl
 
 pub new_scanner : (f : AddressFilter) → NewScanner f
 new_scanner f =

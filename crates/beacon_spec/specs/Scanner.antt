@@ -6,33 +6,29 @@
 --   is_list_for f list            == the filter f has its list, or needs none
 --   passes f list a             == the filter f passes the address a; is_pass m: an answer of a filter that says so
 --   is_type2 h                   == a header of type 2
---   is_beacon_packet h p crcOk    == all checks save the filter
---   report_of c x                == the report of a PDU and the octets that its records took, with the channel c
---   unreported r c              == an answer that reports no PDU
---   of_padded c x                == what is reported of a decoded packet, by its outcome alone
---   unfiltered c h p crcOk      == what is reported by all checks save the filter
+--   sighting_of d taken          == what is told of a beacon's PDU, and of the octets that its records took; sighting_in x: of what was decoded
+--   sighted h p crcOk            == what is told of a packet by all checks save the filter
+--   let_through f list x         == what the filter f, with its list, leaves of that
 --   scanned s h p crcOk list    == what `process_adv_packet` answers
 --   report_number r              == document 01's number of a report, 0 where it is no refusal; is_report r: a beacon is reported
-use Rattle.std.specs.Prelude.{Bool, true, false, cond, ◌&&◌, List, ℕ, eqb}
-use Rattle.octets.specs.Error.{number_of, is_accepted}
+use Rattle.std.specs.Prelude.{Bool, true, false, cond, ◌&&◌, List, ℕ, eqb, Option, Some, None, Result, Ok, Err}
+use Rattle.std.specs.Bool.{then_some}
+use Rattle.octets.specs.Error.{number_of}
 use Rattle.octets.specs.Time.{later}
+use Rattle.octets.specs.declared.error.Error.{Error}
 use Rattle.octets.specs.declared.error.Error.TheVariants.{InvalidValue}
 use Rattle.octets.specs.declared.time.Instant.{Instant}
 use Rattle.channels.specs.Phy.{first_channel, cycled}
-use Rattle.channels.specs.declared.phy.AdvertisingChannel.{AdvertisingChannel}
 use Rattle.addresses.specs.Filter.{is_list, matches_of}
 use Rattle.addresses.specs.Header.{header_bits}
 use Rattle.addresses.specs.declared.device_address.DeviceAddress.{DeviceAddress}
 use Rattle.addresses.specs.declared.filter.AddressFilter.{AddressFilter}
 use Rattle.addresses.specs.declared.filter.AddressFilter.TheVariants.{AllowAll, Whitelist}
-use Rattle.addresses.specs.declared.filter.Matches.{Matches}
-use Rattle.addresses.specs.declared.filter.Matches.TheVariants as matches
 use Rattle.addresses.specs.declared.header.Header.{Header}
-use Rattle.advertising.specs.Pdu.{no_address, no_data, heard_of, padded_of}
-use Rattle.advertising.specs.declared.pdu.Padded.{Padded}
-use Rattle.beacon_spec.specs.State.{BeaconScanner, Scanned, Updated}
-use Rattle.beacon_spec.specs.declared.beacon.Report.{Report}
-use Rattle.beacon_spec.specs.declared.beacon.Report.TheVariants as report
+use Rattle.advertising.specs.Pdu.{padded_of}
+use Rattle.advertising.specs.declared.pdu.Pdu.{Pdu}
+use Rattle.beacon_spec.specs.State.{BeaconScanner, Report, Scanned, Updated}
+use Rattle.beacon_spec.specs.declared.beacon.Sighting.{Sighting}
 
 abbrev pub scanner_of : AddressFilter → BeaconScanner
 scanner_of f = record { filter = record { scan = f }; interval = 0; channel = first_channel }
@@ -58,9 +54,9 @@ abbrev pub is_list_for : AddressFilter → List ℕ → Bool
 is_list_for AllowAll list = true
 is_list_for Whitelist list = is_list list
 
-abbrev pub is_pass : Matches → Bool
-is_pass (matches.Is b) = b
-is_pass (matches.Refused e) = false
+abbrev pub is_pass : Result Bool Error → Bool
+is_pass (Ok b) = b
+is_pass (Err e) = false
 
 abbrev pub passes : AddressFilter → List ℕ → DeviceAddress → Bool
 passes f list a = is_pass (matches_of f list a)
@@ -68,38 +64,35 @@ passes f list a = is_pass (matches_of f list a)
 abbrev pub is_type2 : Header → Bool
 is_type2 h = eqb (header_bits 0 4 h) 2
 
+-- the sender, the whole record area and the octets taken
+abbrev pub sighting_of : Pdu → ℕ → Sighting
+sighting_of d taken = record { sender = d.sender; adv_data = d.adv_data; taken = taken }
+
+abbrev pub sighting_in : Result (Pdu × ℕ) Error → Option Sighting
+sighting_in (Ok (d, taken)) = Some (sighting_of d taken)
+sighting_in (Err e) = None
+
 -- "Checks of the scanner: CRC, type 2, decoding, filter."
-abbrev pub is_beacon_packet : Header → List ℕ → Bool → Bool
-is_beacon_packet h p crcOk = crcOk && (is_type2 h && is_accepted (heard_of h p).outcome)
+unfoldable pub sighted : Header → List ℕ → Bool → Option Sighting
+sighted h p crcOk = cond (crcOk && is_type2 h) (sighting_in (padded_of h p)) None
 
--- the sender, the whole record area and the octets taken; blank where nothing is reported
-abbrev pub report_of : AdvertisingChannel → Padded → Scanned
-report_of c x = record { report = report.Beacon; sender = x.decoded.pdu.sender; adv_data = x.decoded.pdu.adv_data; taken = x.taken; channel = c }
-
-abbrev pub unreported : Report → AdvertisingChannel → Scanned
-unreported r c = record { report = r; sender = no_address; adv_data = no_data; taken = 0; channel = c }
-
-abbrev pub of_padded : AdvertisingChannel → Padded → Scanned
-of_padded c x = cond (is_accepted x.decoded.outcome) (report_of c x) (unreported report.Nothing c)
-
-unfoldable pub unfiltered : AdvertisingChannel → Header → List ℕ → Bool → Scanned
-unfiltered c h p crcOk = cond (is_beacon_packet h p crcOk) (report_of c (padded_of h p)) (unreported report.Nothing c)
+abbrev pub let_through : AddressFilter → List ℕ → Option Sighting → Option Sighting
+let_through f list (Some x) = then_some (passes f list x.sender) x
+let_through f list None = None
 
 -- "All passing, the sender and record area are reported; else nothing is."; the filter list comes first, and is refused 3 whatever the packet
 unfoldable pub scanned : BeaconScanner → Header → List ℕ → Bool → List ℕ → Scanned
 scanned s h p crcOk list =
-    cond (is_list_for s.filter.scan list)
-    (cond (is_beacon_packet h p crcOk && passes s.filter.scan list (heard_of h p).pdu.sender)
-    (report_of s.channel (padded_of h p))
-    (unreported report.Nothing s.channel))
-    (unreported (report.Refused InvalidValue) s.channel)
+    record {
+      report = cond (is_list_for s.filter.scan list) (Ok (let_through s.filter.scan list (sighted h p crcOk))) (Err InvalidValue);
+      channel = s.channel;
+    }
 
 abbrev pub report_number : Report → ℕ
-report_number report.Beacon = 0
-report_number report.Nothing = 0
-report_number (report.Refused e) = number_of e
+report_number (Ok x) = 0
+report_number (Err e) = number_of e
 
 abbrev pub is_report : Report → Bool
-is_report report.Beacon = true
-is_report report.Nothing = false
-is_report (report.Refused e) = false
+is_report (Ok (Some x)) = true
+is_report (Ok None) = false
+is_report (Err e) = false

@@ -1,30 +1,26 @@
 -- What making and sending a beacon answers (document 01, beacon.rs): one type 2 PDU, its payload written once, its header transmitted on 37, 38 and 39.
+--   beacon_in p          == the beacon of a PDU that was built, or the refusal
 --   beacon_of a s        == what `Beacon::new` answers
---   broadcast_of b tx    == what `broadcast` answers, and broadcast_number r document 01's number of it
-use Rattle.std.specs.Prelude.{cond, List, [], ℕ, length}
+--   broadcast_of b tx    == what `broadcast` answers: the header, and the channels to transmit it on in turn
+use Rattle.std.specs.Prelude.{cond, List, ℕ, length, Result, Ok, Err}
 use Rattle.octets.specs.Bytes.{has}
-use Rattle.octets.specs.Error.{number_of, is_accepted}
+use Rattle.octets.specs.declared.error.Error.{Error}
 use Rattle.octets.specs.declared.error.Error.TheVariants.{Eof}
 use Rattle.channels.specs.Phy.{ascending}
+use Rattle.channels.specs.declared.phy.AdvertisingChannel.{AdvertisingChannel}
 use Rattle.addresses.specs.declared.device_address.DeviceAddress.{DeviceAddress}
+use Rattle.addresses.specs.declared.header.Header.{Header}
 use Rattle.advertising.specs.PduBuf.{beacon_pdu, payload_of}
-use Rattle.beacon_spec.specs.State.{Beacon, Made}
-use Rattle.beacon_spec.specs.declared.beacon.Broadcast.{Broadcast}
-use Rattle.beacon_spec.specs.declared.beacon.Broadcast.TheVariants as broadcast
+use Rattle.advertising.specs.declared.pdu_buf.PduBuf.{PduBuf}
+use Rattle.beacon_spec.specs.State.{Beacon}
 
--- the beacon of an address and records; after a refusal the one without records, so that whatever can be sent is type 2
-abbrev pub beacon_of : DeviceAddress → List ℕ → Made
-beacon_of a s =
-    record {
-      outcome = (beacon_pdu a s).outcome;
-      beacon = record { pdu = cond (is_accepted (beacon_pdu a s).outcome) (beacon_pdu a s).pdu (beacon_pdu a []).pdu };
-    }
+abbrev pub beacon_in : Result PduBuf Error → Result Beacon Error
+beacon_in (Ok p) = Ok (record { pdu = p })
+beacon_in (Err e) = Err e
+
+abbrev pub beacon_of : DeviceAddress → List ℕ → Result Beacon Error
+beacon_of a s = beacon_in (beacon_pdu a s)
 
 -- document 01: a transmit buffer shorter than the payload is 1
-abbrev pub broadcast_of : Beacon → List ℕ → Broadcast
-broadcast_of b tx = cond (has (length (payload_of b.pdu)) tx 0) (broadcast.Transmit b.pdu.header ascending) (broadcast.Refused Eof)
-
--- document 01's number of an answer, 0 where it is no refusal
-abbrev pub broadcast_number : Broadcast → ℕ
-broadcast_number (broadcast.Transmit h channels) = 0
-broadcast_number (broadcast.Refused e) = number_of e
+abbrev pub broadcast_of : Beacon → List ℕ → Result (Header × List AdvertisingChannel) Error
+broadcast_of b tx = cond (has (length (payload_of b.pdu)) tx 0) (Ok (b.pdu.header, ascending)) (Err Eof)

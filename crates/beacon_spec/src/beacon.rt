@@ -1,16 +1,10 @@
-// What is sent of a beacon, what the radio is to do for a scanner, and what a scanner says of a packet. Beacon and scanner themselves are in `beacon`, read as
-// the records of specs/State.antt.
-use addresses::header::Header;
-use channels::phy::{AdvertisingChannel, AllChannels};
+// What the radio is to do for a scanner, and what a scanner tells of a beacon. Beacon and scanner themselves are in `beacon`, read as the records of
+// specs/State.antt.
+use addresses::device_address::DeviceAddress;
+use advertising::pdu::AdvData;
+use channels::phy::AdvertisingChannel;
 use octets::error::Error;
 use octets::time::Instant;
-
-// What is transmitted of a beacon: its header, on each channel in turn, with the payload that was written once. Or why nothing is.
-#[derive(Clone, Copy)]
-pub enum Broadcast {
-    Transmit(Header, AllChannels),
-    Refused(Error),
-}
 
 // What the radio is to do: listen on a channel, until `timer_update` is called at the next instant.
 #[derive(Clone, Copy)]
@@ -19,10 +13,13 @@ pub struct Cmd {
     pub next_update: Instant,
 }
 
-// Whether a packet is reported, or the refusal of a malformed filter list.
+// A beacon that was heard: its sender, where its record area lies in the payload, and how many octets of it the records took.
 #[derive(Clone, Copy)]
-pub enum Report {
-    Beacon,
-    Nothing,
-    Refused(Error),
+pub struct Sighting {
+    pub sender: DeviceAddress,
+    pub adv_data: AdvData,
+    pub taken: usize,
 }
+
+// A beacon that was heard, or none; or the refusal of a malformed filter list.
+pub type Report = Result<Option<Sighting>, Error>;

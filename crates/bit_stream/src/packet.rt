@@ -5,11 +5,11 @@ ghost use Rattle.whitening.specs.Crc.{crc_of, crc_octets};
 ghost use Rattle.whitening.specs.Packet.{whiten_of, whiten_after, flag_of};
 ghost use Rattle.bit_stream.specs.Said.{flag_said};
 
-use octets::error::Outcome;
+use octets::error::outcome_number;
 use whitening::crc::{crc, crc_octets};
-use whitening::packet::{Flag, crc_flag, whiten};
+use whitening::packet::{crc_flag, whiten};
 
-// Whether the CRC is right; `number` is that of a refusal, or 0.
+// For C: whether the CRC is right; `number` is that of a refusal, or 0.
 #[repr(C)]
 #[derive(Clone, Copy)]
 pub struct FlagSaid {
@@ -17,7 +17,7 @@ pub struct FlagSaid {
     pub good: bool,
 }
 
-// Three octets to append.
+// For C: three octets to append.
 #[repr(C)]
 #[derive(Clone, Copy)]
 pub struct CrcOctets {
@@ -28,10 +28,7 @@ pub struct CrcOctets {
 pub fn board_whiten(channel: u8, packet: &mut [u8]) -> u8
     ensures { (result ≡ outcome_number (whiten_of channel packet.old)) × (packet.new ≡ whiten_after channel packet.old) }
 {
-    match whiten(channel, packet) {
-        Outcome::Accepted => 0,
-        Outcome::Refused(e) => e.number(),
-    }
+    outcome_number(whiten(channel, packet))
 }
 
 pub fn board_crc(start: u32, octets: &[u8]) -> u32
@@ -52,8 +49,8 @@ pub fn board_crc_flag(channel: u8, start: u32, packet: &[u8]) -> FlagSaid
     ensures { result ≡ flag_said (flag_of channel start packet.now) }
 {
     match crc_flag(channel, start, packet) {
-        Flag::Is(good) => FlagSaid { number: 0, good },
-        Flag::Refused(e) => FlagSaid {
+        Ok(good) => FlagSaid { number: 0, good },
+        Err(e) => FlagSaid {
             number: e.number(),
             good: false,
         },

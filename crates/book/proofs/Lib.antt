@@ -1,4 +1,3 @@
 pub mod Whole
 pub mod Seats
 pub mod Heard
-pub mod Progress

@@ -1,18 +1,15 @@
--- The seat of an address, and what is read at a seat's place of an array. Assumes nothing.
-use mathlib.Core.Path.{◌≡◌, refl, sym, ap, ◌∙◌}
+-- What is read at a seat's place of an array. Assumes nothing.
+use mathlib.Core.Path.{◌≡◌, refl, sym, ◌∙◌}
 use mathlib.Core.Bool.{Bool, true, false, cond}
 use mathlib.Core.List.{List, [], ◌∷◌, map}
 use Prim.Native.Nat.{ℕ, zero, suc, ◌+◌, ◌-◌, ◌≤◌, ◌<◌}
 use native.Mathlib.Omega.{arith}
-use native.Mathlib.Numerals.{add-one}
 use lib.Dec.{eqb, ltb, leb}
-use lib.ListN.{length, get_or, set, take, drop, replicate, length-map, length-take, drop_of_length-le}
-use lib.Seq.{drop-cons, get_or-take}
-use borrow.Author.Tests.{eqb-false, ltb-false, leb-true, eq-eqb, ne_eqb, lt-ltb, le-ltb}
-use Rattle.addresses.specs.Address.{same_address}
+use lib.ListN.{length, get_or, set, replicate, length-map}
+use borrow.Author.Tests.{eqb-false, ltb-false, leb-true, eq-eqb, ne_eqb, le-ltb}
 use Rattle.addresses.specs.declared.device_address.AddressKind.TheVariants.{Public}
 use Rattle.addresses.specs.declared.device_address.DeviceAddress.{DeviceAddress}
-use Rattle.book_spec.specs.Book.{seat_number_from, is_filled, kept_at, with_open}
+use Rattle.book_spec.specs.Book.{is_filled, kept_at, with_open}
 use Rattle.book_spec.specs.Moves.{no_move}
 use Rattle.book_spec.specs.State.{Book}
 use Rattle.book_spec.specs.declared.Move.{Move}
@@ -74,38 +71,20 @@ seat_with m a b =
       closed = set b.closed b.filled m;
     }
 
--- ---- the seat of an address among the first f, from place i on
-module _ (a : DeviceAddress) (l : List DeviceAddress) (f i : ℕ) where
-  seat_at : (d : DeviceAddress) → i < f → i < length l → drop i (take f l) ≡ get_or l i d ∷ drop (i + 1) (take f l)
-  seat_at d p q =
-      rw add-one
-      (drop-cons (take f l) i d (omega (arith, length-take f l)) ∙ ap (λ (x : DeviceAddress). x ∷ drop (suc i) (take f l)) (get_or-take f l i d p))
-
-  pub seat_by : (d : DeviceAddress) → i < f → i < length l → {b t : Bool} → b ≡ same_address (get_or l i d) a → b ≡ t
-      → seat_number_from a i (drop i (take f l)) ≡ cond t (i + 1) (seat_number_from a (i + 1) (drop (i + 1) (take f l)))
-  unfolding seat_number_from
-  seat_by d p q test came = rw (seat_at d p q) (ap (λ (t : Bool). cond t (i + 1) (seat_number_from a (i + 1) (drop (i + 1) (take f l)))) (sym test ∙ came))
-
-  pub seat_none : length (take f l) ≤ i → seat_number_from a i (drop i (take f l)) ≡ 0
-  unfolding seat_number_from
-  seat_none p = rw (drop_of_length-le (take f l) p) refl
-
--- ---- a move that is to be kept
-module _ (m : Move) (b : Book) (n : ℕ) where
-  pub no_seat : n ≡ 0 → b ≡ kept_at n m b
+-- ---- a move that is to be kept: of a sender without a seat, and of one whose seat has the place `at`
+module _ (m : Move) (b : Book) where
+  pub no_seat : b ≡ kept_at 0 m b
   unfolding kept_at
-  no_seat is = rw (eq-eqb n 0 is)
+  no_seat = refl
 
-  module _ (some : n ≡ 0 → ⊥) where
-    pub past_all : 64 < n → b ≡ kept_at n m b
+  module _ (at : ℕ) (few : at < 64) (long : length b.kept ≡ 64) where
+    back : at + 1 - 1 ≡ at
+    back = omega arith
+
+    pub has_one : ((get_or b.kept at past_moves).len ≡ 0 → ⊥) → b ≡ kept_at (at + 1) m b
     unfolding kept_at
-    past_all past = rw (ne_eqb n 0 some, lt-ltb 64 n past)
+    has_one one = rw (ne_eqb (at + 1) 0 (omega arith), le-ltb 64 (at + 1) (omega arith), back, get_d_any b.kept at no_move past_moves (omega arith), ne_eqb (get_or b.kept at past_moves).len 0 one)
 
-    module _ (few : n ≤ 64) (long : length b.kept ≡ 64) where
-      pub has_one : ((get_or b.kept (n - 1) past_moves).len ≡ 0 → ⊥) → b ≡ kept_at n m b
-      unfolding kept_at
-      has_one one = rw (ne_eqb n 0 some, le-ltb 64 n few, at_place b.kept n no_move past_moves long (omega arith) few, ne_eqb (get_or b.kept (n - 1) past_moves).len 0 one)
-
-      pub first_one : (get_or b.kept (n - 1) past_moves).len ≡ 0 → with_open (n - 1) m b ≡ kept_at n m b
-      unfolding kept_at
-      first_one empty = rw (ne_eqb n 0 some, le-ltb 64 n few, at_place b.kept n no_move past_moves long (omega arith) few, eq-eqb (get_or b.kept (n - 1) past_moves).len 0 empty)
+    pub first_one : (get_or b.kept at past_moves).len ≡ 0 → with_open at m b ≡ kept_at (at + 1) m b
+    unfolding kept_at
+    first_one empty = rw (ne_eqb (at + 1) 0 (omega arith), le-ltb 64 (at + 1) (omega arith), back, get_d_any b.kept at no_move past_moves (omega arith), eq-eqb (get_or b.kept at past_moves).len 0 empty)

@@ -11,7 +11,7 @@ abbrev book_of : spec.Book → Book
 book_of b = record { company = b.company; turn = b.turn; filled = b.filled; addresses = b.addresses; kept = b.kept; closed = b.closed }
 
 abbrev seat_of : spec.SeatCalled → SeatCalled
-seat_of r = record { outcome = r.outcome; seat = r.seat; book = book_of r.book }
+seat_of r = record { seat = r.seat; book = book_of r.book }
 
 abbrev called_of : spec.BookCalled → BookCalled
 called_of r = record { outcome = r.outcome; book = book_of r.book }
@@ -20,4 +20,4 @@ pub whole : Whole
 whole = record { book = λ a b e. ap book_of e; seat = λ a b e. ap seat_of e; called = λ a b e. ap called_of e }
 
 pub as_it_is : AsItIs
-as_it_is = record { seat_outcome = λ r. refl; seat = λ r. refl; seat_book = λ r. refl; outcome = λ r. refl; book = λ r. refl }
+as_it_is = record { seat = λ r. refl; seat_book = λ r. refl; outcome = λ r. refl; book = λ r. refl }

@@ -1,16 +1,15 @@
 // The book and its calls. A book is handed from call to call; a refused call hands it on as it was.
-ghost use Rattle.std.specs.Prelude.{◌≡◌, ◌+◌, ◌≤◌, length, take};
-ghost use Rattle.records_spec.specs.declared.area.Found.TheVariants.{At};
+ghost use Rattle.std.specs.Prelude.{◌≡◌, ◌+◌, ◌≤◌, ◌<◌, length, take, IfSome, Some};
 ghost use Rattle.book_spec.specs.Moves.{heard_at};
-ghost use Rattle.book_spec.specs.Book.{fresh_book, empty_address, seat_number, is_filled, address_at, open_at, closed_at, not_seated, seat_call, taken, report_call, close_call, read_seat_call};
-ghost use Rattle.book.specs.State.{book_state, seat_step, book_step};
+ghost use Rattle.book_spec.specs.Book.{fresh_book, empty_address, seat_number, is_filled, open_at, closed_at, seat_call, taken, report_call, close_call, read_seat_call};
+ghost use Rattle.book.specs.State.{number_in, book_state, seat_step, book_step};
 
 use crate::moves::{find_move, move_of, no_move};
 use addresses::device_address::{AddressKind, DeviceAddress};
-use book_spec::{Move, SeatRead};
-use octets::bytes::u16_from_le_bytes;
-use octets::error::{Error, Outcome};
-use records::area::{Found, PaddedArea, read_padded_area};
+use book_spec::Move;
+use octets::bytes::{Part, u16_from_le_bytes};
+use octets::error::Error;
+use records::area::read_padded_area;
 
 const SEATS: usize = 64;
 
@@ -20,51 +19,42 @@ const LAST_TURN: u16 = 65535;
 pub struct Book {
     company: u16,
     turn: u16,
-    // How many seats are filled: seat n has place n - 1 of each array.
+    // How many seats are filled: seat n has place n - 1 of each array. By arrays: a close makes all kept moves the closed ones at once.
     filled: usize,
-    addresses: [DeviceAddress; 64],
-    kept: [Move; 64],
-    closed: [Move; 64],
+    addresses: [DeviceAddress; SEATS],
+    kept: [Move; SEATS],
+    closed: [Move; SEATS],
 }
 
-// What seating an address returns: the number of its seat, 0 where it was refused.
+// What seating an address returns: the number of its seat, or the refusal. The book stands beside it, since a refusal hands it back too.
 #[derive(Clone, Copy)]
 pub struct SeatCalled {
-    pub outcome: Outcome,
-    pub seat: usize,
+    pub seat: Result<usize, Error>,
     pub book: Book,
 }
 
 // What a report and a close return.
 #[derive(Clone, Copy)]
 pub struct BookCalled {
-    pub outcome: Outcome,
+    pub outcome: Result<(), Error>,
     pub book: Book,
 }
 
 fn no_address() -> DeviceAddress
     ensures { result ≡ empty_address }
 {
-    let bytes = [0u8; 6];
-    DeviceAddress::new(bytes, AddressKind::Public)
+    DeviceAddress::new([0; 6], AddressKind::Public)
 }
 
-// The number of the seat of an address, the first `filled` being filled; 0 where it has none. Not a method, since a call that is handed the whole book copies it.
-fn number_of(address: DeviceAddress, addresses: [DeviceAddress; 64], filled: usize) -> usize
-    ensures { result ≡ seat_number address (take filled addresses) }
+// The place of an address among the first `filled`. Not a method, since a call that is handed the whole book copies it.
+fn place_of(address: DeviceAddress, addresses: &[DeviceAddress], filled: usize) -> Option<usize>
+    ensures number { number_in result ≡ seat_number address (take filled addresses.now) }
+    ensures within { IfSome result (λ at. at < length addresses.now) }
 {
-    let mut i = 0;
-    while i < SEATS {
-        if filled <= i {
-            return 0;
-        }
-        let seated = addresses[i];
-        if seated.eq(address) {
-            return i + 1;
-        }
-        i += 1;
-    }
-    0
+    addresses
+        .iter()
+        .take(filled)
+        .position(|seated| *seated == address)
 }
 
 impl Book {
@@ -73,10 +63,10 @@ impl Book {
         ensures { book_state result ≡ fresh_book company }
     {
         let nobody = no_address();
-        let addresses = [nobody; 64];
+        let addresses = [nobody; SEATS];
         let nothing = no_move();
-        let kept = [nothing; 64];
-        let closed = [nothing; 64];
+        let kept = [nothing; SEATS];
+        let closed = [nothing; SEATS];
         Book {
             company,
             turn: 0,
@@ -90,36 +80,25 @@ impl Book {
     fn is_filled(self, n: usize) -> bool
         ensures { result ≡ is_filled (book_state self) n }
     {
-        if n == 0 {
-            return false;
-        }
-        if SEATS < n {
-            return false;
-        }
-        n <= self.filled
-    }
-
-    fn not_seated(self, e: Error) -> SeatCalled
-        ensures { seat_step result ≡ not_seated e (book_state self) }
-    {
-        SeatCalled {
-            outcome: Outcome::Refused(e),
-            seat: 0,
-            book: self,
-        }
+        (1..=SEATS).contains(&n) && n <= self.filled
     }
 
     // Fills the next seat with an address, which has no moves then.
     pub fn seat(self, address: DeviceAddress) -> SeatCalled
         ensures { seat_step result ≡ seat_call address (book_state self) }
     {
-        let addresses = self.addresses;
-        if number_of(address, addresses, self.filled) != 0 {
-            return self.not_seated(Error::AlreadySeated);
+        if place_of(address, &self.addresses, self.filled).is_some() {
+            return SeatCalled {
+                seat: Err(Error::AlreadySeated),
+                book: self,
+            };
         }
         let at = self.filled;
         if SEATS <= at {
-            return self.not_seated(Error::NoFreeSeat);
+            return SeatCalled {
+                seat: Err(Error::NoFreeSeat),
+                book: self,
+            };
         }
         let nothing = no_move();
         let mut book = self;
@@ -128,37 +107,28 @@ impl Book {
         book.closed[at] = nothing;
         book.filled = at + 1;
         SeatCalled {
-            outcome: Outcome::Accepted,
-            seat: at + 1,
+            seat: Ok(at + 1),
             book,
         }
     }
 
-    // Takes the move whose data are the `len` octets from `start` on: it is kept where its turn is the open one and the sender has a seat
-    // that has no move yet.
-    fn take(self, sender: DeviceAddress, area: &[u8], start: usize, len: usize) -> Book
-        requires { (5 ≤ len) × (len ≤ 24) × (start + len ≤ length area.now) }
-        ensures { book_state result ≡ taken sender (heard_at area.now (At start len)) (book_state self) }
+    // Takes the move whose data were found in the area: it is kept where its turn is the open one and the sender has a seat that has no move yet.
+    fn take(self, sender: DeviceAddress, area: &[u8], found: Part) -> Book
+        requires { (5 ≤ found.len) × (found.len ≤ 24) × (found.start + found.len ≤ length area.now) }
+        ensures { book_state result ≡ taken sender (heard_at area.now (Some found)) (book_state self) }
     {
-        let turn = u16_from_le_bytes(area[start + 2], area[start + 3]);
+        let turn = u16_from_le_bytes(area[found.start + 2], area[found.start + 3]);
         if turn != self.turn {
             return self;
         }
-        let addresses = self.addresses;
-        let n = number_of(sender, addresses, self.filled);
-        if n == 0 {
+        let Some(at) = place_of(sender, &self.addresses, self.filled) else {
+            return self;
+        };
+        if self.kept[at].len != 0 {
             return self;
         }
-        if SEATS < n {
-            return self;
-        }
-        let at = n - 1;
-        let old = self.kept[at];
-        if old.len != 0 {
-            return self;
-        }
-        let first = start + 4;
-        let end = start + len;
+        let first = found.start + 4;
+        let end = found.start + found.len;
         let played = move_of(&area[first..end]);
         let mut book = self;
         book.kept[at] = played;
@@ -171,18 +141,18 @@ impl Book {
         ensures { book_step result ≡ report_call sender area.now (book_state self) }
     {
         match read_padded_area(area) {
-            PaddedArea::Refused(e) => BookCalled {
-                outcome: Outcome::Refused(e),
+            Err(e) => BookCalled {
+                outcome: Err(e),
                 book: self,
             },
-            PaddedArea::Accepted(_, size) => match find_move(&area[..size], self.company) {
-                Found::Nothing => BookCalled {
-                    outcome: Outcome::Accepted,
+            Ok((_, size)) => match find_move(&area[..size], self.company) {
+                None => BookCalled {
+                    outcome: Ok(()),
                     book: self,
                 },
-                Found::At { start, len } => BookCalled {
-                    outcome: Outcome::Accepted,
-                    book: self.take(sender, area, start, len),
+                Some(found) => BookCalled {
+                    outcome: Ok(()),
+                    book: self.take(sender, area, found),
                 },
             },
         }
@@ -195,44 +165,37 @@ impl Book {
         let turn = self.turn;
         if turn == LAST_TURN {
             return BookCalled {
-                outcome: Outcome::Refused(Error::LastTurn),
+                outcome: Err(Error::LastTurn),
                 book: self,
             };
         }
         let nothing = no_move();
         let moves = self.kept;
-        let blank = [nothing; 64];
+        let blank = [nothing; SEATS];
         let mut book = self;
         book.closed = moves;
         book.kept = blank;
         book.turn = turn + 1;
         BookCalled {
-            outcome: Outcome::Accepted,
+            outcome: Ok(()),
             book,
         }
     }
 
-    fn address_at(self, n: usize) -> DeviceAddress
-        ensures { result ≡ address_at (book_state self) n }
+    // The address of seat n; none where it is not filled.
+    pub fn read_seat(self, n: usize) -> Option<DeviceAddress>
+        ensures { result ≡ read_seat_call n (book_state self) }
     {
         if self.is_filled(n) {
             let at = n - 1;
-            self.addresses[at]
+            Some(self.addresses[at])
         } else {
-            no_address()
+            None
         }
     }
 
-    // Whether seat n is filled, and its address.
-    pub fn read_seat(self, n: usize) -> SeatRead
-        ensures { result ≡ read_seat_call n (book_state self) }
-    {
-        let is_filled = self.is_filled(n);
-        let address = self.address_at(n);
-        SeatRead { is_filled, address }
-    }
-
     // The move of seat n in the open turn; none where the seat has none, or is not filled.
+    // The open move and the closed one are read alike, of two arrays: a function over both would be no shorter.
     pub fn open_move(self, n: usize) -> Move
         ensures { result ≡ open_at (book_state self) n }
     {

@@ -5,4 +5,4 @@ mod book;
 mod moves;
 
 pub use book::{Book, BookCalled, SeatCalled};
-pub use book_spec::{Move, SeatRead};
+pub use book_spec::Move;

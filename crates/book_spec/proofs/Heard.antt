@@ -7,8 +7,8 @@ use native.Mathlib.Omega.{arith}
 use Rattle.addresses.specs.declared.device_address.DeviceAddress.{DeviceAddress}
 use Rattle.records_spec.specs.HubReading.{unpadded}
 use Rattle.records_spec.specs.Search.{searched, IsRead, First, Told}
-use Rattle.records_spec.specs.declared.area.Found.{Found}
-use Rattle.records_spec.specs.declared.area.Found.TheVariants.{At, Nothing}
+use Rattle.std.specs.Prelude.{Option, Some, None}
+use Rattle.octets.specs.declared.bytes.Part.{Part}
 use Rattle.records_spec.proofs.Search.{searching}
 use Rattle.book_spec.specs.History.{report, BookStanding, BookEntry}
 use Rattle.book_spec.specs.Laws.{HearsMove}
@@ -38,9 +38,9 @@ found_first : (company : ℕ) (s : List ℕ) → IsRead s → (move_heard compan
 unfolding move_in heard_at
 found_first company s read = go (searched (is_move company) (unpadded s)) (searching s read (move_test company)).told
   where
-    go : (f : Found) → Told (MoveRecord company) s f → (heard_at s f).found ≡ true → FirstMove company s
-    go (At start len) told e = record { start = start; len = len; first = told }
-    go Nothing told e = clash e refl
+    go : (f : Option Part) → Told (MoveRecord company) s f → (heard_at s f).found ≡ true → FirstMove company s
+    go (Some at) told e = record { start = at.start; len = at.len; first = told }
+    go None told e = clash e refl
 
 module _ (company n t : ℕ) (st : BookStanding) (sender : DeviceAddress) (area : List ℕ) where
   pub counts : (m : Move) → Qualifies company n t (record { before = st; call = report sender area }) m → Counts company n t st sender area

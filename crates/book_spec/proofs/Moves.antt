@@ -13,7 +13,7 @@ use Rattle.octets.proofs.Places.{both_true}
 use Rattle.records_spec.specs.HubReading.{unpadded}
 use Rattle.records_spec.specs.Search.{searched, IsRead, First, Searching}
 use Rattle.records_spec.specs.Types.{manufacturer_type}
-use Rattle.records_spec.specs.declared.area.Found.TheVariants.{At}
+use Rattle.std.specs.Prelude.{Some}
 use Rattle.records_spec.proofs.Search.{searching}
 use Rattle.book_spec.specs.Laws.{MoveTest, HearsMove, MoveMade}
 use Rattle.book_spec.specs.Moves.{move_of, is_move, move_in, heard_at, number_at}
@@ -72,5 +72,5 @@ hears_move company s x =
     search : Searching (is_move company) (MoveRecord company) s
     search = searching s x (move_test company)
 
-    at : (start len : ℕ) → First (MoveRecord company) s start len → searched (is_move company) (unpadded s) ≡ At start len
+    at : (start len : ℕ) → First (MoveRecord company) s start len → searched (is_move company) (unpadded s) ≡ Some (record { start = start; len = len })
     at start len f = search.first start len f

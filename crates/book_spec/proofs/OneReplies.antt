@@ -4,7 +4,6 @@
 --   Earliest, KeptIs       give one move: `one_earliest`, `one_kept`
 use mathlib.Core.Path.{◌≡◌, refl, sym, ap, subst, ◌∙◌}
 use mathlib.Core.Logic.{◌⊎◌, inl, inr}
-use mathlib.Core.Bool.{true}
 use mathlib.Core.List.{List, [], ◌∷◌, ◌++◌, head-eq_of_cons-eq, tail-eq_of_cons-eq}
 use Prim.Native.Nat.{ℕ, ◌+◌, ◌-◌, ◌<◌}
 use native.Mathlib.Omega.{arith}
@@ -12,27 +11,26 @@ use lib.ListN.{length, get_or, length-append}
 use lib.Seq.{get_or_at}
 use Rattle.octets.specs.Bytes.{part}
 use Rattle.octets.specs.declared.error.Error.{Error}
-use Rattle.octets.specs.declared.error.Outcome.TheVariants.{Refused}
 use Rattle.addresses.specs.declared.device_address.DeviceAddress.{DeviceAddress}
 use Rattle.records_spec.specs.HubReading.{read_padded}
 use Rattle.records_spec.specs.Search.{IsRead}
-use Rattle.records_spec.specs.declared.area.PaddedArea.TheVariants as padded
 use Rattle.book_spec.specs.History.{BookCall, called, seat_is, move_is, standing, BookEntry, entries}
 use Rattle.book_spec.specs.Moves.{move_heard}
-use Rattle.book_spec.specs.TurnBook.{SeatIs, IsMoveOf, Qualifies, Unheard, KeptIs, empty_seat, OneReply}
+use Rattle.book_spec.specs.TurnBook.{SeatIs, IsMoveOf, Qualifies, Unheard, KeptIs, OneReply}
 use Rattle.book_spec.specs.TurnBook.KeptIs.{kept, none}
 use Rattle.book_spec.specs.TurnBook.Replies.{already, full, sits, bad_area, heard, last_turn, closed, filled_seat, empty_seat_law, open_move, closed_move, none_closed, open_turn, its_company}
 use Rattle.book_spec.specs.declared.Move.{Move}
 use Rattle.book_spec.proofs.Moves.{hears_move}
+use Rattle.std.specs.Prelude.{Err, Some}
 
 -- ---- seats
-seat_place : (n : ℕ) (a : DeviceAddress) (seats : List DeviceAddress) → SeatIs n a seats → get_or seats (n - 1) empty_seat ≡ a
-seat_place n a seats s =
+seat_place : (d : DeviceAddress) (n : ℕ) (a : DeviceAddress) (seats : List DeviceAddress) → SeatIs n a seats → get_or seats (n - 1) d ≡ a
+seat_place d n a seats s =
     let at : length s.earlier ≡ n - 1 = omega (arith, s.counted) in
-    ap (λ (l : List DeviceAddress). get_or l (n - 1) empty_seat) s.tile ∙ get_or_at s.earlier a s.later empty_seat (n - 1) at
+    ap (λ (l : List DeviceAddress). get_or l (n - 1) d) s.tile ∙ get_or_at s.earlier a s.later d (n - 1) at
 
 one_address : (n : ℕ) (a b : DeviceAddress) (seats : List DeviceAddress) → SeatIs n a seats → SeatIs n b seats → a ≡ b
-one_address n a b seats s t = sym (seat_place n a seats s) ∙ seat_place n b seats t
+one_address n a b seats s t = sym (seat_place a n a seats s) ∙ seat_place a n b seats t
 
 seat_inside : (n : ℕ) (a : DeviceAddress) (seats : List DeviceAddress) → SeatIs n a seats → (n ≡ 0) ⊎ (length seats < n) → ⊥
 seat_inside n a seats s (inl first) = omega (arith, s.counted, first)
@@ -78,7 +76,7 @@ module _ {P : BookEntry → Move → Type 0} (one : (e : BookEntry) (m k : Move)
   one_kept es _ _ (none unheard) (none also) = refl
 
 -- ---- replies
-not_both : (area : List ℕ) (e : Error) → read_padded area ≡ padded.Refused e → IsRead area → ⊥
+not_both : (area : List ℕ) (e : Error) → read_padded area ≡ Err e → IsRead area → ⊥
 not_both area e refused read =
     let is = read.accepted in
     let z : ◌≡◌ {A = ℕ} 0 1 = cc in
@@ -94,7 +92,7 @@ one_reply company before _ _ _ (full a free all) (sits _ _ room) = absurd (omega
 one_reply company before _ _ _ (sits a free room) (already _ s) = absurd (free s)
 one_reply company before _ _ _ (sits a free room) (full _ _ all) = absurd (omega (arith, all, room))
 one_reply company before _ _ _ (sits a free room) (sits _ _ _) = refl
-one_reply company before _ _ _ (bad_area sender area e is) (bad_area _ _ k also) = ap (λ (x : Error). called (Refused x)) (let same : e ≡ k = cc in same)
+one_reply company before _ _ _ (bad_area sender area e is) (bad_area _ _ k also) = ap (λ (x : Error). called (Err x)) (let same : e ≡ k = cc in same)
 one_reply company before _ _ _ (bad_area sender area e is) (heard _ _ read) = absurd (not_both area e is read)
 one_reply company before _ _ _ (heard sender area read) (bad_area _ _ e is) = absurd (not_both area e is read)
 one_reply company before _ _ _ (heard sender area read) (heard _ _ _) = refl
@@ -103,7 +101,7 @@ one_reply company before _ _ _ (last_turn is) (closed below) = absurd (omega (ar
 one_reply company before _ _ _ (closed below) (last_turn is) = absurd (omega (arith, is, below))
 one_reply company before _ _ _ (closed below) (closed _) = refl
 one_reply company before _ _ _ (filled_seat n a s) (filled_seat _ b t) =
-    ap (λ (x : DeviceAddress). seat_is (record { is_filled = true; address = x })) (one_address n a b (standing before).seats s t)
+    ap (λ (x : DeviceAddress). seat_is (Some x)) (one_address n a b (standing before).seats s t)
 one_reply company before _ _ _ (filled_seat n a s) (empty_seat_law _ outside) = absurd (seat_inside n a (standing before).seats s outside)
 one_reply company before _ _ _ (empty_seat_law n outside) (filled_seat _ a s) = absurd (seat_inside n a (standing before).seats s outside)
 one_reply company before _ _ _ (empty_seat_law n outside) (empty_seat_law _ _) = refl

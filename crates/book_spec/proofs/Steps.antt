@@ -12,12 +12,12 @@ use borrow.Author.Tests.{eqb-false, leb-false}
 use Rattle.addresses.specs.declared.device_address.DeviceAddress.{DeviceAddress}
 use Rattle.records_spec.specs.HubReading.{read_padded}
 use Rattle.records_spec.specs.Search.{IsRead}
-use Rattle.records_spec.specs.declared.area.PaddedArea.{PaddedArea}
-use Rattle.records_spec.specs.declared.area.PaddedArea.TheVariants as padded
 use Rattle.book_spec.specs.Book.{seats_of, seat_number, with_seat, seat_call, taken, heard_as, report_call, next_turn, close_call}
 use Rattle.book_spec.specs.History.{BookCall, seat, report, close, read_seat, read_open, read_closed, read_turn, read_company, next_book, BookStanding, standing_on}
 use Rattle.book_spec.specs.Moves.{move_heard}
 use Rattle.book_spec.specs.State.{Book}
+use Rattle.std.specs.Prelude.{Result, Ok, Err}
+use Rattle.octets.specs.declared.error.Error.{Error}
 
 -- a book of a company with a turn of 16 bits, whose lists have 64 elements and whose seats are among them
 pub record Fit (company : ℕ) (b : Book) : Type 0 where
@@ -79,9 +79,9 @@ module _ {company : ℕ} (b : Book) (fit : Fit company b) where
   unfolding report_call heard_as standing_on
   happens_report sender area = go (read_padded area) refl
     where
-      go : (p : PaddedArea) → read_padded area ≡ p → Happens b (report sender area)
-      go (padded.Accepted n size) f = hears sender area (record { number = n; taken = size; accepted = f }) (rw (f, next_book) refl)
-      go (padded.Refused k) f =
+      go : (p : Result (ℕ × ℕ) Error) → read_padded area ≡ p → Happens b (report sender area)
+      go (Ok (n, size)) f = hears sender area (record { number = n; taken = size; accepted = f }) (rw (f, next_book) refl)
+      go (Err k) f =
           quiet (report sender area) (rw (f, next_book) refl) refl
           (λ s l e read. absurd (let same : area ≡ l = cc in let is = read.accepted in let z : ◌≡◌ {A = ℕ} 0 1 = cc in omega arith))
 

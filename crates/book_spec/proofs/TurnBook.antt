@@ -10,12 +10,9 @@ use lib.ListN.{length, get_or, take, drop}
 use lib.Seq.{split_at, get_or-take, length-take-le}
 use borrow.Author.Tests.{eqb-true, eqb-false, leb-true, leb-false, ltb-true}
 use Rattle.octets.specs.declared.error.Error.TheVariants.{AlreadySeated, NoFreeSeat, LastTurn}
-use Rattle.octets.specs.declared.error.Outcome.TheVariants.{Accepted, Refused}
 use Rattle.addresses.specs.declared.device_address.DeviceAddress.{DeviceAddress}
 use Rattle.records_spec.specs.HubReading.{read_padded}
-use Rattle.records_spec.specs.declared.area.PaddedArea.{PaddedArea}
-use Rattle.records_spec.specs.declared.area.PaddedArea.TheVariants as padded
-use Rattle.book_spec.specs.Book.{empty_address, fresh_book, seats_of, seat_number, is_filled, address_at, open_at, closed_at, with_seat, not_seated, seat_call, heard_as, report_call, next_turn, close_call, read_seat_call}
+use Rattle.book_spec.specs.Book.{empty_address, fresh_book, seats_of, seat_number, is_filled, open_at, closed_at, with_seat, not_seated, seat_call, heard_as, report_call, next_turn, close_call, read_seat_call}
 use Rattle.book_spec.specs.History.{BookCall, seat, report, close, read_seat, read_open, read_closed, read_turn, read_company, BookReply, seated, called, seat_is, move_is, number_is, next_book, reply_of, book_after, BookStanding, standing, entries}
 use Rattle.book_spec.specs.Moves.{no_move, move_heard}
 use Rattle.book_spec.specs.State.{Book, SeatCalled, BookCalled}
@@ -23,10 +20,11 @@ use Rattle.book_spec.specs.TurnBook.{SeatIs, IsSeated, Qualifies, KeptIs, Replie
 use Rattle.book_spec.specs.TurnBook.Replies.{already, full, sits, bad_area, heard, last_turn, closed, filled_seat, empty_seat_law, open_move, closed_move, none_closed, open_turn, its_company}
 use Rattle.book_spec.specs.TurnBook.IsRefused.{seating, calling}
 use Rattle.book_spec.specs.declared.Move.{Move}
-use Rattle.book_spec.specs.declared.SeatRead.{SeatRead}
 use Rattle.book_spec.proofs.Agreed.{Agrees, Ran, ran}
 use Rattle.book_spec.proofs.Seats.{not_seated_law, seat_found}
 use Rattle.book_spec.proofs.Steps.{counted, standing_of}
+use Rattle.std.specs.Prelude.{Result, Ok, Err, Option, Some, None}
+use Rattle.octets.specs.declared.error.Error.{Error}
 
 -- the seat of a place
 seat_at : (seats : List DeviceAddress) (n : ℕ) (d : DeviceAddress) → 0 < n → n - 1 < length seats → SeatIs n (get_or seats (n - 1) d) seats
@@ -40,10 +38,10 @@ seat_at seats n d some inside =
 
 -- ---- what seating and closing return, by their tests
 abbrev seating_as : DeviceAddress → Book → Bool → Bool → SeatCalled
-seating_as a b free none_free = cond free (cond none_free (not_seated NoFreeSeat b) (record { outcome = Accepted; seat = b.filled + 1; book = with_seat a b })) (not_seated AlreadySeated b)
+seating_as a b free none_free = cond free (cond none_free (not_seated NoFreeSeat b) (record { seat = Ok (b.filled + 1); book = with_seat a b })) (not_seated AlreadySeated b)
 
 abbrev closing_as : Book → Bool → BookCalled
-closing_as b last = cond last (record { outcome = Refused LastTurn; book = b }) (record { outcome = Accepted; book = next_turn b })
+closing_as b last = cond last (record { outcome = (Err LastTurn); book = b }) (record { outcome = (Ok tt); book = next_turn b })
 
 -- ---- a reply, by what the list says
 module _ (company : ℕ) (before : List BookCall) (b : Book) (h : Agrees company (entries before) b) (stands : standing before ≡ standing_of b) where
@@ -63,21 +61,21 @@ module _ (company : ℕ) (before : List BookCall) (b : Book) (h : Agrees company
       nobody : eqb (seat_number a (seats_of b)) 0 ≡ true → IsSeated a (standing before).seats → ⊥
       nobody e is = not_seated_law (seats_of b) a (eqb-true (seat_number a (seats_of b)) 0 e) (subst (IsSeated a) seats is)
 
-      go : (x y : Bool) → eqb (seat_number a (seats_of b)) 0 ≡ x → leb 64 b.filled ≡ y → Replies company before (seat a) (seated (seating_as a b x y).outcome (seating_as a b x y).seat)
+      go : (x y : Bool) → eqb (seat_number a (seats_of b)) 0 ≡ x → leb 64 b.filled ≡ y → Replies company before (seat a) (seated (seating_as a b x y).seat)
       go false y e f =
           let some : seat_number a (seats_of b) ≡ 0 → ⊥ = eqb-false (seat_number a (seats_of b)) 0 e in
           already a (subst⁻¹ (IsSeated a) seats (record { number = seat_number a (seats_of b); seat = seat_found (seats_of b) a (seat_number a (seats_of b)) refl (omega arith) }))
       go true true e f = full a (nobody e) (omega (arith, count, h.fit.few, leb-true 64 b.filled f))
       go true false e f =
-          subst (λ (k : ℕ). Replies company before (seat a) (seated Accepted (k + 1))) count (sits a (nobody e) (omega (arith, count, leb-false 64 b.filled f)))
+          subst (λ (k : ℕ). Replies company before (seat a) (seated (Ok (k + 1)))) count (sits a (nobody e) (omega (arith, count, leb-false 64 b.filled f)))
 
   reply_report : (sender : DeviceAddress) (area : List ℕ) → Replies company before (report sender area) (reply_of b (report sender area))
   unfolding report_call heard_as
   reply_report sender area = go (read_padded area) refl
     where
-      go : (p : PaddedArea) → read_padded area ≡ p → Replies company before (report sender area) (called (heard_as p sender (move_heard b.company area) b).outcome)
-      go (padded.Accepted n size) e = heard sender area (record { number = n; taken = size; accepted = e })
-      go (padded.Refused k) e = bad_area sender area k e
+      go : (p : Result (ℕ × ℕ) Error) → read_padded area ≡ p → Replies company before (report sender area) (called (heard_as p sender (move_heard b.company area) b).outcome)
+      go (Ok (n, size)) e = heard sender area (record { number = n; taken = size; accepted = e })
+      go (Err k) e = bad_area sender area k e
 
   reply_close : Replies company before close (reply_of b close)
   unfolding close_call
@@ -88,11 +86,11 @@ module _ (company : ℕ) (before : List BookCall) (b : Book) (h : Agrees company
       go false e = let other : b.turn ≡ 65535 → ⊥ = eqb-false b.turn 65535 e in closed (omega (arith, turn, h.fit.turn))
 
   reply_seat_read : (n : ℕ) → Replies company before (read_seat n) (reply_of b (read_seat n))
-  unfolding read_seat_call address_at is_filled empty_address
+  unfolding read_seat_call is_filled empty_address
   reply_seat_read n = go (eqb n 0) (ltb 64 n) (leb n b.filled) refl refl refl
     where
-      read_as : Bool → SeatRead
-      read_as x = record { is_filled = x; address = cond x (get_or b.addresses (n - 1) empty_address) empty_address }
+      read_as : Bool → Option DeviceAddress
+      read_as x = cond x (Some (get_or b.addresses (n - 1) empty_address)) None
 
       go : (x y z : Bool) → eqb n 0 ≡ x → ltb 64 n ≡ y → leb n b.filled ≡ z → Replies company before (read_seat n) (seat_is (read_as (cond x false (cond y false z))))
       go true y z e f g = empty_seat_law n (inl (eqb-true n 0 e))
@@ -128,31 +126,31 @@ module _ (company : ℕ) (before : List BookCall) (b : Book) (h : Agrees company
 
 -- ---- a refused call leaves the book as it was
 abbrev refusals : BookReply → ℕ
-refusals (seated (Refused e) n) = 1
-refusals (seated Accepted n) = 0
-refusals (called (Refused e)) = 1
-refusals (called Accepted) = 0
+refusals (seated (Err e)) = 1
+refusals (seated (Ok n)) = 0
+refusals (called (Err e)) = 1
+refusals (called (Ok tt)) = 0
 refusals (seat_is r) = 0
 refusals (move_is m) = 0
 refusals (number_is n) = 0
 
 refused : {r : BookReply} → IsRefused r → refusals r ≡ 1
-refused (seating e n) = refl
+refused (seating e) = refl
 refused (calling e) = refl
 
 keeps : (b : Book) (c : BookCall) → IsRefused (reply_of b c) → next_book b c ≡ b
 unfolding seat_call report_call heard_as close_call
 keeps b (seat a) = go (eqb (seat_number a (seats_of b)) 0) (leb 64 b.filled)
   where
-    go : (x y : Bool) → IsRefused (seated (seating_as a b x y).outcome (seating_as a b x y).seat) → (seating_as a b x y).book ≡ b
+    go : (x y : Bool) → IsRefused (seated (seating_as a b x y).seat) → (seating_as a b x y).book ≡ b
     go false y r = refl
     go true true r = refl
     go true false r = absurd (omega (arith, refused r))
 keeps b (report sender area) = go (read_padded area)
   where
-    go : (p : PaddedArea) → IsRefused (called (heard_as p sender (move_heard b.company area) b).outcome) → (heard_as p sender (move_heard b.company area) b).book ≡ b
-    go (padded.Accepted n size) r = absurd (omega (arith, refused r))
-    go (padded.Refused k) r = refl
+    go : (p : Result (ℕ × ℕ) Error) → IsRefused (called (heard_as p sender (move_heard b.company area) b).outcome) → (heard_as p sender (move_heard b.company area) b).book ≡ b
+    go (Ok (n, size)) r = absurd (omega (arith, refused r))
+    go (Err k) r = refl
 keeps b close = go (eqb b.turn 65535)
   where
     go : (x : Bool) → IsRefused (called (closing_as b x).outcome) → (closing_as b x).book ≡ b

@@ -1,11 +1,11 @@
 -- What each call of the book answers, and the book after it (document 02, Note 8). specs/TurnBook says it in the Note's words, of every list of calls.
---   empty_address                     == what a seat that is not filled reads as
+--   empty_address                     == the address that a fresh book has at each place
 --   fresh_book company                 == a book with no seat filled, turn 0 open and no moves
 --   seats_of b                     == the addresses of the filled seats, seat 1 first
 --   seat_number_from a k seats          == the number of the first of these that is the address a, k seats being passed; 0 where none is
 --   seat_number a seats              == the same, none being passed
 --   is_filled b n                  == seat n is filled
---   address_at, open_at, closed_at b n   == the address of seat n, its open move and its closed move; none where it is not filled
+--   open_at, closed_at b n               == the open move of seat n, and its closed move; none where it is not filled
 --   with_seat a b                  == the next seat filled with the address a, without moves
 --   not_seated e b                 == what seating answers that is refused with e
 --   seat_call a b                  == WHAT SEATING an address answers
@@ -16,21 +16,17 @@
 --   report_call sender area b      == WHAT A REPORT answers
 --   next_turn b                    == the open moves are the closed ones, and the next turn is open without moves
 --   close_call b                   == WHAT CLOSING answers
---   read_seat_call n b              == WHAT READING a seat answers
-use Rattle.std.specs.Prelude.{Bool, false, cond, List, [], ◌∷◌, ℕ, ◌+◌, ◌-◌, eqb, ltb, leb, get_or, set, take, replicate}
+--   read_seat_call n b              == WHAT READING a seat answers: its address, none where it is not filled
+use Rattle.std.specs.Prelude.{Bool, false, cond, List, [], ◌∷◌, ℕ, ◌+◌, ◌-◌, eqb, ltb, leb, get_or, set, take, replicate, Result, Ok, Err, Option, Some, None}
 use Rattle.octets.specs.declared.error.Error.{Error}
 use Rattle.octets.specs.declared.error.Error.TheVariants.{AlreadySeated, NoFreeSeat, LastTurn}
-use Rattle.octets.specs.declared.error.Outcome.TheVariants.{Accepted, Refused}
 use Rattle.records_spec.specs.HubReading.{read_padded}
-use Rattle.records_spec.specs.declared.area.PaddedArea.{PaddedArea}
-use Rattle.records_spec.specs.declared.area.PaddedArea.TheVariants as padded
 use Rattle.addresses.specs.Address.{address_of, same_address}
 use Rattle.addresses.specs.declared.device_address.AddressKind.TheVariants.{Public}
 use Rattle.addresses.specs.declared.device_address.DeviceAddress.{DeviceAddress}
 use Rattle.book_spec.specs.Moves.{no_move, move_heard}
 use Rattle.book_spec.specs.State.{Book, SeatCalled, BookCalled, HeardMove}
 use Rattle.book_spec.specs.declared.Move.{Move}
-use Rattle.book_spec.specs.declared.SeatRead.{SeatRead}
 
 unfoldable pub empty_address : DeviceAddress
 empty_address = address_of (replicate 6 0) Public
@@ -56,9 +52,6 @@ seat_number a seats = seat_number_from a 0 seats
 unfoldable pub is_filled : Book → ℕ → Bool
 is_filled b n = cond (eqb n 0) false (cond (ltb 64 n) false (leb n b.filled))
 
-unfoldable pub address_at : Book → ℕ → DeviceAddress
-address_at b n = cond (is_filled b n) (get_or b.addresses (n - 1) empty_address) empty_address
-
 unfoldable pub open_at : Book → ℕ → Move
 open_at b n = cond (is_filled b n) (get_or b.kept (n - 1) no_move) no_move
 
@@ -77,13 +70,13 @@ with_seat a b =
     }
 
 abbrev pub not_seated : Error → Book → SeatCalled
-not_seated e b = record { outcome = Refused e; seat = 0; book = b }
+not_seated e b = record { seat = Err e; book = b }
 
 -- "13, address already seated; 14, no free seat; .. They are tested in this order."
 unfoldable pub seat_call : DeviceAddress → Book → SeatCalled
 seat_call a b =
     cond (eqb (seat_number a (seats_of b)) 0)
-    (cond (leb 64 b.filled) (not_seated NoFreeSeat b) (record { outcome = Accepted; seat = b.filled + 1; book = with_seat a b }))
+    (cond (leb 64 b.filled) (not_seated NoFreeSeat b) (record { seat = Ok (b.filled + 1); book = with_seat a b }))
     (not_seated AlreadySeated b)
 
 -- Reports
@@ -100,9 +93,9 @@ unfoldable pub taken : DeviceAddress → HeardMove → Book → Book
 taken sender h b = cond h.found (cond (eqb h.turn b.turn) (kept_at (seat_number sender (seats_of b)) h.played b) b) b
 
 -- "a record area, which is read, and refused where bad, as the hub reads"
-unfoldable pub heard_as : PaddedArea → DeviceAddress → HeardMove → Book → BookCalled
-heard_as (padded.Accepted n size) sender h b = record { outcome = Accepted; book = taken sender h b }
-heard_as (padded.Refused e) sender h b = record { outcome = Refused e; book = b }
+unfoldable pub heard_as : Result (ℕ × ℕ) Error → DeviceAddress → HeardMove → Book → BookCalled
+heard_as (Ok (n, size)) sender h b = record { outcome = (Ok tt); book = taken sender h b }
+heard_as (Err e) sender h b = record { outcome = (Err e); book = b }
 
 unfoldable pub report_call : DeviceAddress → List ℕ → Book → BookCalled
 report_call sender area b = heard_as (read_padded area) sender (move_heard b.company area) b
@@ -116,9 +109,9 @@ next_turn b =
 
 -- "15, closing turn 65,535"
 unfoldable pub close_call : Book → BookCalled
-close_call b = cond (eqb b.turn 65535) (record { outcome = Refused LastTurn; book = b }) (record { outcome = Accepted; book = next_turn b })
+close_call b = cond (eqb b.turn 65535) (record { outcome = (Err LastTurn); book = b }) (record { outcome = (Ok tt); book = next_turn b })
 
 -- Reading
 
-unfoldable pub read_seat_call : ℕ → Book → SeatRead
-read_seat_call n b = record { is_filled = is_filled b n; address = address_at b n }
+unfoldable pub read_seat_call : ℕ → Book → Option DeviceAddress
+read_seat_call n b = cond (is_filled b n) (Some (get_or b.addresses (n - 1) empty_address)) None

@@ -7,9 +7,8 @@
 --   seats_down k                  == calls that seat k addresses, Ada's being the last but one
 --   late_book                     == a book of company 0x59 with turn 65,534 open
 --   Examples                     (Examples.examples)
-use Rattle.std.specs.Prelude.{◌≡◌, true, false, List, [], ◌∷◌, ◌++◌, ℕ, zero, suc, ◌+◌, length, replicate}
+use Rattle.std.specs.Prelude.{◌≡◌, List, [], ◌∷◌, ◌++◌, ℕ, zero, suc, ◌+◌, length, replicate, Ok, Err, Some, None}
 use Rattle.octets.specs.declared.error.Error.TheVariants.{Eof, InvalidLength, AlreadySeated, NoFreeSeat, LastTurn}
-use Rattle.octets.specs.declared.error.Outcome.TheVariants.{Accepted, Refused}
 use Rattle.addresses.specs.Address.{address_of}
 use Rattle.addresses.specs.declared.device_address.AddressKind.TheVariants.{Public, Random}
 use Rattle.addresses.specs.declared.device_address.DeviceAddress.{DeviceAddress}
@@ -81,71 +80,71 @@ pub record Examples : Type 0 where
       ∷ read_closed 2
       ∷ read_company
       ∷ [])
-      ≡ seated Accepted 1
-      ∷ called Accepted
+      ≡ seated (Ok 1)
+      ∷ called (Ok tt)
       ∷ nothing
-      ∷ called Accepted
-      ∷ called Accepted
-      ∷ called Accepted
-      ∷ seated Accepted 2
+      ∷ called (Ok tt)
+      ∷ called (Ok tt)
+      ∷ called (Ok tt)
+      ∷ seated (Ok 2)
       ∷ one 7
       ∷ nothing
-      ∷ called Accepted
-      ∷ called Accepted
+      ∷ called (Ok tt)
+      ∷ called (Ok tt)
       ∷ number_is 1
       ∷ nothing
       ∷ one 7
       ∷ one 5
-      ∷ called Accepted
+      ∷ called (Ok tt)
       ∷ one 9
       ∷ one 7
-      ∷ called Accepted
+      ∷ called (Ok tt)
       ∷ one 9
       ∷ nothing
       ∷ number_is 0x59
       ∷ []
   -- 4, 5, 24 and 25 octets of data
-  pub four : after_report ada_random (move_row 0x59 0 []) ≡ called Accepted ∷ nothing ∷ []
-  pub five : after_report ada_random (move_row 0x59 0 (7 ∷ [])) ≡ called Accepted ∷ one 7 ∷ []
-  pub twenty_four : after_report ada_random (move_row 0x59 0 (replicate 20 7)) ≡ called Accepted ∷ move_is (record { len = 20; octets = replicate 20 7 }) ∷ []
-  pub twenty_five : after_report ada_random (move_row 0x59 0 (replicate 21 7)) ≡ called Accepted ∷ nothing ∷ []
+  pub four : after_report ada_random (move_row 0x59 0 []) ≡ called (Ok tt) ∷ nothing ∷ []
+  pub five : after_report ada_random (move_row 0x59 0 (7 ∷ [])) ≡ called (Ok tt) ∷ one 7 ∷ []
+  pub twenty_four : after_report ada_random (move_row 0x59 0 (replicate 20 7)) ≡ called (Ok tt) ∷ move_is (record { len = 20; octets = replicate 20 7 }) ∷ []
+  pub twenty_five : after_report ada_random (move_row 0x59 0 (replicate 21 7)) ≡ called (Ok tt) ∷ nothing ∷ []
   -- a record that is too short or too long for a move is passed over
-  pub passed_over : after_report ada_random (move_row 0x59 0 [] ++ move_row 0x59 0 (7 ∷ [])) ≡ called Accepted ∷ one 7 ∷ []
+  pub passed_over : after_report ada_random (move_row 0x59 0 [] ++ move_row 0x59 0 (7 ∷ [])) ≡ called (Ok tt) ∷ one 7 ∷ []
   -- the high octets of company and turn; another type
-  pub high_company : after_report ada_random (6 ∷ 0xFF ∷ 0x59 ∷ 1 ∷ 0 ∷ 0 ∷ 7 ∷ []) ≡ called Accepted ∷ nothing ∷ []
-  pub high_turn : after_report ada_random (6 ∷ 0xFF ∷ 0x59 ∷ 0 ∷ 0 ∷ 1 ∷ 7 ∷ []) ≡ called Accepted ∷ nothing ∷ []
-  pub another_type : after_report ada_random (6 ∷ 0xFE ∷ 0x59 ∷ 0 ∷ 0 ∷ 0 ∷ 7 ∷ []) ≡ called Accepted ∷ nothing ∷ []
+  pub high_company : after_report ada_random (6 ∷ 0xFF ∷ 0x59 ∷ 1 ∷ 0 ∷ 0 ∷ 7 ∷ []) ≡ called (Ok tt) ∷ nothing ∷ []
+  pub high_turn : after_report ada_random (6 ∷ 0xFF ∷ 0x59 ∷ 0 ∷ 0 ∷ 1 ∷ 7 ∷ []) ≡ called (Ok tt) ∷ nothing ∷ []
+  pub another_type : after_report ada_random (6 ∷ 0xFE ∷ 0x59 ∷ 0 ∷ 0 ∷ 0 ∷ 7 ∷ []) ≡ called (Ok tt) ∷ nothing ∷ []
   -- another company first; another turn first; two moves
-  pub company_first : after_report ada_random (move_row 0x58 0 (6 ∷ []) ++ move_row 0x59 0 (7 ∷ [])) ≡ called Accepted ∷ one 7 ∷ []
-  pub turn_first : after_report ada_random (move_row 0x59 1 (6 ∷ []) ++ move_row 0x59 0 (7 ∷ [])) ≡ called Accepted ∷ nothing ∷ []
-  pub two_moves : after_report ada_random (move_row 0x59 0 (7 ∷ []) ++ move_row 0x59 0 (8 ∷ [])) ≡ called Accepted ∷ one 7 ∷ []
+  pub company_first : after_report ada_random (move_row 0x58 0 (6 ∷ []) ++ move_row 0x59 0 (7 ∷ [])) ≡ called (Ok tt) ∷ one 7 ∷ []
+  pub turn_first : after_report ada_random (move_row 0x59 1 (6 ∷ []) ++ move_row 0x59 0 (7 ∷ [])) ≡ called (Ok tt) ∷ nothing ∷ []
+  pub two_moves : after_report ada_random (move_row 0x59 0 (7 ∷ []) ++ move_row 0x59 0 (8 ∷ [])) ≡ called (Ok tt) ∷ one 7 ∷ []
   -- padding after the move, and a move after padding, which is refused; an area that ends within its record
-  pub padding : after_report ada_random (move_row 0x59 0 (7 ∷ []) ++ (0 ∷ 0 ∷ [])) ≡ called Accepted ∷ one 7 ∷ []
-  pub after_padding : after_report ada_random (0 ∷ move_row 0x59 0 (7 ∷ [])) ≡ called (Refused InvalidLength) ∷ nothing ∷ []
-  pub bad_after_move : after_report ada_random (move_row 0x59 0 (7 ∷ []) ++ (3 ∷ 9 ∷ [])) ≡ called (Refused Eof) ∷ nothing ∷ []
+  pub padding : after_report ada_random (move_row 0x59 0 (7 ∷ []) ++ (0 ∷ 0 ∷ [])) ≡ called (Ok tt) ∷ one 7 ∷ []
+  pub after_padding : after_report ada_random (0 ∷ move_row 0x59 0 (7 ∷ [])) ≡ called (Err InvalidLength) ∷ nothing ∷ []
+  pub bad_after_move : after_report ada_random (move_row 0x59 0 (7 ∷ []) ++ (3 ∷ 9 ∷ [])) ≡ called (Err Eof) ∷ nothing ∷ []
   -- a sender unknown, with a good area and with a bad one; the same octets with the other kind
-  pub unknown : after_report bo_random (move_row 0x59 0 (7 ∷ [])) ≡ called Accepted ∷ nothing ∷ []
-  pub unknown_bad : after_report bo_random (3 ∷ 9 ∷ []) ≡ called (Refused Eof) ∷ nothing ∷ []
-  pub other_kind : after_report ada_public (move_row 0x59 0 (7 ∷ [])) ≡ called Accepted ∷ nothing ∷ []
+  pub unknown : after_report bo_random (move_row 0x59 0 (7 ∷ [])) ≡ called (Ok tt) ∷ nothing ∷ []
+  pub unknown_bad : after_report bo_random (3 ∷ 9 ∷ []) ≡ called (Err Eof) ∷ nothing ∷ []
+  pub other_kind : after_report ada_public (move_row 0x59 0 (7 ∷ [])) ≡ called (Ok tt) ∷ nothing ∷ []
   -- seats: one address twice, and with the other kind; seats that are not filled
   pub seats :
       replies_from (fresh_book 0x59) (seat ada_random ∷ seat ada_random ∷ seat ada_public ∷ read_seat 0 ∷ read_seat 1 ∷ read_seat 2 ∷ read_seat 3 ∷ read_seat 257 ∷ [])
-      ≡ seated Accepted 1
-      ∷ seated (Refused AlreadySeated) 0
-      ∷ seated Accepted 2
-      ∷ seat_is (record { is_filled = false; address = address_of (replicate 6 0) Public })
-      ∷ seat_is (record { is_filled = true; address = ada_random })
-      ∷ seat_is (record { is_filled = true; address = ada_public })
-      ∷ seat_is (record { is_filled = false; address = address_of (replicate 6 0) Public })
-      ∷ seat_is (record { is_filled = false; address = address_of (replicate 6 0) Public })
+      ≡ seated (Ok 1)
+      ∷ seated (Err AlreadySeated)
+      ∷ seated (Ok 2)
+      ∷ seat_is None
+      ∷ seat_is (Some ada_random)
+      ∷ seat_is (Some ada_public)
+      ∷ seat_is None
+      ∷ seat_is None
       ∷ []
   -- with 64 seats filled, an address that is seated and one that is not
   pub full_book :
       replies_from (book_after (fresh_book 0x59) (seats_down 64)) (seat ada_random ∷ seat bo_random ∷ read_seat 63 ∷ read_seat 65 ∷ [])
-      ≡ seated (Refused AlreadySeated) 0
-      ∷ seated (Refused NoFreeSeat) 0
-      ∷ seat_is (record { is_filled = true; address = ada_random })
-      ∷ seat_is (record { is_filled = false; address = address_of (replicate 6 0) Public })
+      ≡ seated (Err AlreadySeated)
+      ∷ seated (Err NoFreeSeat)
+      ∷ seat_is (Some ada_random)
+      ∷ seat_is None
       ∷ []
   -- the last turn is not closed
-  pub last_turn : replies_from late_book (close ∷ close ∷ read_turn ∷ []) ≡ called Accepted ∷ called (Refused LastTurn) ∷ number_is 65535 ∷ []
+  pub last_turn : replies_from late_book (close ∷ close ∷ read_turn ∷ []) ≡ called (Ok tt) ∷ called (Err LastTurn) ∷ number_is 65535 ∷ []

@@ -9,13 +9,12 @@
 --   standing calls      == the standing after the calls from a fresh book
 --   BookEntry               == a call of the list and the standing before it
 --   entries_from st calls, entries calls  == each call so, from a standing on, and from a fresh book
-use Rattle.std.specs.Prelude.{cond, ◌||◌, not, List, [], ◌∷◌, ◌++◌, ℕ, ◌+◌, eqb, leb, length}
-use Rattle.octets.specs.declared.error.Outcome.{Outcome}
+use Rattle.std.specs.Prelude.{cond, ◌||◌, not, List, [], ◌∷◌, ◌++◌, ℕ, ◌+◌, eqb, leb, length, Result, Option}
 use Rattle.addresses.specs.declared.device_address.DeviceAddress.{DeviceAddress}
 use Rattle.book_spec.specs.Book.{seat_number, seat_call, report_call, close_call, read_seat_call, open_at, closed_at}
 use Rattle.book_spec.specs.State.{Book}
 use Rattle.book_spec.specs.declared.Move.{Move}
-use Rattle.book_spec.specs.declared.SeatRead.{SeatRead}
+use Rattle.octets.specs.declared.error.Error.{Error}
 
 pub data BookCall : Type 0 where
   seat : (address : DeviceAddress) → BookCall
@@ -28,9 +27,9 @@ pub data BookCall : Type 0 where
   read_company : BookCall
 
 pub data BookReply : Type 0 where
-  seated : (outcome : Outcome) (n : ℕ) → BookReply
-  called : (outcome : Outcome) → BookReply
-  seat_is : (read : SeatRead) → BookReply
+  seated : (seat : Result ℕ Error) → BookReply
+  called : (outcome : Result (Unit {0}) Error) → BookReply
+  seat_is : (address : Option DeviceAddress) → BookReply
   move_is : (played : Move) → BookReply
   number_is : (n : ℕ) → BookReply
 
@@ -47,7 +46,7 @@ next_book b read_turn = b
 next_book b read_company = b
 
 abbrev pub reply_of : Book → BookCall → BookReply
-reply_of b (seat a) = seated (seat_call a b).outcome (seat_call a b).seat
+reply_of b (seat a) = seated (seat_call a b).seat
 reply_of b (report sender area) = called (report_call sender area b).outcome
 reply_of b close = called (close_call b).outcome
 reply_of b (read_seat n) = seat_is (read_seat_call n b)

@@ -6,7 +6,7 @@
 --   ByContracts b          (Ordered.by_contracts)   the book after a call and its reply, in the words of the contracts of `book`
 use Rattle.std.specs.Prelude.{◌≡◌, true, false, List, [], ◌∷◌, ◌++◌, ℕ, ◌+◌, ◌*◌, ◌-◌, ◌≤◌, length, get_or}
 use Rattle.octets.specs.Bytes.{part}
-use Rattle.records_spec.specs.Search.{First, None, Decides}
+use Rattle.records_spec.specs.Search.{First, Nowhere, Decides}
 use Rattle.addresses.specs.declared.device_address.DeviceAddress.{DeviceAddress}
 use Rattle.book_spec.specs.Book.{seat_call, report_call, close_call, read_seat_call, open_at, closed_at}
 use Rattle.book_spec.specs.History.{BookCall, seat, report, close, read_seat, read_open, read_closed, read_turn, read_company, seated, called, seat_is, move_is, number_is, next_book, reply_of, book_after, standing_on, standing, entries}
@@ -21,7 +21,7 @@ pub record HearsMove (company : ℕ) (s : List ℕ) : Type 0 where
   pub turn : (start len : ℕ) → First (MoveRecord company) s start len → (move_heard company s).turn ≡ get_or s (start + 2) 0 + 256 * get_or s (start + 3) 0
   pub played : (start len : ℕ) → First (MoveRecord company) s start len → IsMoveOf (move_heard company s).played (part (len - 4) s (start + 4))
   pub found : (start len : ℕ) → First (MoveRecord company) s start len → (move_heard company s).found ≡ true
-  pub none : None (MoveRecord company) s → (move_heard company s).found ≡ false
+  pub none : Nowhere (MoveRecord company) s → (move_heard company s).found ≡ false
 
 abbrev pub MoveMade : List ℕ → Type 0
 MoveMade octets = 1 ≤ length octets → length octets ≤ 20 → IsMoveOf (move_of octets) octets
@@ -37,7 +37,7 @@ pub record InOrder (calls : List BookCall) (c : BookCall) : Type 0 where
 -- a contract of `book` equates what a function answers with the right-hand side
 pub record ByContracts (b : Book) : Type 0 where
   pub seats : (a : DeviceAddress) → next_book b (seat a) ≡ (seat_call a b).book
-  pub seated_so : (a : DeviceAddress) → reply_of b (seat a) ≡ seated (seat_call a b).outcome (seat_call a b).seat
+  pub seated_so : (a : DeviceAddress) → reply_of b (seat a) ≡ seated (seat_call a b).seat
   pub hears : (sender : DeviceAddress) (area : List ℕ) → next_book b (report sender area) ≡ (report_call sender area b).book
   pub heard_so : (sender : DeviceAddress) (area : List ℕ) → reply_of b (report sender area) ≡ called (report_call sender area b).outcome
   pub closes : next_book b close ≡ (close_call b).book

@@ -12,13 +12,12 @@
 --   move_at s start len   == its move, the data being `len` octets
 --   heard_at s f          == both, of the place that a search found
 --   move_heard company s    == the move record that counts in an area s, which may be padded
-use Rattle.std.specs.Prelude.{Bool, true, false, ◌&&◌, List, [], ◌∷◌, ◌++◌, ℕ, ◌+◌, ◌-◌, eqb, leb, length, get_or, replicate}
+use Rattle.std.specs.Prelude.{Bool, true, false, ◌&&◌, List, [], ◌∷◌, ◌++◌, ℕ, ◌+◌, ◌-◌, eqb, leb, length, get_or, replicate, Option, Some, None}
 use Rattle.octets.specs.Bytes.{le, part}
 use Rattle.records_spec.specs.HubReading.{unpadded}
 use Rattle.records_spec.specs.Search.{searched}
 use Rattle.records_spec.specs.Types.{manufacturer_type}
-use Rattle.records_spec.specs.declared.area.Found.{Found}
-use Rattle.records_spec.specs.declared.area.Found.TheVariants.{At, Nothing}
+use Rattle.octets.specs.declared.bytes.Part.{Part}
 use Rattle.book_spec.specs.State.{HeardMove}
 use Rattle.book_spec.specs.declared.Move.{Move}
 
@@ -36,7 +35,7 @@ unfoldable pub is_move : ℕ → List ℕ → Bool
 is_move company r = leb 7 (length r) && (leb (length r) 26 && (eqb (get_or r 1 0) manufacturer_type && eqb (number_at r 2) company))
 
 -- "Only the first such record with the book's company number in a report counts"
-unfoldable pub move_in : ℕ → List ℕ → Found
+unfoldable pub move_in : ℕ → List ℕ → Option Part
 move_in company s = searched (is_move company) s
 
 abbrev pub turn_at : List ℕ → ℕ → ℕ
@@ -45,9 +44,9 @@ turn_at s start = number_at s (start + 2)
 abbrev pub move_at : List ℕ → ℕ → ℕ → Move
 move_at s start len = move_of (part (len - 4) s (start + 4))
 
-unfoldable pub heard_at : List ℕ → Found → HeardMove
-heard_at s (At start len) = record { found = true; turn = turn_at s start; played = move_at s start len }
-heard_at s Nothing = record { found = false; turn = 0; played = no_move }
+unfoldable pub heard_at : List ℕ → Option Part → HeardMove
+heard_at s (Some at) = record { found = true; turn = turn_at s at.start; played = move_at s at.start at.len }
+heard_at s None = record { found = false; turn = 0; played = no_move }
 
 abbrev pub move_heard : ℕ → List ℕ → HeardMove
 move_heard company s = heard_at s (move_in company (unpadded s))

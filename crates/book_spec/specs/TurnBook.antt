@@ -8,7 +8,6 @@
 --   Unheard P es                == no entry of es qualifies, with any move
 --   Earliest P es m             == m is the move of the earliest entry of es that qualifies
 --   KeptIs P es m               == so it is, or none qualifies and m is no move
---   empty_seat                   == what a seat that is not filled reads as
 --   Replies company before c r  == r is the reply to the call c after the calls `before`
 --   IsRefused r                 == the reply r is a refusal
 --   TurnBook company before c   (TurnBook.turn_book)  the book replies so, to every call after every list, and a refused call leaves the book as it was
@@ -18,17 +17,13 @@
 --   Open st calls               == no call of the list closes a turn
 --   SameTurn st calls           (Opened.same_turn)    the open turn is the same before and after calls exactly where none of them closes one
 --   KeepsSeats before more       (Opened.keeps_seats)  seats are never emptied, and no address has two
-use Rattle.std.specs.Prelude.{◌≡◌, ◌⊎◌, Bool, true, false, not, List, [], ◌∷◌, ◌++◌, ℕ, ◌+◌, ◌*◌, ◌-◌, ◌<◌, ◌≤◌, eqb, length, get_or, replicate}
+use Rattle.std.specs.Prelude.{◌≡◌, ◌⊎◌, Bool, false, not, List, [], ◌∷◌, ◌++◌, ℕ, ◌+◌, ◌*◌, ◌-◌, ◌<◌, ◌≤◌, eqb, length, get_or, replicate, Ok, Err, Some, None}
 use Rattle.octets.specs.Bytes.{part}
 use Rattle.octets.specs.Lists.{All}
 use Rattle.octets.specs.declared.error.Error.{Error}
 use Rattle.octets.specs.declared.error.Error.TheVariants.{AlreadySeated, NoFreeSeat, LastTurn}
-use Rattle.octets.specs.declared.error.Outcome.TheVariants.{Accepted, Refused}
 use Rattle.records_spec.specs.HubReading.{read_padded}
 use Rattle.records_spec.specs.Search.{IsRead, First}
-use Rattle.records_spec.specs.declared.area.PaddedArea.TheVariants as padded
-use Rattle.addresses.specs.Address.{address_of}
-use Rattle.addresses.specs.declared.device_address.AddressKind.TheVariants.{Public}
 use Rattle.addresses.specs.declared.device_address.DeviceAddress.{DeviceAddress}
 use Rattle.book_spec.specs.Book.{fresh_book}
 use Rattle.book_spec.specs.History.{BookCall, seat, report, close, read_seat, read_open, read_closed, read_turn, read_company, BookReply, seated, called, seat_is, move_is, number_is, next_book, reply_of, book_after, BookStanding, standing_on, standing_all, standing, BookEntry, entries}
@@ -88,24 +83,20 @@ pub data KeptIs (P : BookEntry → Move → Type 0) (es : List BookEntry) : Move
   kept : (m : Move) → Earliest P es m → KeptIs P es m
   none : Unheard P es → KeptIs P es (record { len = 0; octets = replicate 20 0 })
 
--- a seat that is not filled reads as zeros
-abbrev pub empty_seat : DeviceAddress
-empty_seat = address_of (replicate 6 0) Public
-
 pub data Replies (company : ℕ) (before : List BookCall) : BookCall → BookReply → Type 0 where
   -- "13, address already seated; 14, no free seat; 15, closing turn 65,535. They are tested in this order."
-  already : (a : DeviceAddress) → IsSeated a (standing before).seats → Replies company before (seat a) (seated (Refused AlreadySeated) 0)
-  full : (a : DeviceAddress) → (IsSeated a (standing before).seats → ⊥) → length (standing before).seats ≡ 64 → Replies company before (seat a) (seated (Refused NoFreeSeat) 0)
+  already : (a : DeviceAddress) → IsSeated a (standing before).seats → Replies company before (seat a) (seated (Err AlreadySeated))
+  full : (a : DeviceAddress) → (IsSeated a (standing before).seats → ⊥) → length (standing before).seats ≡ 64 → Replies company before (seat a) (seated (Err NoFreeSeat))
   sits : (a : DeviceAddress) → (IsSeated a (standing before).seats → ⊥) → length (standing before).seats < 64
-      → Replies company before (seat a) (seated Accepted (length (standing before).seats + 1))
+      → Replies company before (seat a) (seated (Ok (length (standing before).seats + 1)))
   -- "a record area, which is read, and refused where bad, as the hub reads"
-  bad_area : (sender : DeviceAddress) (area : List ℕ) (e : Error) → read_padded area ≡ padded.Refused e → Replies company before (report sender area) (called (Refused e))
-  heard : (sender : DeviceAddress) (area : List ℕ) → IsRead area → Replies company before (report sender area) (called Accepted)
-  last_turn : (standing before).turn ≡ 65535 → Replies company before close (called (Refused LastTurn))
-  closed : (standing before).turn < 65535 → Replies company before close (called Accepted)
+  bad_area : (sender : DeviceAddress) (area : List ℕ) (e : Error) → read_padded area ≡ Err e → Replies company before (report sender area) (called (Err e))
+  heard : (sender : DeviceAddress) (area : List ℕ) → IsRead area → Replies company before (report sender area) (called (Ok tt))
+  last_turn : (standing before).turn ≡ 65535 → Replies company before close (called (Err LastTurn))
+  closed : (standing before).turn < 65535 → Replies company before close (called (Ok tt))
   -- a seat, and its moves: that of the open turn, and that of the turn before, which is the closed one
-  filled_seat : (n : ℕ) (a : DeviceAddress) → SeatIs n a (standing before).seats → Replies company before (read_seat n) (seat_is (record { is_filled = true; address = a }))
-  empty_seat_law : (n : ℕ) → (n ≡ 0) ⊎ (length (standing before).seats < n) → Replies company before (read_seat n) (seat_is (record { is_filled = false; address = empty_seat }))
+  filled_seat : (n : ℕ) (a : DeviceAddress) → SeatIs n a (standing before).seats → Replies company before (read_seat n) (seat_is (Some a))
+  empty_seat_law : (n : ℕ) → (n ≡ 0) ⊎ (length (standing before).seats < n) → Replies company before (read_seat n) (seat_is None)
   open_move : (n : ℕ) (m : Move) → KeptIs (Qualifies company n (standing before).turn) (entries before) m → Replies company before (read_open n) (move_is m)
   closed_move : (n t : ℕ) (m : Move) → (standing before).turn ≡ t + 1 → KeptIs (Qualifies company n t) (entries before) m → Replies company before (read_closed n) (move_is m)
   none_closed : (n : ℕ) → (standing before).turn ≡ 0 → Replies company before (read_closed n) (move_is (record { len = 0; octets = replicate 20 0 }))
@@ -113,8 +104,8 @@ pub data Replies (company : ℕ) (before : List BookCall) : BookCall → BookRep
   its_company : Replies company before read_company (number_is company)
 
 pub data IsRefused : BookReply → Type 0 where
-  seating : (e : Error) (n : ℕ) → IsRefused (seated (Refused e) n)
-  calling : (e : Error) → IsRefused (called (Refused e))
+  seating : (e : Error) → IsRefused (seated (Err e))
+  calling : (e : Error) → IsRefused (called (Err e))
 
 pub record TurnBook (company : ℕ) (before : List BookCall) (c : BookCall) : Type 0 where
   pub replies : Replies company before c (reply_of (book_after (fresh_book company) before) c)

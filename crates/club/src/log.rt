@@ -1,23 +1,23 @@
 // The club: its book, and the items that it takes.
 ghost use Rattle.std.specs.Prelude.{◌≡◌, [], ◌∷◌, ◌+◌, ◌<◌, ◌≤◌, length, get_or, take, drop};
-ghost use Rattle.octets.specs.Bytes.{written, at_front};
+ghost use Rattle.octets.specs.Bytes.{at_front};
 ghost use Rattle.addresses.specs.Address.{address_of};
 ghost use Rattle.beacon.specs.State.{scanner_state, scan_step};
 ghost use Rattle.hub_spec.specs.Log.{start, heard_in, scanner_after};
 ghost use Rattle.book.specs.State.{book_state};
 ghost use Rattle.book_spec.specs.History.{seat, close, read_open, read_closed, book_after};
 ghost use Rattle.club_spec.specs.Item.{IsClubItem};
-ghost use Rattle.club_spec.specs.Log.{packet_calls, own_calls, calls_for, club_lines, fresh_club, end_line, item_line, item_taken, fitting_in, items_taken};
-ghost use Rattle.club.specs.State.{club_state, item_step, items_step, AnswersCall};
+ghost use Rattle.club_spec.specs.Log.{packet_calls, seat_refusal, own_calls, calls_for, club_lines, fresh_club, end_line, item_line, item_taken, fitting_in, items_taken};
+ghost use Rattle.club.specs.State.{club_state, taken_step, items_step, AnswersCall};
 
 use crate::item::{CLOSE, READ_OPEN, SEAT_PUBLIC, SEAT_RANDOM, whole_item};
 use crate::line::{put_call, put_last, put_move};
 use addresses::device_address::{AddressKind, DeviceAddress};
-use addresses::header::{Header, HeaderMade};
-use beacon::beacon::{BeaconScanner, Report, Scanned};
+use addresses::header::Header;
+use beacon::beacon::{BeaconScanner, Scanned};
 use book::Book;
 use hub::{listen, start};
-use octets::bytes::ByteReader;
+use octets::error::{Error, outcome_number};
 
 // The octets of the longest line.
 const LONGEST: usize = 90;
@@ -33,7 +33,7 @@ pub struct Club {
 #[derive(Clone, Copy)]
 pub struct TakenItem {
     pub club: Club,
-    // The octets of the item; 0 where no whole one stood there, and then nothing was done.
+    // The octets of the item.
     pub size: usize,
     // The octets of its line.
     pub written: usize,
@@ -60,16 +60,13 @@ struct Answered {
 fn reported(book: Book, scanned: Scanned, payload: &[u8]) -> Book
     ensures { book_state result ≡ book_after (book_state book) (packet_calls (scan_step scanned) payload.now) }
 {
-    let report = scanned.report;
-    match report {
-        Report::Beacon => {
-            let sender = scanned.sender;
-            let place = scanned.adv_data;
-            let called = book.report(sender, place.within(payload));
+    match scanned.report.unwrap_or(None) {
+        Some(sighting) => {
+            let place = sighting.adv_data;
+            let called = book.report(sighting.sender, place.within(payload));
             called.book
         }
-        Report::Nothing => book,
-        Report::Refused(_) => book,
+        None => book,
     }
 }
 
@@ -81,7 +78,7 @@ fn heard(book: Book, scanner: BeaconScanner, item: &[u8]) -> Book
         return book;
     }
     match Header::parse(&item[1..3]) {
-        HeaderMade::Header(header) => {
+        Ok(header) => {
             let scanned = scanner.process_adv_packet(
                 header,
                 &item[3..],
@@ -90,7 +87,7 @@ fn heard(book: Book, scanner: BeaconScanner, item: &[u8]) -> Book
             );
             reported(book, scanned, &item[3..])
         }
-        HeaderMade::Refused(_) => book,
+        Err(_) => book,
     }
 }
 
@@ -99,136 +96,109 @@ fn address_in(item: &[u8], kind: AddressKind) -> DeviceAddress
     requires { 7 ≤ length item.now }
     ensures { result ≡ address_of (take 6 (drop 1 item.now)) kind }
 {
-    let read = ByteReader { at: 1 }.read_array6(item);
-    let octets = read.octets;
+    let mut octets = [0u8; 6];
+    octets.copy_from_slice(&item[1..7]);
     DeviceAddress::new(octets, kind)
 }
 
-fn wide(octet: u8) -> usize
-    ensures { result ≡ octet }
+// The number of what was refused, 0 where a seat was given.
+fn seat_refusal(seat: Result<usize, Error>) -> u8
+    ensures { result ≡ seat_refusal seat }
 {
-    octet as usize
+    match seat {
+        Ok(_) => 0,
+        Err(e) => e.number(),
+    }
 }
 
 // What an item does that seats an address of this kind.
-fn seat_item(book: Book, item: &[u8], kind: AddressKind, out: &mut [u8], at: usize) -> Answered
-    requires { (7 ≤ length item.now) × (at + 90 ≤ length out.old) }
-    ensures { AnswersCall (book_state book) (seat (address_of (take 6 (drop 1 item.now)) kind) ∷ []) item.now result out.new out.old at }
+// That `out` has the longest line's room, 90 octets, is asked for here and below, and no type's: the buffer is lent.
+fn seat_item(book: Book, item: &[u8], kind: AddressKind, out: &mut [u8]) -> Answered
+    requires { (7 ≤ length item.now) × (90 ≤ length out.old) }
+    ensures { AnswersCall (book_state book) (seat (address_of (take 6 (drop 1 item.now)) kind) ∷ []) item.now result out.new out.old }
 {
     let called = book.seat(address_in(item, kind));
-    let outcome = called.outcome;
-    let written = put_call(
-        wide(item[0]),
-        wide(outcome.number()),
-        called.seat,
-        3,
-        out,
-        at,
-    );
+    let number = called.seat.unwrap_or(0);
+    let written = put_call(item[0], seat_refusal(called.seat), number, 3, out);
     let book = called.book;
     Answered { book, written }
 }
 
 // What an item does that closes the open turn.
-fn close_item(book: Book, item: &[u8], out: &mut [u8], at: usize) -> Answered
-    requires { ((1 ≤ length item.now) × (get_or item.now 0 0 ≡ 5)) × (at + 90 ≤ length out.old) }
-    ensures { AnswersCall (book_state book) (close ∷ []) item.now result out.new out.old at }
+fn close_item(book: Book, item: &[u8], out: &mut [u8]) -> Answered
+    requires { ((1 ≤ length item.now) × (get_or item.now 0 0 ≡ 5)) × (90 ≤ length out.old) }
+    ensures { AnswersCall (book_state book) (close ∷ []) item.now result out.new out.old }
 {
     let called = book.close();
-    let outcome = called.outcome;
     let book = called.book;
-    let turn = book.open_turn();
-    let written = put_call(
-        wide(item[0]),
-        wide(outcome.number()),
-        turn as usize,
-        6,
-        out,
-        at,
-    );
+    let turn = book.open_turn() as usize;
+    let written = put_call(item[0], outcome_number(called.outcome), turn, 6, out);
     Answered { book, written }
 }
 
 // What an item does that reads the open move of a seat, and the closed one.
-fn open_item(book: Book, item: &[u8], out: &mut [u8], at: usize) -> Answered
-    requires { (2 ≤ length item.now) × (at + 90 ≤ length out.old) }
-    ensures { AnswersCall (book_state book) (read_open (get_or item.now 1 0) ∷ []) item.now result out.new out.old at }
+fn open_item(book: Book, item: &[u8], out: &mut [u8]) -> Answered
+    requires { (2 ≤ length item.now) × (90 ≤ length out.old) }
+    ensures { AnswersCall (book_state book) (read_open (get_or item.now 1 0) ∷ []) item.now result out.new out.old }
 {
-    let n = wide(item[1]);
-    let played = book.open_move(n);
-    let octets = played.octets;
-    let written = put_move(wide(item[0]), n, played.len, &octets, out, at);
+    let n = item[1] as usize;
+    let written = put_move(item[0], n, book.open_move(n), out);
     Answered { book, written }
 }
 
-fn closed_item(book: Book, item: &[u8], out: &mut [u8], at: usize) -> Answered
-    requires { (2 ≤ length item.now) × (at + 90 ≤ length out.old) }
-    ensures { AnswersCall (book_state book) (read_closed (get_or item.now 1 0) ∷ []) item.now result out.new out.old at }
+// Apart from the open one: what differs is the call that each promises to make.
+fn closed_item(book: Book, item: &[u8], out: &mut [u8]) -> Answered
+    requires { (2 ≤ length item.now) × (90 ≤ length out.old) }
+    ensures { AnswersCall (book_state book) (read_closed (get_or item.now 1 0) ∷ []) item.now result out.new out.old }
 {
-    let n = wide(item[1]);
-    let played = book.closed_move(n);
-    let octets = played.octets;
-    let written = put_move(wide(item[0]), n, played.len, &octets, out, at);
+    let n = item[1] as usize;
+    let written = put_move(item[0], n, book.closed_move(n), out);
     Answered { book, written }
 }
 
 // What one of the club's own items does.
-fn own_item(book: Book, item: &[u8], out: &mut [u8], at: usize) -> Answered
-    requires { (IsClubItem item.now × (2 < get_or item.now 0 0)) × (at + 90 ≤ length out.old) }
-    ensures { AnswersCall (book_state book) (own_calls (get_or item.now 0 0) (drop 1 item.now)) item.now result out.new out.old at }
+fn own_item(book: Book, item: &[u8], out: &mut [u8]) -> Answered
+    requires { (IsClubItem item.now × (2 < get_or item.now 0 0)) × (90 ≤ length out.old) }
+    ensures { AnswersCall (book_state book) (own_calls (get_or item.now 0 0) (drop 1 item.now)) item.now result out.new out.old }
 {
-    let first = item[0];
-    if first == SEAT_PUBLIC {
-        return seat_item(book, item, AddressKind::Public, out, at);
+    match item[0] {
+        SEAT_PUBLIC => seat_item(book, item, AddressKind::Public, out),
+        SEAT_RANDOM => seat_item(book, item, AddressKind::Random, out),
+        CLOSE => close_item(book, item, out),
+        READ_OPEN => open_item(book, item, out),
+        _ => closed_item(book, item, out),
     }
-    if first == SEAT_RANDOM {
-        return seat_item(book, item, AddressKind::Random, out, at);
-    }
-    if first == CLOSE {
-        return close_item(book, item, out, at);
-    }
-    if first == READ_OPEN {
-        return open_item(book, item, out, at);
-    }
-    closed_item(book, item, out, at)
 }
 
 // What an item does.
-fn answer(book: Book, scanner: BeaconScanner, item: &[u8], out: &mut [u8], at: usize) -> Answered
-    requires { IsClubItem item.now × (at + 90 ≤ length out.old) }
-    ensures { AnswersCall (book_state book) (calls_for (scanner_state scanner) item.now) item.now result out.new out.old at }
+fn answer(book: Book, scanner: BeaconScanner, item: &[u8], out: &mut [u8]) -> Answered
+    requires { IsClubItem item.now × (90 ≤ length out.old) }
+    ensures { AnswersCall (book_state book) (calls_for (scanner_state scanner) item.now) item.now result out.new out.old }
 {
     if item[0] <= items::CRC_BAD {
         let book = heard(book, scanner, item);
-        return Answered { book, written: 0 };
+        Answered { book, written: 0 }
+    } else {
+        own_item(book, item, out)
     }
-    own_item(book, item, out, at)
 }
 
-// Takes the item at `from` of s, and writes its line to `out` from `at` on.
-fn take_at(club: Club, s: &[u8], from: usize, out: &mut [u8], at: usize) -> TakenItem
-    requires { at + 90 ≤ length out.old }
-    ensures { (item_step result ≡ item_taken (club_state club) (drop from s.now)) × (out.new ≡ written (item_line (club_state club) (drop from s.now)) out.old at) }
+// Takes the item at `from` of s, and writes its line to the front of `out`.
+fn take_at(club: Club, s: &[u8], from: usize, out: &mut [u8]) -> Option<TakenItem>
+    requires { 90 ≤ length out.old }
+    ensures { (taken_step result ≡ item_taken (club_state club) (drop from s.now)) × (out.new ≡ at_front (item_line (club_state club) (drop from s.now)) out.old) }
 {
-    let size = whole_item(s, from);
-    if size == 0 {
-        return TakenItem {
-            club,
-            size: 0,
-            written: 0,
-        };
-    }
-    let end = from + size;
-    let item = &s[from..end];
+    let size = whole_item(s, from)?;
+    let item = &s[from..from + size];
     let before = club.scanner;
-    let answered = answer(club.book, before, item, out, at);
+    let answered = answer(club.book, before, item, out);
     let book = answered.book;
     let scanner = listen(before, item);
-    TakenItem {
+    Some(TakenItem {
         club: Club { book, scanner },
         size,
         written: answered.written,
-    }
+    })
 }
 
 impl Club {
@@ -242,11 +212,11 @@ impl Club {
         Club { book, scanner }
     }
 
-    // Takes the item at the front of s, and writes its line to the front of `out`.
-    pub fn take_item(self, s: &[u8], out: &mut [u8; 90]) -> TakenItem
-        ensures { (item_step result ≡ item_taken (club_state self) s.now) × (out.new ≡ at_front (item_line (club_state self) s.now) out.old) }
+    // Takes the item at the front of s, and writes its line to the front of `out`. None where no whole item stands there.
+    pub fn take_item(self, s: &[u8], out: &mut [u8; 90]) -> Option<TakenItem>
+        ensures { (taken_step result ≡ item_taken (club_state self) s.now) × (out.new ≡ at_front (item_line (club_state self) s.now) out.old) }
     {
-        take_at(self, s, 0, out, 0)
+        take_at(self, s, 0, out)
     }
 
     // Takes the items at the front of s, one after the other, as long as there is room for the longest line, and writes their lines to the front of `out`.
@@ -256,11 +226,11 @@ impl Club {
         let mut club = self;
         let mut at = 0;
         let mut written = 0;
+        // By a loop: each item says where the next begins, and each line where the next is written.
         while LONGEST <= out.len() - written {
-            let taken = take_at(club, s, at, out, written);
-            if taken.size == 0 {
+            let Some(taken) = take_at(club, s, at, &mut out[written..]) else {
                 break;
-            }
+            };
             club = taken.club;
             at += taken.size;
             written += taken.written;

@@ -18,15 +18,16 @@ use Rattle.addresses.specs.declared.filter.AddressFilter.TheVariants.{AllowAll}
 use Rattle.addresses.specs.declared.header.Header.{Header}
 use Rattle.beacon_spec.proofs.Reports.{reports, holds_decoded, type_is}
 use Rattle.beacon_spec.specs.Laws as laws
-use Rattle.beacon_spec.specs.Scanner.{timer_updated, scanned, is_report}
-use Rattle.beacon_spec.specs.State.{BeaconScanner, Scanned}
-use Rattle.beacon_spec.specs.declared.beacon.Report.TheVariants as report
+use Rattle.beacon_spec.specs.Scanner.{timer_updated, scanned, sighted, is_report}
+use Rattle.beacon_spec.specs.State.{BeaconScanner, Scanned, Report}
 use Rattle.items.specs.Item.{tick, packet}
-use Rattle.hub_spec.proofs.Reports.{is_beacon_law}
 use Rattle.hub_spec.specs.Log.{start, is_crc_good, heard_in, scanner_after}
 use Rattle.hub_spec.specs.Reported.{IsReported}
 use Rattle.book_spec.specs.History.{BookCall}
 use Rattle.book_spec.specs.History as call
+use Rattle.std.specs.Prelude.{None, Some, Ok, Err}
+use Rattle.beacon_spec.specs.declared.beacon.Sighting.{Sighting}
+use Rattle.std.proofs.lemmas.Option.{none-some}
 use Rattle.club_spec.specs.Item.{whole_item, club_items, after_club, IsClubItem, heard, seats, closes, reads}
 use Rattle.club_spec.specs.Laws.{calls_of, scanner_on}
 use Rattle.club_spec.specs.Log.{packet_calls, calls_for, reply_line, club_line, club_lines, club_after, club_after_all, fresh_club, end_line, club_log, item_taken, item_line, items_taken}
@@ -34,7 +35,7 @@ use Rattle.club_spec.specs.Making as making
 use Rattle.club_spec.specs.Making.{Makes, MakesAll, NoItem, MakesCalls, CallsMade, LineRows, EndRows, InTurnOf, LogIs, LogOf, TakenIs}
 use Rattle.club_spec.specs.State.{Club}
 use Rattle.club_spec.proofs.Evenings.{evening}
-use Rattle.club_spec.proofs.Items.{some_octet, at_front_law, none_whole, one_whole, whole_fits, behind_cons, club_falls}
+use Rattle.club_spec.proofs.Items.{some_octet, at_front_law, none_whole, one_whole, whole_fits, whole_some, behind_cons, club_falls}
 use Rattle.club_spec.proofs.Taking as taking
 
 -- The call of an item
@@ -71,38 +72,45 @@ module _ (s : BeaconScanner) (passing : s.filter.scan ≡ AllowAll) (h0 h1 : ℕ
       let number : le (h0 ∷ h1 ∷ []) ≡ h0 + 256 * h1 = omega arith in
       rw (le-leb first 2 low, number) refl
 
-  reported_makes : (scan true).report ≡ report.Beacon → IsReported h0 h1 p × Makes (0x01 ∷ h0 ∷ h1 ∷ p) (packet_calls (scan true) p)
+  reported_makes : (x : Sighting) → (scan true).report ≡ Ok (Some x) → IsReported h0 h1 p × Makes (0x01 ∷ h0 ∷ h1 ∷ p) (packet_calls (scan true) p)
   unfolding scan header
-  reported_makes e =
+  reported_makes x e =
       let said = reports s header p true [] in
-      let checks = said.sound e in
-      let is : IsReported h0 h1 p = record { type_2 = omega (arith, checks.type_2); decoding = checks.decoding } in
-      let long : 6 ≤ length p = omega (arith, (holds_decoded header p (type_is (header_bits 0 4 header) checks.type_2) checks.decoding).size) in
-      (is, rw (ap is_report e, said.sender e, said.records e) (beacon_makes h0 h1 p long is))
+      let checks = said.sound x e in
+      let is : IsReported h0 h1 p = record { type_2 = omega (arith, checks.type_2); pdu = checks.pdu; decoding = checks.decoding } in
+      let long : 6 ≤ length p = omega (arith, (holds_decoded header p checks.pdu (type_is (header_bits 0 4 header) checks.type_2) checks.decoding).size) in
+      (is, rw (e, said.sender x e, said.records x e) (beacon_makes h0 h1 p long is))
 
-  is_scanned : IsReported h0 h1 p → (scan true).report ≡ report.Beacon
+  is_scanned : IsReported h0 h1 p → (x : Sighting) × ((scan true).report ≡ Ok (Some x))
   unfolding scan header
-  is_scanned is =
-      ap (λ (x : Scanned). x.report)
-      ((reports s header p true []).complete (record { crc = refl; type_2 = omega (arith, is.type_2); decoding = is.decoding; filter = rw passing laws.all }))
+  is_scanned is = (
+    _,
+    ap (λ (x : Scanned). x.report)
+        ((reports s header p true []).complete (record { crc = refl; type_2 = omega (arith, is.type_2); pdu = is.pdu; decoding = is.decoding; filter = rw passing laws.all })),
+  )
+
+  not_none : {r : Report} → IsReported h0 h1 p → (scan true).report ≡ r → is_report r ≡ false → ⊥
+  not_none is e none = true≢false (sym (ap is_report (is_scanned is).1) ∙ ap is_report e ∙ none)
 
   -- one that is not reported makes no call
   good_makes : Makes (0x01 ∷ h0 ∷ h1 ∷ p) (packet_calls (scan true) p)
-  good_makes = go (is_report (scan true).report) refl
+  good_makes = go (scan true).report refl
     where
-      go : (b : Bool) → is_report (scan true).report ≡ b → Makes (0x01 ∷ h0 ∷ h1 ∷ p) (packet_calls (scan true) p)
-      go true e = (reported_makes (is_beacon_law (scan true).report e)).1
-      go false e = rw e (making.unreported h0 h1 p (λ is. true≢false (sym (ap is_report (is_scanned is)) ∙ e)))
+      go : (r : Report) → (scan true).report ≡ r → Makes (0x01 ∷ h0 ∷ h1 ∷ p) (packet_calls (scan true) p)
+      go (Ok (Some x)) e = (reported_makes x e).1
+      go (Ok None) e = rw e (making.unreported h0 h1 p (λ is. not_none is e refl))
+      go (Err r) e = rw e (making.unreported h0 h1 p (λ is. not_none is e refl))
 
   none_reported : (IsReported h0 h1 p → ⊥) → packet_calls (scan true) p ≡ []
-  none_reported is-not = go (is_report (scan true).report) refl
+  none_reported is-not = go (scan true).report refl
     where
-      go : (b : Bool) → is_report (scan true).report ≡ b → packet_calls (scan true) p ≡ []
-      go true e = absurd (is-not (reported_makes (is_beacon_law (scan true).report e)).0)
-      go false e = rw e refl
+      go : (r : Report) → (scan true).report ≡ r → packet_calls (scan true) p ≡ []
+      go (Ok (Some x)) e = absurd (is-not (reported_makes x e).0)
+      go (Ok None) e = rw e refl
+      go (Err r) e = rw e refl
 
   bad_none : packet_calls (scan false) p ≡ []
-  unfolding scan header scanned
+  unfolding scan header scanned sighted
   bad_none = rw passing refl
 
   -- what is reported of a packet
@@ -111,7 +119,7 @@ module _ (s : BeaconScanner) (passing : s.filter.scan ≡ AllowAll) (h0 h1 : ℕ
   said_of is =
       let e = is_scanned is in
       let said = reports s header p true [] in
-      rw (ap is_report e, said.sender e, said.records e) refl
+      rw (e.1, said.sender e.0 e.1, said.records e.0 e.1) refl
 
   -- its kind
   kind_bit : (bit : ℕ) → h0 / 64 % 2 ≡ bit → tx_add header ≡ eqb bit 1
@@ -206,7 +214,8 @@ pub line_rows : (first n turn : ℕ) → LineRows first n turn
 unfolding reply_line
 line_rows first n turn =
     record {
-      seat_row = λ o k. refl;
+      seat_row = λ k. refl;
+      refused_row = λ e. refl;
       close_row = λ o. refl;
       move_row_law = λ m. refl;
       report_none = λ o. refl;
@@ -237,24 +246,24 @@ one_more k its item = record { no_lines = refl; same_club = refl; lines = lines_
 
 -- The log
 
-whole_none : (s : List ℕ) → whole_item s ≡ 0 → NoItem s
-whole_none s none item rest is same = some_octet item is (sym ((club_falls 0 s).size item rest is) ∙ ap whole_item (sym same) ∙ none)
+whole_none : (s : List ℕ) → whole_item s ≡ None → NoItem s
+whole_none s none item rest is same = none-some (length item) (sym none ∙ ap whole_item same ∙ (club_falls 0 s).size item rest is)
 
 -- as many items as octets are all of them
-stops : (n : ℕ) (s : List ℕ) → length s ≤ n → whole_item (after_club (club_items n s) s) ≡ 0
+stops : (n : ℕ) (s : List ℕ) → length s ≤ n → whole_item (after_club (club_items n s) s) ≡ None
 unfolding club_items after_club flatten
-stops zero s few = omega (arith, whole_fits s)
+stops zero s few =
+    ⊎_elim
+    (λ none. none)
+    (λ item. absurd (omega (arith, whole_fits s item.1, whole_some s item.1)))
+    (at_front_law s)
 stops (suc n) s few =
     ⊎_elim
     (λ none. rw (none_whole (suc n) s none) none)
     (λ item.
-    rw (one_whole n s item, behind_cons s (whole_item s) (club_items n (drop (whole_item s) s)) (whole_fits s))
-    (stops n (drop (whole_item s) s) (rw length-drop (omega (arith, whole_fits s, some (whole_item s) item)))))
+    rw (one_whole n s item.1, behind_cons s item.0 (club_items n (drop item.0 s)) (whole_fits s item.1))
+    (stops n (drop item.0 s) (rw length-drop (omega (arith, whole_fits s item.1, whole_some s item.1)))))
     (at_front_law s)
-  where
-    some : (n : ℕ) → (n ≡ 0 → ⊥) → 1 ≤ n
-    some zero is_some = absurd (is_some refl)
-    some (suc n) is_some = omega arith
 
 pub log_is : (company : ℕ) (s : List ℕ) → LogIs company s
 unfolding club_log
@@ -274,7 +283,7 @@ log_is company s =
 items_few : (its : List (List ℕ)) → All IsClubItem its → length its ≤ length (flatten its)
 unfolding flatten
 items_few [] are = omega arith
-items_few ([] ∷ its) are = absurd (some_octet [] are.0 refl)
+items_few ([] ∷ its) are = absurd (omega (arith, some_octet [] are.0))
 items_few ((x ∷ item) ∷ its) are = rw length-append (omega (arith, items_few its are.1))
 
 fall : (n : ℕ) (its : List (List ℕ)) (rest : List ℕ) → length its ≤ n → All IsClubItem its → NoItem rest → club_items n (flatten its ++ rest) ≡ its
@@ -299,15 +308,14 @@ taken_is k s room =
     record {
       taken = λ item rest is same. (at_item item rest is same).0;
       line = λ item rest is same. (at_item item rest is same).1;
-      none_taken = λ none. rw ((club_falls 0 s).no_size none) refl;
+      none_taken = λ none. taking.none_taken k s ((club_falls 0 s).no_size none);
       no_line = λ none. taking.no_line k s ((club_falls 0 s).no_size none);
       many = refl;
     }
   where
     at_item : (item rest : List ℕ) → IsClubItem item → s ≡ item ++ rest
-        → (item_taken k s ≡ record { club = club_after k item; size = length item; written = length (club_line k item) }) × (item_line k s ≡ club_line k item)
+        → (item_taken k s ≡ Some (record { club = club_after k item; size = length item; written = length (club_line k item) })) × (item_line k s ≡ club_line k item)
     at_item item rest is same =
-        let size : whole_item s ≡ length item = ap whole_item same ∙ (club_falls 0 s).size item rest is in
-        let some : whole_item s ≡ 0 → ⊥ = λ none. some_octet item is (sym size ∙ none) in
-        let front : take (whole_item s) s ≡ item = rw (size, same) (take-append_seam item rest) in
-        (taking.taken_is k s some ∙ rw (front, size) refl, taking.line_is k s some ∙ ap (club_line k) front)
+        let size : whole_item s ≡ Some (length item) = ap whole_item same ∙ (club_falls 0 s).size item rest is in
+        let front : take (length item) s ≡ item = rw same (take-append_seam item rest) in
+        (taking.taken_is k s size ∙ rw front refl, taking.line_is k s size ∙ ap (club_line k) front)

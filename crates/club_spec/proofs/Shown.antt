@@ -10,8 +10,6 @@ use Rattle.octets.specs.Laws.{Octets}
 use Rattle.octets.specs.Lists.{All}
 use Rattle.octets.specs.declared.error.Error.{Error}
 use Rattle.octets.specs.declared.error.Error.TheVariants as error
-use Rattle.octets.specs.declared.error.Outcome.{Outcome}
-use Rattle.octets.specs.declared.error.Outcome.TheVariants as outcome
 use Rattle.addresses.specs.declared.device_address.DeviceAddress.{DeviceAddress}
 use Rattle.beacon_spec.specs.State.{BeaconScanner}
 use Rattle.columns.specs.Row.{row_of, Fits}
@@ -29,6 +27,7 @@ use Rattle.club_spec.specs.Making.{Makes, MakesAll, move_columns, ClubRow, lines
 use Rattle.club_spec.specs.State.{Club}
 use Rattle.club_spec.proofs.Evenings.{evening}
 use Rattle.club_spec.proofs.Making.{makes_calls, calls_made, line_rows, end_rows, one_more, log_is}
+use Rattle.std.specs.Prelude.{Result, Ok, Err}
 
 -- rows of an item with its line
 record Shown (company : ℕ) (before : List BookCall) (item line : List ℕ) : Type 0 where
@@ -47,24 +46,24 @@ module _ (company : ℕ) (before : List BookCall) where
 
   -- by the right reply to each call
   of_report : {sender : DeviceAddress} {area : List ℕ} {r : BookReply} {line : List ℕ} (n turn : ℕ) → Replies company before (call.report sender area) r → line ≡ reply_line 1 n r turn → line ≡ []
-  of_report n turn (right.bad_area sender area e bad) is = is ∙ (line_rows 1 n turn).report_none (outcome.Refused e)
-  of_report n turn (right.heard sender area read) is = is ∙ (line_rows 1 n turn).report_none outcome.Accepted
+  of_report n turn (right.bad_area sender area e bad) is = is ∙ (line_rows 1 n turn).report_none (Err e)
+  of_report n turn (right.heard sender area read) is = is ∙ (line_rows 1 n turn).report_none (Ok tt)
 
   of_seat : {a : DeviceAddress} {r : BookReply} {line : List ℕ} (first n turn : ℕ) (address : List ℕ) → Makes (first ∷ address) (call.seat a ∷ []) → Replies company before (call.seat a) r
       → line ≡ reply_line first n r turn → Shown company before (first ∷ address) line
   of_seat first n turn address makes (right.already a there) is =
-      one_row _ (making.seats first address a (outcome.Refused error.AlreadySeated) 0 makes (right.already a there)) (is ∙ (line_rows first n turn).seat_row (outcome.Refused error.AlreadySeated) 0)
+      one_row _ (making.refuses first address a error.AlreadySeated makes (right.already a there)) (is ∙ (line_rows first n turn).refused_row error.AlreadySeated)
   of_seat first n turn address makes (right.full a free full) is =
-      one_row _ (making.seats first address a (outcome.Refused error.NoFreeSeat) 0 makes (right.full a free full)) (is ∙ (line_rows first n turn).seat_row (outcome.Refused error.NoFreeSeat) 0)
+      one_row _ (making.refuses first address a error.NoFreeSeat makes (right.full a free full)) (is ∙ (line_rows first n turn).refused_row error.NoFreeSeat)
   of_seat first n turn address makes (right.sits a free room) is =
-      one_row _ (making.seats first address a outcome.Accepted (length (standing before).seats + 1) makes (right.sits a free room))
-      (is ∙ (line_rows first n turn).seat_row outcome.Accepted (length (standing before).seats + 1))
+      one_row _ (making.seats first address a (length (standing before).seats + 1) makes (right.sits a free room))
+      (is ∙ (line_rows first n turn).seat_row (length (standing before).seats + 1))
 
   of_close : {r : BookReply} {line : List ℕ} (n : ℕ) → Replies company before call.close r → line ≡ reply_line 5 n r (standing (before ++ (call.close ∷ []))).turn → Shown company before (0x05 ∷ []) line
   of_close n (right.last_turn e) is =
-      one_row _ (making.closes (outcome.Refused error.LastTurn) (right.last_turn e)) (is ∙ (line_rows 5 n (standing (before ++ (call.close ∷ []))).turn).close_row (outcome.Refused error.LastTurn))
+      one_row _ (making.closes (Err error.LastTurn) (right.last_turn e)) (is ∙ (line_rows 5 n (standing (before ++ (call.close ∷ []))).turn).close_row (Err error.LastTurn))
   of_close n (right.closed e) is =
-      one_row _ (making.closes outcome.Accepted (right.closed e)) (is ∙ (line_rows 5 n (standing (before ++ (call.close ∷ []))).turn).close_row outcome.Accepted)
+      one_row _ (making.closes (Ok tt) (right.closed e)) (is ∙ (line_rows 5 n (standing (before ++ (call.close ∷ []))).turn).close_row (Ok tt))
 
   of_open : {n : ℕ} {r : BookReply} {line : List ℕ} (turn : ℕ) → Replies company before (call.read_open n) r → line ≡ reply_line 6 n r turn → Shown company before (0x06 ∷ n ∷ []) line
   of_open turn (right.open_move n m its_move) is = one_row _ (making.open_move n m (right.open_move n m its_move)) (is ∙ (line_rows 6 n turn).move_row_law m)
@@ -159,9 +158,9 @@ number_fits error.AlreadySeated = omega arith
 number_fits error.NoFreeSeat = omega arith
 number_fits error.LastTurn = omega arith
 
-outcome_fits : (o : Outcome) → outcome_number o < 1000
-outcome_fits outcome.Accepted = omega arith
-outcome_fits (outcome.Refused e) = number_fits e
+outcome_fits : (o : Result (Unit {0}) Error) → outcome_number o < 1000
+outcome_fits (Ok tt) = omega arith
+outcome_fits (Err e) = number_fits e
 
 fours_fit : (n : ℕ) (l : List ℕ) → length l ≡ n → Octets l → Fits (replicate n 4) l
 fours_fit zero [] long octets = tt
@@ -245,9 +244,7 @@ module _ (company : ℕ) (before : List BookCall) where
   turn_most : (standing before).turn ≤ 65535
   turn_most = turn_close (turn_book company before call.close).replies
 
-  seat_few : {a : DeviceAddress} {o : Outcome} {k : ℕ} → Replies company before (call.seat a) (call.seated o k) → k ≤ 64
-  seat_few (right.already a there) = omega arith
-  seat_few (right.full a free full) = omega arith
+  seat_few : {a : DeviceAddress} {k : ℕ} → Replies company before (call.seat a) (call.seated (Ok k)) → k ≤ 64
   seat_few (right.sits a free room) = omega arith
 
   seat_first : {first : ℕ} {address : List ℕ} {a : DeviceAddress} → Makes (first ∷ address) (call.seat a ∷ []) → first < 100
@@ -264,8 +261,10 @@ module _ (company : ℕ) (before : List BookCall) where
 one_fits : (company : ℕ) (before : List BookCall) {item : List ℕ} {rows : List ClubRow} → Shows company before item rows → All OfOctets before → Octets item → All HasRoom rows
 one_fits company before (making.silent item makes) heard octets = tt
 one_fits company before (making.reported item sender area makes) heard octets = tt
-one_fits company before (making.seats first address a o k makes reply) heard octets =
-    ((seat_first company before makes, (outcome_fits o, (omega (arith, seat_few company before reply), tt))), tt)
+one_fits company before (making.seats first address a k makes reply) heard octets =
+    ((seat_first company before makes, (omega arith, (omega (arith, seat_few company before reply), tt))), tt)
+one_fits company before (making.refuses first address a e makes reply) heard octets =
+    ((seat_first company before makes, (number_fits e, (omega arith, tt))), tt)
 one_fits company before (making.closes o reply) heard octets =
     ((omega arith, (outcome_fits o, (omega (arith, turn_most company (before ++ (call.close ∷ []))), tt))), tt)
 one_fits company before (making.open_move n m reply) heard octets = (move_fits 6 n m (omega arith) octets.1.0 (open_fits company before heard reply), tt)

@@ -3,7 +3,7 @@
 --   sent_item first kind sender records == a packet that is a beacon, by its item's first octet and its header's: 42 has a random sender, 02 a public one
 --   short_evening, long_evening   == items, as in docs/TURNBOOK.md and examples/club; and with what does not count among them
 --   Examples                    (Examples.examples)
-use Rattle.std.specs.Prelude.{◌≡◌, ℕ, ◌+◌, length, replicate}
+use Rattle.std.specs.Prelude.{◌≡◌, ℕ, ◌+◌, length, replicate, None, Some}
 use mathlib.Core.List.{List, [], ◌∷◌, ◌++◌, map, flatten}
 use Rattle.columns.specs.Text.{lines}
 use Rattle.book_spec.specs.Examples.{move_row}
@@ -84,6 +84,6 @@ pub record Examples : Type 0 where
   -- whole items of each kind, with an octet more; each cut short by an octet, and an octet that begins none
   pub whole :
       map whole_item (map (λ (n : ℕ). n ∷ replicate 8 0) (0 ∷ 1 ∷ 2 ∷ 3 ∷ 4 ∷ 5 ∷ 6 ∷ 7 ∷ 8 ∷ 255 ∷ []))
-      ≡ 1 ∷ 3 ∷ 3 ∷ 7 ∷ 7 ∷ 1 ∷ 2 ∷ 2 ∷ 0 ∷ 0 ∷ []
-  pub cut_short : map whole_item ([] ∷ (0x01 ∷ 0 ∷ []) ∷ (0x03 ∷ replicate 5 0) ∷ (0x04 ∷ replicate 5 0) ∷ (0x06 ∷ []) ∷ (0x07 ∷ []) ∷ []) ≡ 0 ∷ 0 ∷ 0 ∷ 0 ∷ 0 ∷ 0 ∷ []
+      ≡ Some 1 ∷ Some 3 ∷ Some 3 ∷ Some 7 ∷ Some 7 ∷ Some 1 ∷ Some 2 ∷ Some 2 ∷ None ∷ None ∷ []
+  pub cut_short : map whole_item ([] ∷ (0x01 ∷ 0 ∷ []) ∷ (0x03 ∷ replicate 5 0) ∷ (0x04 ∷ replicate 5 0) ∷ (0x06 ∷ []) ∷ (0x07 ∷ []) ∷ []) ≡ None ∷ None ∷ None ∷ None ∷ None ∷ None ∷ []
   pub left_over_law : after_club (club_items 9 (0x05 ∷ 0x06 ∷ 1 ∷ 0x07 ∷ [])) (0x05 ∷ 0x06 ∷ 1 ∷ 0x07 ∷ []) ≡ 0x07 ∷ []

@@ -4,7 +4,7 @@
 --   Evening company its     (Evenings.evening)   after any items, the book is that of their calls from a fresh one; and the line of the next item is that of the reply to its call
 --   Fitted k s room         (Taking.fitted)      the items that are taken are the first of those at the front; no more are taken for want of room or of a whole item alone
 --   LineSizes k item        (Taking.line_sizes)  no line of an item is longer than 90 octets
-use Rattle.std.specs.Prelude.{◌≡◌, ◌⊎◌, ℕ, ◌+◌, ◌<◌, ◌≤◌, length, get_or, drop}
+use Rattle.std.specs.Prelude.{◌≡◌, ◌⊎◌, ℕ, ◌+◌, ◌<◌, ◌≤◌, length, get_or, drop, None}
 use mathlib.Core.List.{List, [], ◌∷◌, ◌++◌, flatten}
 use Rattle.beacon_spec.specs.State.{BeaconScanner}
 use Rattle.hub_spec.specs.Log.{scanner_after}
@@ -43,7 +43,7 @@ pub record Fitted (k : Club) (s : List ℕ) (room : ℕ) : Type 0 where
   pub more : List (List ℕ)
   pub first : club_items (length s) s ≡ fitting_in k s room ++ more
   pub room_kept : length (club_lines k (fitting_in k s room)) ≤ room
-  pub stops : (whole_item (drop (length (flatten (fitting_in k s room))) s) ≡ 0) ⊎ (room < length (club_lines k (fitting_in k s room)) + 90)
+  pub stops : (whole_item (drop (length (flatten (fitting_in k s room))) s) ≡ None) ⊎ (room < length (club_lines k (fitting_in k s room)) + 90)
 
 abbrev pub LineSizes : Club → List ℕ → Type 0
 LineSizes k item = length (club_line k item) ≤ 90

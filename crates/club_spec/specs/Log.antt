@@ -7,7 +7,8 @@
 --     last line    | the turn that is open 6 | flag 2: 1 where octets are left over |
 --
 --   calls_for s item               == the call on the book that an item makes, where the scanner is s; none, or one
---   packet_calls sc payload        == that of a packet: a report, where the scanner reports; own_calls first rest: that of the club's own items
+--   packet_calls sc payload        == that of a packet: a report, where the scanner reports; report_calls r payload: by its report; own_calls first rest: that of the
+--                                     club's own items
 --   seat_widths, close_widths, move_widths, end_widths == the columns of the lines
 --   reply_line first n r turn      == the line of a reply to the item that begins with `first` and names seat n; `turn` is the open one then
 --   call_line item b c             == the same of a call on the book b
@@ -21,16 +22,18 @@
 --   longest_line                   == octets of the longest line
 --   items_fitting n k s room       == the items at the front of s, at most n, as long as there is room for the longest line in `room` octets
 --   items_taken k s room           == what taking these answers
-use Rattle.std.specs.Prelude.{cond, ◌||◌, ℕ, zero, suc, ◌-◌, leb, ltb, eqb, length, get_or, take, drop, replicate}
+use Rattle.std.specs.Prelude.{cond, ℕ, zero, suc, ◌-◌, leb, ltb, eqb, length, get_or, take, drop, replicate, Option, None, Some, option_map, Result, Ok, Err}
+use Rattle.std.specs.Option.{option_map_or}
 use mathlib.Core.List.{List, [], ◌∷◌, ◌++◌, flatten}
-use Rattle.octets.specs.Error.{outcome_number}
+use Rattle.octets.specs.Error.{number_of, outcome_number}
+use Rattle.octets.specs.declared.error.Error.{Error}
 use Rattle.columns.specs.Row.{row_of}
 use Rattle.addresses.specs.Address.{address_of}
 use Rattle.addresses.specs.declared.device_address.AddressKind.TheVariants.{Public, Random}
 use Rattle.addresses.specs.declared.filter.AddressFilter.TheVariants.{AllowAll}
 use Rattle.advertising.specs.Pdu.{data_in}
-use Rattle.beacon_spec.specs.Scanner.{scanner_of, configured, is_report}
-use Rattle.beacon_spec.specs.State.{BeaconScanner, Scanned}
+use Rattle.beacon_spec.specs.Scanner.{scanner_of, configured}
+use Rattle.beacon_spec.specs.State.{BeaconScanner, Scanned, Report}
 use Rattle.hub_spec.specs.Log.{start, heard_in, scanner_after, left_over}
 use Rattle.book_spec.specs.Book.{fresh_book}
 use Rattle.book_spec.specs.History.{BookCall, seat, report, close, read_open, read_closed, BookReply, seated, called, seat_is, move_is, number_is, next_book, reply_of, book_after}
@@ -39,8 +42,13 @@ use Rattle.club_spec.specs.Item.{whole_item, club_items, after_club}
 use Rattle.club_spec.specs.State.{Club, TakenItem, TakenItems}
 
 -- the record area as the scanner tells it, in the payload
+abbrev pub report_calls : Report → List ℕ → List BookCall
+report_calls (Ok (Some x)) payload = report x.sender (data_in x.adv_data payload) ∷ []
+report_calls (Ok None) payload = []
+report_calls (Err e) payload = []
+
 abbrev pub packet_calls : Scanned → List ℕ → List BookCall
-packet_calls sc payload = cond (is_report sc.report) (report sc.sender (data_in sc.adv_data payload) ∷ []) []
+packet_calls sc payload = report_calls sc.report payload
 
 abbrev pub own_calls : ℕ → List ℕ → List BookCall
 own_calls first rest =
@@ -65,9 +73,18 @@ move_widths = 2 ∷ 4 ∷ 3 ∷ replicate 20 4
 abbrev pub end_widths : List ℕ
 end_widths = 6 ∷ 2 ∷ []
 
+-- the numbers of a seating
+abbrev pub seat_refusal : Result ℕ Error → ℕ
+seat_refusal (Ok k) = 0
+seat_refusal (Err e) = number_of e
+
+abbrev pub seat_number : Result ℕ Error → ℕ
+seat_number (Ok k) = k
+seat_number (Err e) = 0
+
 -- a report has no line
 unfoldable pub reply_line : ℕ → ℕ → BookReply → ℕ → List ℕ
-reply_line first n (seated o k) turn = row_of seat_widths (first ∷ outcome_number o ∷ k ∷ [])
+reply_line first n (seated s) turn = row_of seat_widths (first ∷ seat_refusal s ∷ seat_number s ∷ [])
 reply_line first n (called o) turn = cond (eqb first 5) (row_of close_widths (first ∷ outcome_number o ∷ turn ∷ [])) []
 reply_line first n (move_is m) turn = row_of move_widths (first ∷ n ∷ m.len ∷ m.octets)
 reply_line first n (seat_is read) turn = []
@@ -106,12 +123,11 @@ club_log company s =
 -- What the library answers
 
 unfoldable pub item_line : Club → List ℕ → List ℕ
-item_line k s = cond (eqb (whole_item s) 0) [] (club_line k (take (whole_item s) s))
+item_line k s = option_map_or (λ size. club_line k (take size s)) (whole_item s) []
 
-unfoldable pub item_taken : Club → List ℕ → TakenItem
+unfoldable pub item_taken : Club → List ℕ → Option TakenItem
 item_taken k s =
-    cond (eqb (whole_item s) 0) (record { club = k; size = 0; written = 0 })
-    (record { club = club_after k (take (whole_item s) s); size = whole_item s; written = length (club_line k (take (whole_item s) s)) })
+    option_map (λ size. record { club = club_after k (take size s); size = size; written = length (club_line k (take size s)) }) (whole_item s)
 
 abbrev pub longest_line : ℕ
 longest_line = 90
@@ -119,9 +135,8 @@ longest_line = 90
 unfoldable pub items_fitting : ℕ → Club → List ℕ → ℕ → List (List ℕ)
 items_fitting zero k s room = []
 items_fitting (suc n) k s room =
-    cond (eqb (whole_item s) 0 || ltb room longest_line) []
-    (take (whole_item s) s
-    ∷ items_fitting n (club_after k (take (whole_item s) s)) (drop (whole_item s) s) (room - length (club_line k (take (whole_item s) s))))
+    cond (ltb room longest_line) []
+    (option_map_or (λ size. take size s ∷ items_fitting n (club_after k (take size s)) (drop size s) (room - length (club_line k (take size s)))) (whole_item s) [])
 
 abbrev pub fitting_in : Club → List ℕ → ℕ → List (List ℕ)
 fitting_in k s room = items_fitting (length s) k s room

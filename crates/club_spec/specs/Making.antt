@@ -16,12 +16,11 @@
 --   LogOf company its rest      (Making.log_of_law)       the log of items and of octets after them that begin none
 --   EveningLog company s        (Shown.evening_log)   THE LOG of s in these words alone: a row for each item that has one, and the last line; every number fits
 --   TakenIs k s room            (Making.taken_is)     what is taken of s
-use Rattle.std.specs.Prelude.{◌≡◌, ℕ, suc, ◌/◌, ◌%◌, length}
+use Rattle.std.specs.Prelude.{◌≡◌, ℕ, suc, ◌/◌, ◌%◌, length, Option, None, Some, Result, Ok, Err}
 use mathlib.Core.List.{List, [], ◌∷◌, ◌++◌, map, flatten}
-use Rattle.octets.specs.Error.{outcome_number}
+use Rattle.octets.specs.Error.{number_of, outcome_number}
 use Rattle.octets.specs.Laws.{Octets}
 use Rattle.octets.specs.Lists.{All}
-use Rattle.octets.specs.declared.error.Outcome.{Outcome}
 use Rattle.addresses.specs.Address.{address_of}
 use Rattle.addresses.specs.declared.device_address.AddressKind.TheVariants.{Public, Random}
 use Rattle.addresses.specs.declared.device_address.DeviceAddress.{DeviceAddress}
@@ -33,11 +32,11 @@ use Rattle.hub_spec.specs.Reported.{IsReported}
 use Rattle.book_spec.specs.History.{BookCall, seat, report, close, read_open, read_closed, seated, called, seat_is, move_is, number_is, standing}
 use Rattle.book_spec.specs.TurnBook.{Replies}
 use Rattle.book_spec.specs.declared.Move.{Move}
-use Rattle.book_spec.specs.declared.SeatRead.{SeatRead}
 use Rattle.club_spec.specs.Item.{IsClubItem}
 use Rattle.club_spec.specs.Laws.{calls_of, scanner_on}
 use Rattle.club_spec.specs.Log.{calls_for, reply_line, club_line, club_lines, club_after, club_after_all, fresh_club, end_line, club_log, item_taken, item_line, items_taken, fitting_in}
 use Rattle.club_spec.specs.State.{Club}
+use Rattle.octets.specs.declared.error.Error.{Error}
 
 pub data Makes : List ℕ → List BookCall → Type 0 where
   tick : Makes (0x00 ∷ []) []
@@ -83,12 +82,13 @@ move_columns = 2 ∷ 4 ∷ 3 ∷ 4 ∷ 4 ∷ 4 ∷ 4 ∷ 4 ∷ 4 ∷ 4 ∷ 4 ∷
 
 -- the figure of specs/Log, with its widths as numbers; a packet begins with 1, and a report has no line
 pub record LineRows (first n turn : ℕ) : Type 0 where
-  pub seat_row : (o : Outcome) (k : ℕ) → reply_line first n (seated o k) turn ≡ row_of (2 ∷ 3 ∷ 3 ∷ []) (first ∷ outcome_number o ∷ k ∷ [])
-  pub close_row : (o : Outcome) → reply_line 5 n (called o) turn ≡ row_of (2 ∷ 3 ∷ 6 ∷ []) (5 ∷ outcome_number o ∷ turn ∷ [])
+  pub seat_row : (k : ℕ) → reply_line first n (seated (Ok k)) turn ≡ row_of (2 ∷ 3 ∷ 3 ∷ []) (first ∷ 0 ∷ k ∷ [])
+  pub refused_row : (e : Error) → reply_line first n (seated (Err e)) turn ≡ row_of (2 ∷ 3 ∷ 3 ∷ []) (first ∷ number_of e ∷ 0 ∷ [])
+  pub close_row : (o : Result (Unit {0}) Error) → reply_line 5 n (called o) turn ≡ row_of (2 ∷ 3 ∷ 6 ∷ []) (5 ∷ outcome_number o ∷ turn ∷ [])
   pub move_row_law : (m : Move) → reply_line first n (move_is m) turn ≡ row_of move_columns (first ∷ n ∷ m.len ∷ m.octets)
-  pub report_none : (o : Outcome) → reply_line 1 n (called o) turn ≡ []
+  pub report_none : (o : Result (Unit {0}) Error) → reply_line 1 n (called o) turn ≡ []
   -- no item asks for these
-  pub seat_none : (read : SeatRead) → reply_line first n (seat_is read) turn ≡ []
+  pub seat_none : (read : Option DeviceAddress) → reply_line first n (seat_is read) turn ≡ []
   pub number_none : (k : ℕ) → reply_line first n (number_is k) turn ≡ []
 
 -- the flag is 0 where no octets are left over
@@ -129,12 +129,16 @@ HasRoom r = Fits r.widths r.numbers
 pub data Shows (company : ℕ) (before : List BookCall) : List ℕ → List ClubRow → Type 0 where
   silent : (item : List ℕ) → Makes item [] → Shows company before item []
   reported : (item : List ℕ) (sender : DeviceAddress) (area : List ℕ) → Makes item (report sender area ∷ []) → Shows company before item []
-  seats : (first : ℕ) (address : List ℕ) (a : DeviceAddress) (o : Outcome) (k : ℕ)
+  seats : (first : ℕ) (address : List ℕ) (a : DeviceAddress) (k : ℕ)
       → Makes (first ∷ address) (seat a ∷ [])
-      → Replies company before (seat a) (seated o k)
-      → Shows company before (first ∷ address) (record { widths = 2 ∷ 3 ∷ 3 ∷ []; numbers = first ∷ outcome_number o ∷ k ∷ [] } ∷ [])
+      → Replies company before (seat a) (seated (Ok k))
+      → Shows company before (first ∷ address) (record { widths = 2 ∷ 3 ∷ 3 ∷ []; numbers = first ∷ 0 ∷ k ∷ [] } ∷ [])
+  refuses : (first : ℕ) (address : List ℕ) (a : DeviceAddress) (e : Error)
+      → Makes (first ∷ address) (seat a ∷ [])
+      → Replies company before (seat a) (seated (Err e))
+      → Shows company before (first ∷ address) (record { widths = 2 ∷ 3 ∷ 3 ∷ []; numbers = first ∷ number_of e ∷ 0 ∷ [] } ∷ [])
   -- with the turn that is open after it
-  closes : (o : Outcome)
+  closes : (o : Result (Unit {0}) Error)
       → Replies company before close (called o)
       → Shows company before (0x05 ∷ []) (record { widths = 2 ∷ 3 ∷ 6 ∷ []; numbers = 5 ∷ outcome_number o ∷ (standing (before ++ (close ∷ []))).turn ∷ [] } ∷ [])
   open_move : (n : ℕ) (m : Move)
@@ -173,9 +177,9 @@ pub record EveningLog (company : ℕ) (s : List ℕ) : Type 0 where
 -- which items fit in the room: the law `Fitted`
 pub record TakenIs (k : Club) (s : List ℕ) (room : ℕ) : Type 0 where
   pub taken : (item rest : List ℕ) → IsClubItem item → s ≡ item ++ rest
-      → item_taken k s ≡ record { club = club_after k item; size = length item; written = length (club_line k item) }
+      → item_taken k s ≡ Some (record { club = club_after k item; size = length item; written = length (club_line k item) })
   pub line : (item rest : List ℕ) → IsClubItem item → s ≡ item ++ rest → item_line k s ≡ club_line k item
-  pub none_taken : NoItem s → item_taken k s ≡ record { club = k; size = 0; written = 0 }
+  pub none_taken : NoItem s → item_taken k s ≡ None
   pub no_line : NoItem s → item_line k s ≡ []
   pub many : items_taken k s room
       ≡ record { club = club_after_all k (fitting_in k s room); taken = length (flatten (fitting_in k s room)); written = length (club_lines k (fitting_in k s room)) }

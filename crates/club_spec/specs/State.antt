@@ -1,6 +1,6 @@
 -- A club, and what its calls return. The structs of these names in club are read as these records (specs/State.antt there); a club has private fields.
 --   Club        == the book that it keeps, and the scanner that it listens with
---   TakenItem   == what taking an item did: the club, the octets of the item, 0 where no whole one stood there, and the octets of its line
+--   TakenItem   == what taking an item did: the club, the octets of the item, and the octets of its line
 --   TakenItems  == the same of the items at the front of some octets
 use Rattle.std.specs.Prelude.{ℕ}
 use Rattle.beacon_spec.specs.State.{BeaconScanner}

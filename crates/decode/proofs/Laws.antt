@@ -2,12 +2,8 @@
 use mathlib.Core.List.{List}
 use mathlib.Core.Path.{refl}
 use Prim.Native.Nat.{ℕ}
-use Rattle.channels.specs.Count.{count}
-use Rattle.channels.specs.Map.{cleared, marked, marks}
 use Rattle.addresses.specs.declared.header.Header.{Header}
-use Rattle.answers.specs.Packet.{packet_said}
 use Rattle.decode.specs.Laws.{Decodes}
 
 pub decodes : (h : Header) (p : List ℕ) → Decodes h p
-unfolding packet_said cleared marks count marked
 decodes h p = record { reads = refl; no_header = λ e. refl }

@@ -1,18 +1,17 @@
 -- What a header and a payload are answered with.
 --   Decodes h p   (Laws.decodes)   they are read by the general decoder; without a header they are refused, with type 15 and no field
 --   Holds (Holding.holds): all laws of this crate
-use Rattle.std.specs.Prelude.{false, List, [], ◌∷◌, ◌≡◌, ℕ}
+use Rattle.std.specs.Prelude.{false, List, [], ◌∷◌, ◌≡◌, ℕ, Ok, Err}
 use Rattle.octets.specs.Error.{number_of}
 use Rattle.octets.specs.declared.error.Error.{Error}
 use Rattle.addresses.specs.declared.header.Header.{Header}
-use Rattle.addresses.specs.declared.header.HeaderMade.TheVariants as made
 use Rattle.advertising.specs.Pdu.{decode_of}
 use Rattle.answers.specs.Packet.{packet_said}
 use Rattle.decode.specs.Packet.{decoded_from}
 
 pub record Decodes (h : Header) (p : List ℕ) : Type 0 where
-  pub reads : decoded_from (made.Header h) p ≡ packet_said (decode_of h p)
-  pub no_header : (e : Error) → decoded_from (made.Refused e) p ≡ record {
+  pub reads : decoded_from (Ok h) p ≡ packet_said (decode_of h p)
+  pub no_header : (e : Error) → decoded_from (Err e) p ≡ record {
     number = number_of e;
     ty = 15;
     sender_random = false;

@@ -3,7 +3,7 @@ use Rattle.octets.specs.Bytes.{part_or}
 use mathlib.Core.Bool.{Bool, false}
 use mathlib.Core.List.{List}
 use mathlib.Core.Path.{◌≡◌, sym, ap, ◌∙◌}
-use Prim.Native.Nat.{ℕ, ◌+◌, ◌*◌, ◌^◌, ◌≤◌, ◌<◌}
+use Prim.Native.Nat.{ℕ, ◌+◌, ◌*◌}
 use native.Mathlib.Numerals.{add-one}
 use lib.Dec.{eqb}
 use lib.ListN.{get_or}
@@ -40,12 +40,8 @@ module _ (c : List ℕ) (s : BeaconScanner) where
   unfolding entry_said
   said_packet list x y h p b = (λ j. hear_said (scanned s (h j) (p j) (b j) list)) ∙ rw (x, y)
 
--- i entries of a list have been given, from a scanner on
-pub record Given (s : BeaconScanner) (entries : List ℕ) (n : ℕ) (listening : BeaconScanner) (i : ℕ) : Type 0 where
-  pub below : i ≤ n
-  pub small : n < 2 ^ 64
-  pub reached : listening ≡ entries_up_to s entries i
-
-pub one_more : (s : BeaconScanner) (entries : List ℕ) (i : ℕ) {l l' : BeaconScanner} {p : List ℕ} → l ≡ entries_up_to s entries i → p ≡ part_or 272 entries (272 * i) → l' ≡ entry_after p l → l' ≡ entries_up_to s entries (i + 1)
+-- one more entry of a list
+pub one_more : (s : BeaconScanner) (entries : List ℕ) (i j : ℕ) {l l' : BeaconScanner} {p : List ℕ} → l ≡ entries_up_to s entries i → p ≡ part_or 272 entries (272 * i) → l' ≡ entry_after p l → j ≡ i + 1
+    → l' ≡ entries_up_to s entries j
 unfolding entries_up_to
-one_more s entries i so part r = r ∙ (λ j. entry_after (part j) (so j)) ∙ ap (entries_up_to s entries) (sym (add-one i))
+one_more s entries i j so part r one = r ∙ (λ k. entry_after (part k) (so k)) ∙ ap (entries_up_to s entries) (sym (one ∙ add-one i))

@@ -40,7 +40,8 @@ builds a s =
       which_4 = refl;
       above_4 = λ which more. rw (ne_eqb which 0 (λ e. omega arith), ne_eqb which 1 (λ e. omega arith), ne_eqb which 2 (λ e. omega arith), ne_eqb which 3 (λ e. omega arith), ne_eqb which 4 (λ e. omega arith));
       frame_is = λ number pdu. refl;
-      built_is = λ b. refl;
+      built_is = λ pdu. refl;
+      not_built = λ e. refl;
     }
 
 pub sends : (b : Beacon) (tx : List ℕ) → SentSays b tx
@@ -69,7 +70,9 @@ pub hears : (s : BeaconScanner) (h : Header) (p list : List ℕ) (crcOk : Bool) 
 unfolding scanned
 hears s h p list crcOk =
     record {
-      says = λ x. refl;
+      reports = λ x c. refl;
+      nothing = λ c. refl;
+      refuses = λ e c. refl;
       hears = refl;
       no_header = λ e good. rw good;
       bad_list = λ e bad. rw bad;

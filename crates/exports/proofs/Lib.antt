@@ -1,3 +1,4 @@
+pub mod Chunks
 pub mod Replays
 pub mod Entries
 pub mod Laws

@@ -3,7 +3,7 @@ use Rattle.octets.specs.Bytes.{part_or}
 use mathlib.Core.Bool.{Bool, false}
 use mathlib.Core.List.{List}
 use mathlib.Core.Path.{◌≡◌, sym, ap, ◌∙◌}
-use Prim.Native.Nat.{ℕ, ◌+◌, ◌*◌, ◌^◌, ◌≤◌, ◌<◌}
+use Prim.Native.Nat.{ℕ, ◌+◌, ◌*◌}
 use native.Mathlib.Numerals.{add-one}
 use lib.Dec.{eqb}
 use lib.ListN.{length, get_or}
@@ -40,15 +40,13 @@ module _ (c tx : List ℕ) where
   as_stop a b d e f = rw (a, b, d, e, f)
 
 -- i calls of a list have been made, from a board on
-pub record Replayed (s : Board) (calls : List ℕ) (n : ℕ) (first second : List ℕ) (device : State) (i : ℕ) : Type 0 where
-  pub below : i ≤ n
-  pub small : n < 2 ^ 64
+pub record Replayed (s : Board) (calls : List ℕ) (first second : List ℕ) (device : State) (i : ℕ) : Type 0 where
   pub reached : board_of device first second ≡ ran s calls i
   pub long_first : length first ≡ length s.first
   pub long_second : length second ≡ length s.second
 
-pub replays_on : (s : Board) (calls : List ℕ) (i : ℕ) {d : State} {a b : List ℕ} {p : List ℕ} {r : Step} {a' b' : List ℕ} → board_of d a b ≡ ran s calls i → p ≡ part_or 272 calls (272 * i)
-    → r ≡ called_by p (board_of d a b) → a' ≡ (step_of p (board_of d a b)).first → b' ≡ (step_of p (board_of d a b)).second → board_of r.state a' b' ≡ ran s calls (i + 1)
+pub replays_on : (s : Board) (calls : List ℕ) (i j : ℕ) {d : State} {a b : List ℕ} {p : List ℕ} {r : Step} {a' b' : List ℕ} → board_of d a b ≡ ran s calls i → p ≡ part_or 272 calls (272 * i)
+    → r ≡ called_by p (board_of d a b) → a' ≡ (step_of p (board_of d a b)).first → b' ≡ (step_of p (board_of d a b)).second → j ≡ i + 1 → board_of r.state a' b' ≡ ran s calls j
 unfolding ran step_of
-replays_on s calls i {d} {a} {b} {p} so part r first second =
-    (λ j. board_of (r j).state (first j) (second j)) ∙ ap (step_of p) so ∙ ap (λ (q : List ℕ). step_of q (ran s calls i)) part ∙ ap (ran s calls) (sym (add-one i))
+replays_on s calls i j {d} {a} {b} {p} so part r first second one =
+    (λ k. board_of (r k).state (first k) (second k)) ∙ ap (step_of p) so ∙ ap (λ (q : List ℕ). step_of q (ran s calls i)) part ∙ ap (ran s calls) (sym (one ∙ add-one i))

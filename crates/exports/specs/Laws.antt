@@ -17,12 +17,11 @@
 --   EntryByEntry s entries more n      (Runs.entry_by_entry) the same of a scanner
 --   CalledSays adv conn                (Laws.says)           the numbers of each answer
 --   Holds (Holding.holds): all of these, with what they assume
-use Rattle.std.specs.Prelude.{Bool, true, false, List, [], ◌∷◌, ◌++◌, ◌≡◌, ℕ, ◌+◌, ◌*◌, ◌≤◌, ◌<◌, eqb, length, get_or, take, replicate}
+use Rattle.std.specs.Prelude.{Bool, true, false, List, [], ◌∷◌, ◌++◌, ◌≡◌, ℕ, ◌+◌, ◌*◌, ◌≤◌, ◌<◌, eqb, length, get_or, take, replicate, Ok, Err, Some, None}
 use Rattle.octets.specs.Bytes.{le}
-use Rattle.octets.specs.Error.{number_of, outcome_number}
+use Rattle.octets.specs.Error.{number_of}
 use Rattle.octets.specs.Time.{later}
 use Rattle.octets.specs.declared.error.Error.{Error}
-use Rattle.octets.specs.declared.error.Outcome.TheVariants.{Accepted, Refused}
 use Rattle.octets.specs.declared.time.Instant.{Instant}
 use Rattle.channels.specs.Phy.{index_of}
 use Rattle.channels.specs.declared.phy.AdvertisingChannel.{AdvertisingChannel}
@@ -32,15 +31,13 @@ use Rattle.addresses.specs.Address.{is_random}
 use Rattle.addresses.specs.Header.{header_of, type_code, is_beacon, allows_adv_data, type_of, tx_add, rx_add, length_of, set_tx_add, set_rx_add, length_set}
 use Rattle.addresses.specs.declared.device_address.DeviceAddress.{DeviceAddress}
 use Rattle.addresses.specs.declared.header.Header.{Header}
-use Rattle.addresses.specs.declared.header.HeaderMade.TheVariants as made
 use Rattle.addresses.specs.declared.header.PduType.TheVariants.{AdvInd, AdvNonconnInd, AdvScanInd, ScanRsp}
 use Rattle.advertising.specs.PduBuf.{built_of, flags_record, payload_after}
-use Rattle.advertising.specs.declared.pdu_buf.Built.{Built}
 use Rattle.advertising.specs.declared.pdu_buf.PduBuf.{PduBuf}
-use Rattle.beacon_spec.specs.Scanner.{configured, timer_updated, scanned, is_list_for, report_number, is_report}
+use Rattle.beacon_spec.specs.Scanner.{configured, timer_updated, scanned, is_list_for}
 use Rattle.beacon_spec.specs.Sending.{broadcast_of}
 use Rattle.beacon_spec.specs.State.{Beacon, BeaconScanner, Scanned, Updated}
-use Rattle.beacon_spec.specs.declared.beacon.Broadcast.TheVariants as broadcast
+use Rattle.beacon_spec.specs.declared.beacon.Sighting.{Sighting}
 use Rattle.radio_spec.specs.Call.{start, tick, packet, event, stop, set_scan_data, call_of}
 use Rattle.radio_spec.specs.Calls.{fresh, instant, is_advertising, is_connected, start_after, tick_after, packet_after}
 use Rattle.radio_spec.specs.State.{State, Step}
@@ -53,7 +50,7 @@ use Rattle.exports.specs.Scans.{with_next, listen_said, hear_said, entry_after, 
 use Rattle.exports.specs.declared.air.Heard.{Heard}
 
 pub record Heads (h : Header) (tx rx : Bool) (n : ℕ) : Type 0 where
-  pub says : header_said (made.Header h) ≡ record {
+  pub says : header_said (Ok h) ≡ record {
     number = 0;
     raw = h.0;
     ty = type_code (type_of h);
@@ -63,12 +60,12 @@ pub record Heads (h : Header) (tx rx : Bool) (n : ℕ) : Type 0 where
     is_beacon = is_beacon (type_of h);
     allows_adv_data = allows_adv_data (type_of h);
   }
-  pub says_none : (e : Error) → header_said (made.Refused e) ≡ record { number = number_of e; raw = 0; ty = 0; tx_add = false; rx_add = false; length = 0; is_beacon = false; allows_adv_data = false }
-  pub got : set_got (made.Header h) ≡ record { number = 0; first = h.0; second = 0 }
-  pub not_got : (e : Error) → set_got (made.Refused e) ≡ record { number = number_of e; first = 0; second = 0 }
+  pub says_none : (e : Error) → header_said (Err e) ≡ record { number = number_of e; raw = 0; ty = 0; tx_add = false; rx_add = false; length = 0; is_beacon = false; allows_adv_data = false }
+  pub got : set_got (Ok h) ≡ record { number = 0; first = h.0; second = 0 }
+  pub not_got : (e : Error) → set_got (Err e) ≡ record { number = number_of e; first = 0; second = 0 }
   pub set_is : head_set h tx rx n ≡ set_got (length_set n (set_rx_add rx (set_tx_add tx h)))
-  pub parsed_set_law : parsed_set (made.Header h) tx rx n ≡ head_set h tx rx n
-  pub not_parsed : (e : Error) → parsed_set (made.Refused e) tx rx n ≡ record { number = number_of e; first = 0; second = 0 }
+  pub parsed_set_law : parsed_set (Ok h) tx rx n ≡ head_set h tx rx n
+  pub not_parsed : (e : Error) → parsed_set (Err e) tx rx n ≡ record { number = number_of e; first = 0; second = 0 }
 
 pub record BuiltSays (a : DeviceAddress) (s : List ℕ) : Type 0 where
   pub which_0 : built_as 0 a s ≡ built_of AdvInd a [] s
@@ -78,16 +75,17 @@ pub record BuiltSays (a : DeviceAddress) (s : List ℕ) : Type 0 where
   pub which_4 : built_as 4 a s ≡ built_of ScanRsp a [] s
   pub above_4 : (which : ℕ) → 4 < which → built_as which a s ≡ built_of AdvScanInd a [] s
   pub frame_is : (number : ℕ) (pdu : PduBuf) → frame_of number pdu ≡ record { number = number; header = pdu.header.0; payload = pdu.payload_buf }
-  pub built_is : (b : Built) → built_frame b ≡ record { number = outcome_number b.outcome; header = b.pdu.header.0; payload = b.pdu.payload_buf }
+  pub built_is : (pdu : PduBuf) → built_frame (Ok pdu) ≡ record { number = 0; header = pdu.header.0; payload = pdu.payload_buf }
+  pub not_built : (e : Error) → built_frame (Err e) ≡ record { number = number_of e; header = 0; payload = replicate 37 0 }
 
 pub record SentSays (b : Beacon) (tx : List ℕ) : Type 0 where
-  pub transmits : (h : Header) (x y z : AdvertisingChannel) → broadcast_sent (broadcast.Transmit h (record { first = x; second = y; third = z }))
+  pub transmits : (h : Header) (x y z : AdvertisingChannel) → broadcast_sent (Ok (h, x ∷ y ∷ z ∷ []))
       ≡ record { number = 0; header = h.0; first = index_of x; second = index_of y; third = index_of z }
-  pub not_sent_law : (e : Error) → broadcast_sent (broadcast.Refused e) ≡ record { number = number_of e; header = 0; first = 0; second = 0; third = 0 }
-  pub sends : beacon_sent (record { outcome = Accepted; beacon = b }) tx ≡ broadcast_sent (broadcast_of b tx)
-  pub writes : beacon_after (record { outcome = Accepted; beacon = b }) tx ≡ payload_after b.pdu tx
-  pub not_made : (e : Error) → beacon_sent (record { outcome = Refused e; beacon = b }) tx ≡ record { number = number_of e; header = 0; first = 0; second = 0; third = 0 }
-  pub keeps : (e : Error) → beacon_after (record { outcome = Refused e; beacon = b }) tx ≡ tx
+  pub not_sent_law : (e : Error) → broadcast_sent (Err e) ≡ record { number = number_of e; header = 0; first = 0; second = 0; third = 0 }
+  pub sends : beacon_sent (Ok b) tx ≡ broadcast_sent (broadcast_of b tx)
+  pub writes : beacon_after (Ok b) tx ≡ payload_after b.pdu tx
+  pub not_made : (e : Error) → beacon_sent (Err e) tx ≡ record { number = number_of e; header = 0; first = 0; second = 0; third = 0 }
+  pub keeps : (e : Error) → beacon_after (Err e) tx ≡ tx
 
 -- a scanner with a filter or without that listens on a channel, from an instant on for an interval
 abbrev pub listener : Bool → ℕ → ℕ → AdvertisingChannel → Updated
@@ -112,20 +110,22 @@ silent number channel =
 
 -- without a header, a bad list is 3 all the same, and otherwise the header's refusal is told
 pub record HeardSays (s : BeaconScanner) (h : Header) (p list : List ℕ) (crcOk : Bool) : Type 0 where
-  pub says : (x : Scanned) → heard_said x ≡ record {
-    number = report_number x.report;
-    reported = is_report x.report;
+  pub reports : (x : Sighting) (c : AdvertisingChannel) → heard_said (record { report = Ok (Some x); channel = c }) ≡ record {
+    number = 0;
+    reported = true;
     random = is_random x.sender.kind;
     sender = x.sender.bytes;
     start = x.adv_data.start;
     len = x.adv_data.len;
     count = x.adv_data.count;
     taken = x.taken;
-    channel = index_of x.channel;
+    channel = index_of c;
   }
-  pub hears : heard_from s (made.Header h) p crcOk list ≡ heard_said (scanned s h p crcOk list)
-  pub no_header : (e : Error) → is_list_for s.filter.scan list ≡ true → heard_from s (made.Refused e) p crcOk list ≡ silent (number_of e) 0
-  pub bad_list : (e : Error) → is_list_for s.filter.scan list ≡ false → heard_from s (made.Refused e) p crcOk list ≡ silent 3 (index_of s.channel)
+  pub nothing : (c : AdvertisingChannel) → heard_said (record { report = Ok None; channel = c }) ≡ silent 0 (index_of c)
+  pub refuses : (e : Error) (c : AdvertisingChannel) → heard_said (record { report = Err e; channel = c }) ≡ silent (number_of e) (index_of c)
+  pub hears : heard_from s (Ok h) p crcOk list ≡ heard_said (scanned s h p crcOk list)
+  pub no_header : (e : Error) → is_list_for s.filter.scan list ≡ true → heard_from s (Err e) p crcOk list ≡ silent (number_of e) 0
+  pub bad_list : (e : Error) → is_list_for s.filter.scan list ≡ false → heard_from s (Err e) p crcOk list ≡ silent 3 (index_of s.channel)
   pub next_is : (x : Heard) (next : ℕ) → with_next x next ≡ record {
     number = x.number;
     reported = x.reported;
@@ -217,14 +217,14 @@ pub record EntryByEntry (s : BeaconScanner) (entries more : List ℕ) (n : ℕ) 
 
 -- kinds 0 to 7 in the order of `Answer`
 pub record CalledSays (adv conn : Bool) : Type 0 where
-  pub refused : (e : Error) → answer_said (answer.Refused e) adv conn ≡ record { number = number_of e; kind = 0; advertising = adv; connected = conn; channel = 0; header = 0; at = 0; access_address = 0; crc_init = 0 }
-  pub sent : (h : Header) (c : AdvertisingChannel) (t : Instant) → answer_said (answer.Sent h c t) adv conn ≡ record { number = 0; kind = 1; advertising = adv; connected = conn; channel = index_of c; header = h.0; at = t.0; access_address = 0; crc_init = 0 }
-  pub listen : (c : AdvertisingChannel) → answer_said (answer.Listen c) adv conn ≡ record { number = 0; kind = 2; advertising = adv; connected = conn; channel = index_of c; header = 0; at = 0; access_address = 0; crc_init = 0 }
-  pub respond : (h : Header) (c : AdvertisingChannel) → answer_said (answer.Respond h c) adv conn ≡ record { number = 0; kind = 3; advertising = adv; connected = conn; channel = index_of c; header = h.0; at = 0; access_address = 0; crc_init = 0 }
-  pub first_event : (c : DataChannel) (t : Instant) (access crc : ℕ) → answer_said (answer.FirstEvent c t access crc) adv conn ≡ record { number = 0; kind = 4; advertising = adv; connected = conn; channel = c.index; header = 0; at = t.0; access_address = access; crc_init = crc }
-  pub next_event : (c : DataChannel) → answer_said (answer.NextEvent c) adv conn ≡ record { number = 0; kind = 5; advertising = adv; connected = conn; channel = c.index; header = 0; at = 0; access_address = 0; crc_init = 0 }
-  pub stopped : answer_said answer.Stopped adv conn ≡ record { number = 0; kind = 6; advertising = adv; connected = conn; channel = 0; header = 0; at = 0; access_address = 0; crc_init = 0 }
-  pub scan_data_set : answer_said answer.ScanDataSet adv conn ≡ record { number = 0; kind = 7; advertising = adv; connected = conn; channel = 0; header = 0; at = 0; access_address = 0; crc_init = 0 }
+  pub refused : (e : Error) → answer_said (Err e) adv conn ≡ record { number = number_of e; kind = 0; advertising = adv; connected = conn; channel = 0; header = 0; at = 0; access_address = 0; crc_init = 0 }
+  pub sent : (h : Header) (c : AdvertisingChannel) (t : Instant) → answer_said (Ok (answer.Sent h c t)) adv conn ≡ record { number = 0; kind = 1; advertising = adv; connected = conn; channel = index_of c; header = h.0; at = t.0; access_address = 0; crc_init = 0 }
+  pub listen : (c : AdvertisingChannel) → answer_said (Ok (answer.Listen c)) adv conn ≡ record { number = 0; kind = 2; advertising = adv; connected = conn; channel = index_of c; header = 0; at = 0; access_address = 0; crc_init = 0 }
+  pub respond : (h : Header) (c : AdvertisingChannel) → answer_said (Ok (answer.Respond h c)) adv conn ≡ record { number = 0; kind = 3; advertising = adv; connected = conn; channel = index_of c; header = h.0; at = 0; access_address = 0; crc_init = 0 }
+  pub first_event : (c : DataChannel) (t : Instant) (access crc : ℕ) → answer_said (Ok (answer.FirstEvent c t access crc)) adv conn ≡ record { number = 0; kind = 4; advertising = adv; connected = conn; channel = c.index; header = 0; at = t.0; access_address = access; crc_init = crc }
+  pub next_event : (c : DataChannel) → answer_said (Ok (answer.NextEvent c)) adv conn ≡ record { number = 0; kind = 5; advertising = adv; connected = conn; channel = c.index; header = 0; at = 0; access_address = 0; crc_init = 0 }
+  pub stopped : answer_said (Ok answer.Stopped) adv conn ≡ record { number = 0; kind = 6; advertising = adv; connected = conn; channel = 0; header = 0; at = 0; access_address = 0; crc_init = 0 }
+  pub scan_data_set : answer_said (Ok answer.ScanDataSet) adv conn ≡ record { number = 0; kind = 7; advertising = adv; connected = conn; channel = 0; header = 0; at = 0; access_address = 0; crc_init = 0 }
   pub mode_after_law : (c : Step) → called_said c ≡ answer_said c.answer (is_advertising c.state.mode) (is_connected c.state.mode)
 
 pub record Holds : Type 0 where

@@ -1,5 +1,6 @@
 -- Lists of calls given as octets, 272 for each call (drawn in src/lists.rt), on a fresh device with two transmit buffers.
 --   header_or made                       == the header that was made, or one of zeros
+--   number_in at c                       == the number of the four octets from a place on
 --   time_in c, interval_in c, call_header c, octets_in c == what the octets c of a call have: its time, interval and header, and its records or payload
 --   call_in c tx                         == the call of 272 octets, lent a transmit buffer
 --   buffer_after d c tx                  == the transmit buffer after a call
@@ -10,31 +11,33 @@
 --   ran_all own calls a b                == the state after all calls on a fresh device
 --   saying number kind ..               == the numbers of an answer
 --   answer_said a adv conn, called_said c == an answer as numbers, with the mode
-use Rattle.std.specs.Prelude.{Bool, cond, List, [], ◌∷◌, ℕ, zero, suc, ◌*◌, ◌/◌, eqb, length, get_or}
+use Rattle.std.specs.Prelude.{Bool, cond, List, [], ◌∷◌, ℕ, zero, suc, ◌+◌, ◌*◌, ◌/◌, eqb, length, get_or, Result, Ok, Err}
 use Rattle.octets.specs.Bytes.{part_or, le}
 use Rattle.octets.specs.Error.{number_of}
 use Rattle.channels.specs.Phy.{index_of}
 use Rattle.addresses.specs.Header.{header_of, parsed}
 use Rattle.addresses.specs.declared.device_address.DeviceAddress.{DeviceAddress}
 use Rattle.addresses.specs.declared.header.Header.{Header}
-use Rattle.addresses.specs.declared.header.HeaderMade.{HeaderMade}
-use Rattle.addresses.specs.declared.header.HeaderMade.TheVariants as made
 use Rattle.radio_spec.specs.Calls.{fresh, instant, is_advertising, is_connected, start_after, tick_after, packet_after}
 use Rattle.radio_spec.specs.Call.{Call, start, tick, packet, event, stop, set_scan_data, call_of}
 use Rattle.radio_spec.specs.declared.link.Answer.{Answer}
 use Rattle.radio_spec.specs.declared.link.Answer.TheVariants as answer
 use Rattle.radio_spec.specs.State.{State, Step}
 use Rattle.exports.specs.declared.lists.Said.{Said}
+use Rattle.octets.specs.declared.error.Error.{Error}
 
-abbrev pub header_or : HeaderMade → Header
-header_or (made.Header h) = h
-header_or (made.Refused e) = header_of 0
+abbrev pub header_or : Result Header Error → Header
+header_or (Ok h) = h
+header_or (Err e) = header_of 0
+
+abbrev pub number_in : ℕ → List ℕ → ℕ
+number_in at c = le (get_or c at 0 ∷ get_or c (at + 1) 0 ∷ get_or c (at + 2) 0 ∷ get_or c (at + 3) 0 ∷ [])
 
 abbrev pub time_in : List ℕ → ℕ
-time_in c = le (get_or c 4 0 ∷ get_or c 5 0 ∷ get_or c 6 0 ∷ get_or c 7 0 ∷ [])
+time_in c = number_in 4 c
 
 abbrev pub interval_in : List ℕ → ℕ
-interval_in c = le (get_or c 8 0 ∷ get_or c 9 0 ∷ get_or c 10 0 ∷ get_or c 11 0 ∷ [])
+interval_in c = number_in 8 c
 
 abbrev pub call_header : List ℕ → Header
 call_header c = header_or (parsed (part_or 2 c 12))
@@ -102,15 +105,15 @@ saying number kind advertising connected channel header at access crc =
       crc_init = crc;
     }
 
-abbrev pub answer_said : Answer → Bool → Bool → Said
-answer_said (answer.Refused e) a b = saying (number_of e) 0 a b 0 0 0 0 0
-answer_said (answer.Sent header channel next) a b = saying 0 1 a b (index_of channel) header.0 next.0 0 0
-answer_said (answer.Listen channel) a b = saying 0 2 a b (index_of channel) 0 0 0 0
-answer_said (answer.Respond header channel) a b = saying 0 3 a b (index_of channel) header.0 0 0 0
-answer_said (answer.FirstEvent channel at access crc) a b = saying 0 4 a b channel.index 0 at.0 access crc
-answer_said (answer.NextEvent channel) a b = saying 0 5 a b channel.index 0 0 0 0
-answer_said answer.Stopped a b = saying 0 6 a b 0 0 0 0 0
-answer_said answer.ScanDataSet a b = saying 0 7 a b 0 0 0 0 0
+abbrev pub answer_said : Result Answer Error → Bool → Bool → Said
+answer_said (Err e) a b = saying (number_of e) 0 a b 0 0 0 0 0
+answer_said (Ok (answer.Sent header channel next)) a b = saying 0 1 a b (index_of channel) header.0 next.0 0 0
+answer_said (Ok (answer.Listen channel)) a b = saying 0 2 a b (index_of channel) 0 0 0 0
+answer_said (Ok (answer.Respond header channel)) a b = saying 0 3 a b (index_of channel) header.0 0 0 0
+answer_said (Ok (answer.FirstEvent channel at access crc)) a b = saying 0 4 a b channel.index 0 at.0 access crc
+answer_said (Ok (answer.NextEvent channel)) a b = saying 0 5 a b channel.index 0 0 0 0
+answer_said (Ok answer.Stopped) a b = saying 0 6 a b 0 0 0 0 0
+answer_said (Ok answer.ScanDataSet) a b = saying 0 7 a b 0 0 0 0 0
 
 abbrev pub called_said : Step → Said
 called_said c = answer_said c.answer (is_advertising c.state.mode) (is_connected c.state.mode)

@@ -5,18 +5,17 @@ ghost use Rattle.addresses.specs.Header.{parsed};
 ghost use Rattle.beacon.specs.State.{scanner_state, update_step, scan_step};
 ghost use Rattle.beacon_spec.specs.Sending.{beacon_of};
 ghost use Rattle.beacon_spec.specs.Scanner.{timer_updated};
-ghost use Rattle.exports.specs.Air.{broadcast_sent, not_sent, beacon_sent, beacon_after, scanner_with, updated_got, heard_said, heard_from, judged_by, headless_of, says_nothing, unheard};
+ghost use Rattle.exports.specs.Air.{broadcast_sent, not_sent, beacon_sent, beacon_after, scanner_with, updated_got, heard_said, heard_from, headless_of, says_nothing};
 
-use addresses::header::{Header, HeaderMade, PduType};
+use addresses::header::{Header, PduType};
 use answers::given::{address, filter};
 use answers::got::{Got, found};
-use beacon::beacon::{
-    Beacon, BeaconScanner, Broadcast, Report, Scanned, Updated, is_report, report_number,
-};
-use octets::error::{Error, Outcome};
+use beacon::beacon::{Beacon, BeaconScanner, Scanned, Updated};
+use channels::phy::AdvertisingChannel;
+use octets::error::Error;
 use octets::time::Instant;
 
-// What is transmitted of a beacon.
+// For C: what is transmitted of a beacon.
 #[repr(C)]
 #[derive(Clone, Copy)]
 pub struct Sent {
@@ -27,14 +26,13 @@ pub struct Sent {
     pub third: u8,
 }
 
-fn broadcast_of(broadcast: Broadcast) -> Sent
+fn broadcast_of(broadcast: Result<(Header, [AdvertisingChannel; 3]), Error>) -> Sent
     ensures { result ≡ broadcast_sent broadcast }
 {
     match broadcast {
-        Broadcast::Transmit(header, channels) => {
-            let first = channels.first;
-            let second = channels.second;
-            let third = channels.third;
+        Ok(told) => {
+            let (header, channels) = told;
+            let [first, second, third] = channels;
             Sent {
                 number: 0,
                 header: header.to_u16(),
@@ -43,7 +41,7 @@ fn broadcast_of(broadcast: Broadcast) -> Sent
                 third: third.channel(),
             }
         }
-        Broadcast::Refused(e) => not_sent(e),
+        Err(e) => not_sent(e),
     }
 }
 
@@ -62,12 +60,9 @@ fn not_sent(e: Error) -> Sent
 pub fn board_beacon(own: &[u8; 6], random: bool, records: &[u8], tx: &mut [u8]) -> Sent
     ensures { (result ≡ beacon_sent (beacon_of (address_of own.now (kind_of random)) records.now) tx.old) × (tx.new ≡ beacon_after (beacon_of (address_of own.now (kind_of random)) records.now) tx.old) }
 {
-    let made = Beacon::new(address(*own, random), records);
-    let outcome = made.outcome;
-    let beacon = made.beacon;
-    match outcome {
-        Outcome::Accepted => broadcast_of(beacon.broadcast(tx)),
-        Outcome::Refused(e) => not_sent(e),
+    match Beacon::new(address(*own, random), records) {
+        Ok(beacon) => broadcast_of(beacon.broadcast(tx)),
+        Err(e) => not_sent(e),
     }
 }
 
@@ -105,7 +100,7 @@ pub fn board_scanner(time: u32, interval: u32, updates: u8) -> Got
     found(channel.channel() as usize, next.raw_micros() as usize)
 }
 
-// What a scanner says of a packet.
+// For C: what a scanner says of a packet.
 #[repr(C)]
 #[derive(Clone, Copy)]
 pub struct Heard {
@@ -123,21 +118,26 @@ pub struct Heard {
 pub(crate) fn told(scanned: Scanned) -> Heard
     ensures { result ≡ heard_said (scan_step scanned) }
 {
-    let report = scanned.report;
-    let from = scanned.sender;
-    let place = scanned.adv_data;
-    let on = scanned.channel;
-    let sender = from.raw();
-    Heard {
-        number: report_number(report),
-        reported: is_report(report),
-        random: from.is_random(),
-        sender,
-        start: place.start,
-        len: place.len,
-        count: place.count,
-        taken: scanned.taken,
-        channel: on.channel(),
+    let channel = scanned.channel.channel();
+    match scanned.report {
+        Ok(Some(sighting)) => {
+            let from = sighting.sender;
+            let place = sighting.adv_data;
+            let sender = from.raw();
+            Heard {
+                number: 0,
+                reported: true,
+                random: from.is_random(),
+                sender,
+                start: place.start,
+                len: place.len,
+                count: place.count,
+                taken: sighting.taken,
+                channel,
+            }
+        }
+        Ok(None) => unreported(0, channel),
+        Err(e) => unreported(e.number(), channel),
     }
 }
 
@@ -149,7 +149,7 @@ pub(crate) fn unreported(number: u8, channel: u8) -> Heard
         number,
         reported: false,
         random: false,
-        sender: [0, 0, 0, 0, 0, 0],
+        sender: [0; 6],
         start: 0,
         len: 0,
         count: 0,
@@ -158,33 +158,16 @@ pub(crate) fn unreported(number: u8, channel: u8) -> Heard
     }
 }
 
-fn no_header(e: Error) -> Heard
-    ensures { result ≡ unheard e }
-{
-    unreported(e.number(), 0)
-}
-
-// Without a header the scanner judges its list alone.
-fn judged(scanned: Scanned, e: Error) -> Heard
-    ensures { result ≡ judged_by scanned.report (scan_step scanned) e }
-{
-    let report = scanned.report;
-    match report {
-        Report::Beacon => no_header(e),
-        Report::Nothing => no_header(e),
-        Report::Refused(_) => told(scanned),
-    }
-}
-
-// A header that is too short. A bad list is refused before it.
+// A header that is too short: the scanner judges its list alone, and a bad one is refused before the header.
 fn headless(listening: BeaconScanner, list: &[u8], e: Error) -> Heard
     ensures { result ≡ headless_of (scanner_state listening) list.now e }
 {
     let header = Header::new(PduType::AdvInd);
-    judged(
-        listening.process_adv_packet(header, &list[..0], false, list),
-        e,
-    )
+    let scanned = listening.process_adv_packet(header, &[], false, list);
+    match scanned.report {
+        Ok(_) => unreported(e.number(), 0),
+        Err(_) => told(scanned),
+    }
 }
 
 pub fn board_scan(
@@ -200,7 +183,7 @@ pub fn board_scan(
     let updated = scanner(filtered, 0, 0, updates);
     let listening = updated.scanner;
     match Header::parse(header) {
-        HeaderMade::Header(h) => told(listening.process_adv_packet(h, payload, crc_ok, list)),
-        HeaderMade::Refused(e) => headless(listening, list, e),
+        Ok(h) => told(listening.process_adv_packet(h, payload, crc_ok, list)),
+        Err(e) => headless(listening, list, e),
     }
 }

@@ -4,55 +4,57 @@
 //
 // Kinds: 0 start, 1 tick, 2 packet, 3 event, 5 scan data to set, otherwise stop. The time is a start's, or the end of a packet. A start, a tick and a
 // packet are lent the first transmit buffer, or the second one where octet 2 is 1. Every length that octet 3 can say has its place.
-ghost use Rattle.std.specs.Prelude.{◌≡◌, get_or};
+ghost use Rattle.std.specs.Prelude.{◌≡◌, ◌≤◌, get_or};
 ghost use Rattle.addresses.specs.Address.{kind_of, address_of};
 ghost use Rattle.addresses.specs.Header.{parsed};
 ghost use Rattle.radio_spec.specs.Call.{call_of};
 ghost use Rattle.radio.specs.State.{state, step};
-ghost use Rattle.exports.specs.Lists.{header_or, time_in, interval_in, call_in, buffer_after, board_of, called_by, step_of, ran_all, answer_said, called_said};
+ghost use Rattle.exports.specs.Lists.{header_or, number_in, time_in, interval_in, call_in, buffer_after, board_of, called_by, step_of, ran_all, answer_said, called_said};
 
 use addresses::device_address::DeviceAddress;
-use addresses::header::{Header, HeaderMade, PduType};
+use addresses::header::{Header, PduType};
 use answers::given::address;
 use octets::bytes::{part_of, u32_from_le_bytes};
+use octets::error::Error;
 use octets::time::Instant;
 use radio::link::{Answer, Called, Device};
 
 pub(crate) fn octet(s: &[u8], at: usize) -> u8
     ensures { result ≡ get_or s.now at 0 }
 {
-    if at < s.len() { s[at] } else { 0 }
+    s.get(at).copied().unwrap_or(0)
 }
 
 pub(crate) fn header_of(raw: &[u8]) -> Header
     ensures { result ≡ header_or (parsed raw.now) }
 {
-    match Header::parse(raw) {
-        HeaderMade::Header(header) => header,
-        HeaderMade::Refused(_) => Header::new(PduType::AdvInd),
-    }
+    Header::parse(raw).unwrap_or(Header::new(PduType::AdvInd))
 }
 
+// The number of the four octets from a place on.
+fn number_at(call: &[u8], at: usize) -> u32
+    requires { at ≤ 268 }
+    ensures { result ≡ number_in at call.now }
+{
+    u32_from_le_bytes(
+        octet(call, at),
+        octet(call, at + 1),
+        octet(call, at + 2),
+        octet(call, at + 3),
+    )
+}
+
+// By a name each, as specs/Lists has the two fields.
 pub(crate) fn time_of(call: &[u8]) -> u32
     ensures { result ≡ time_in call.now }
 {
-    u32_from_le_bytes(
-        octet(call, 4),
-        octet(call, 5),
-        octet(call, 6),
-        octet(call, 7),
-    )
+    number_at(call, 4)
 }
 
 pub(crate) fn interval_of(call: &[u8]) -> u32
     ensures { result ≡ interval_in call.now }
 {
-    u32_from_le_bytes(
-        octet(call, 8),
-        octet(call, 9),
-        octet(call, 10),
-        octet(call, 11),
-    )
+    number_at(call, 8)
 }
 
 #[tactic(auto, unfolding(crate::specs::Lists::call_in))]
@@ -91,17 +93,14 @@ fn after(own: DeviceAddress, calls: &[u8], first: &mut [u8], second: &mut [u8]) 
     ensures { (state result ≡ (ran_all own calls.now first.old second.old).device) × (first.new ≡ (ran_all own calls.now first.old second.old).first) × (second.new ≡ (ran_all own calls.now first.old second.old).second) }
 {
     let mut device = Device::new(own);
-    let n = calls.len() / 272;
-    let mut i = 0;
-    while i < n {
-        let called = step_with(device, part_of(calls, 272 * i, 272), first, second);
+    for call in calls.chunks_exact(272) {
+        let called = step_with(device, call, first, second);
         device = called.device;
-        i += 1;
     }
     device
 }
 
-// What a call answered, and the mode after it. `kind` is 0 to 7 in the order of `Answer`.
+// For C: what a call answered, and the mode after it. `kind` is 0 for a refusal, and 1 to 7 in the order of `Answer`.
 #[repr(C)]
 #[derive(Clone, Copy)]
 pub struct Said {
@@ -116,106 +115,70 @@ pub struct Said {
     pub crc_init: u32,
 }
 
-fn say(answer: Answer, advertising: bool, connected: bool) -> Said
+fn say(answer: Result<Answer, Error>, advertising: bool, connected: bool) -> Said
     ensures { result ≡ answer_said answer advertising connected }
 {
+    let nothing = Said {
+        number: 0,
+        kind: 0,
+        advertising,
+        connected,
+        channel: 0,
+        header: 0,
+        at: 0,
+        access_address: 0,
+        crc_init: 0,
+    };
     match answer {
-        Answer::Refused(e) => Said {
-            number: e.number(),
-            kind: 0,
-            advertising,
-            connected,
-            channel: 0,
-            header: 0,
-            at: 0,
-            access_address: 0,
-            crc_init: 0,
-        },
-        Answer::Sent {
-            header,
-            channel,
-            next_adv,
-        } => Said {
-            number: 0,
+        Ok(
+            Answer::Sent {
+                header,
+                channel,
+                next_adv,
+            },
+        ) => Said {
             kind: 1,
-            advertising,
-            connected,
             channel: channel.channel(),
             header: header.to_u16(),
             at: next_adv.raw_micros(),
-            access_address: 0,
-            crc_init: 0,
+            ..nothing
         },
-        Answer::Listen(channel) => Said {
-            number: 0,
+        Ok(Answer::Listen(channel)) => Said {
             kind: 2,
-            advertising,
-            connected,
             channel: channel.channel(),
-            header: 0,
-            at: 0,
-            access_address: 0,
-            crc_init: 0,
+            ..nothing
         },
-        Answer::Respond { header, channel } => Said {
-            number: 0,
+        Ok(Answer::Respond { header, channel }) => Said {
             kind: 3,
-            advertising,
-            connected,
             channel: channel.channel(),
             header: header.to_u16(),
-            at: 0,
-            access_address: 0,
-            crc_init: 0,
+            ..nothing
         },
-        Answer::FirstEvent {
-            channel,
-            at,
-            access_address,
-            crc_init,
-        } => Said {
-            number: 0,
+        Ok(
+            Answer::FirstEvent {
+                channel,
+                at,
+                access_address,
+                crc_init,
+            },
+        ) => Said {
             kind: 4,
-            advertising,
-            connected,
             channel: channel.index(),
-            header: 0,
             at: at.raw_micros(),
             access_address,
             crc_init,
+            ..nothing
         },
-        Answer::NextEvent(channel) => Said {
-            number: 0,
+        Ok(Answer::NextEvent(channel)) => Said {
             kind: 5,
-            advertising,
-            connected,
             channel: channel.index(),
-            header: 0,
-            at: 0,
-            access_address: 0,
-            crc_init: 0,
+            ..nothing
         },
-        Answer::Stopped => Said {
-            number: 0,
-            kind: 6,
-            advertising,
-            connected,
-            channel: 0,
-            header: 0,
-            at: 0,
-            access_address: 0,
-            crc_init: 0,
-        },
-        Answer::ScanDataSet => Said {
-            number: 0,
-            kind: 7,
-            advertising,
-            connected,
-            channel: 0,
-            header: 0,
-            at: 0,
-            access_address: 0,
-            crc_init: 0,
+        Ok(Answer::Stopped) => Said { kind: 6, ..nothing },
+        Ok(Answer::ScanDataSet) => Said { kind: 7, ..nothing },
+        Err(e) => Said {
+            number: e.number(),
+            ..nothing
         },
     }
 }
@@ -234,6 +197,5 @@ pub fn board_call(
     let device = after(address(*own, random), calls, first, second);
     let called = step_with(device, call, first, second);
     let next = called.device;
-    let answer = called.answer;
-    say(answer, next.is_advertising(), next.is_connected())
+    say(called.answer, next.is_advertising(), next.is_connected())
 }

@@ -16,7 +16,7 @@ use beacon::beacon::{BeaconScanner, Scanned, Updated};
 use octets::bytes::part_of;
 use octets::time::Instant;
 
-// What a scanner answers: of a packet what it reports and the channel to keep listening on, otherwise the channel and the next instant.
+// For C: what a scanner answers: of a packet what it reports and the channel to keep listening on, otherwise the channel and the next instant.
 #[repr(C)]
 #[derive(Clone, Copy)]
 pub struct Listened {
@@ -83,11 +83,8 @@ fn moved_by(scanner: BeaconScanner, entries: &[u8]) -> BeaconScanner
     ensures { scanner_state result ≡ entries_after (scanner_state scanner) entries.now }
 {
     let mut listening = scanner;
-    let n = entries.len() / 272;
-    let mut i = 0;
-    while i < n {
-        listening = moved(listening, part_of(entries, 272 * i, 272));
-        i += 1;
+    for entry in entries.chunks_exact(272) {
+        listening = moved(listening, entry);
     }
     listening
 }

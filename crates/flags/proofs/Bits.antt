@@ -1,12 +1,14 @@
--- The bits of Flags that have a name are kept, and the others are cleared: `named_bits`; each is asked for by itself: `queries`.
+-- The bits of Flags that have a name are kept, and the others are cleared: `named_bits`; each is asked for by itself: `queries`; how the code asks: `set`, `clear`.
 -- Assumes nothing.
-use mathlib.Core.Path.{◌≡◌, ap}
+use mathlib.Core.Path.{◌≡◌, refl, ap, ◌∙◌}
 use mathlib.Core.Bool.{Bool, true, false, not}
-use Prim.Native.Nat.{ℕ, zero, suc, ◌/◌, ◌%◌, ◌^◌, ◌≤◌, ◌<◌}
+use Prim.Native.Nat.{ℕ, zero, suc, ◌*◌, ◌/◌, ◌%◌, ◌^◌, ◌≤◌, ◌<◌}
 use native.Mathlib.Nat.{div-eq_of_lt}
 use native.Mathlib.Omega.{arith}
-use lib.Pow.{pow_mono}
+use lib.Pow.{pow_mono, pow_pos}
 use lib.Dec.{eqb}
+use borrow.Author.Tests.{eq-eqb, ne_eqb}
+use Rattle.std.proofs.lemmas.Nat.Bits.{and_pow}
 use lib.Bits.{bit_and, and_mask}
 use Rattle.flags.specs.Flags.{named, bit_at, NamedBits, digit, with_bits, Queries}
 
@@ -14,6 +16,23 @@ use Rattle.flags.specs.Flags.{named, bit_at, NamedBits, digit, with_bits, Querie
 pub masked : (b : ℕ) → bit_and b 31 ≡ named b
 unfolding named
 masked b = and_mask b 5
+
+-- a bit of an octet is set where the octet and the bit have one in common
+in_common : (v p : ℕ) → v < 2 → 0 < p → not (eqb (v * p) 0) ≡ eqb v 1
+in_common zero p small some = rw (eq-eqb (0 * p) 0 (omega arith))
+in_common (suc zero) p small some = rw (ne_eqb (1 * p) 0 (omega arith))
+in_common (suc (suc v)) p small some = absurd (omega arith)
+
+pub set : (k x : ℕ) → not (eqb (bit_and x (2 ^ k)) 0) ≡ eqb (bit_at k x) 1
+set k x = rw (and_pow x k) (in_common (x / 2 ^ k % 2) (2 ^ k) (omega arith) (pow_pos k))
+
+pub clear : (k x : ℕ) → not (not (eqb (bit_and x (2 ^ k)) 0)) ≡ eqb (bit_at k x) 0
+clear k x = ap not (set k x) ∙ go (x / 2 ^ k % 2) (omega arith)
+  where
+    go : (v : ℕ) → v < 2 → not (eqb v 1) ≡ eqb v 0
+    go zero small = refl
+    go (suc zero) small = refl
+    go (suc (suc v)) small = absurd (omega arith)
 
 kept : (x b : ℕ) → b < 5 → bit_at b (x % 32) ≡ bit_at b x
 kept x zero h = omega arith

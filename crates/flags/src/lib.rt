@@ -1,7 +1,7 @@
 // The octet of Flags, the record that says how a device may be found (the Supplement, Part A, 1.3).
 #![tactic(auto)]
 
-ghost use Rattle.std.specs.Prelude.{◌≡◌};
+ghost use Rattle.std.specs.Prelude.{◌≡◌, ◌==◌, not, bit_and};
 ghost use Rattle.flags.specs.Flags.{named, limited_discoverable, general_discoverable, supports_classic, both_by_controller, both_by_host, discoverable_flags, broadcast_flags};
 
 // The octet of a Flags record: discoverable modes, and BR/EDR beside LE (the Supplement, Part A, 1.3).
@@ -57,34 +57,40 @@ impl Flags {
         self.bits & Flags::ALL
     }
 
+    fn contains(self, flag: u8) -> bool
+        ensures { result ≡ not (bit_and self.bits flag == 0) }
+    {
+        self.bits & flag != 0
+    }
+
     // As the Core has it; rubble answers the opposite (D21).
     pub fn supports_classic_bluetooth(self) -> bool
         ensures { result ≡ supports_classic self.bits }
     {
-        self.bits / Flags::BR_EDR_NOT_SUPPORTED % 2 == 0
+        !self.contains(Flags::BR_EDR_NOT_SUPPORTED)
     }
 
     pub fn le_limited_discoverable(self) -> bool
         ensures { result ≡ limited_discoverable self.bits }
     {
-        self.bits / Flags::LE_LIMITED_DISCOVERABLE % 2 == 1
+        self.contains(Flags::LE_LIMITED_DISCOVERABLE)
     }
 
     pub fn le_general_discoverable(self) -> bool
         ensures { result ≡ general_discoverable self.bits }
     {
-        self.bits / Flags::LE_GENERAL_DISCOVERABLE % 2 == 1
+        self.contains(Flags::LE_GENERAL_DISCOVERABLE)
     }
 
     pub fn simul_le_br_controller(self) -> bool
         ensures { result ≡ both_by_controller self.bits }
     {
-        self.bits / Flags::SIMUL_LE_BR_CONTROLLER % 2 == 1
+        self.contains(Flags::SIMUL_LE_BR_CONTROLLER)
     }
 
     pub fn simul_le_br_host(self) -> bool
         ensures { result ≡ both_by_host self.bits }
     {
-        self.bits / Flags::SIMUL_LE_BR_HOST % 2 == 1
+        self.contains(Flags::SIMUL_LE_BR_HOST)
     }
 }

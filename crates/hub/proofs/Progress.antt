@@ -4,15 +4,17 @@ use mathlib.Core.List.{List, [], ◌∷◌, ◌++◌, append-nil, append_assoc, 
 use Prim.Native.Nat.{ℕ, suc, ◌+◌, ◌-◌, ◌*◌, ◌<◌, ◌≤◌}
 use native.Mathlib.Omega.{arith}
 use lib.ListN.{length, take, drop, length-append, length-take, length-drop}
+use borrow.Rule.Slice.PartMut.{put_mid}
 use lib.Seq.{drop-drop}
-use Rattle.octets.specs.Bytes.{written}
+use Rattle.std.specs.Prelude.{Some}
+use Rattle.octets.specs.Bytes.{written, at_front}
 use Rattle.beacon_spec.specs.State.{BeaconScanner}
 use Rattle.items.specs.Item.{whole_size, items}
 use Rattle.hub_spec.specs.Line.{line_size, room_for, line, reports_in}
 use Rattle.hub_spec.specs.Log.{most_items, heard_in, after_item, printed, after_all, printed_all, items_for, lines_of, hub_of, logged_of, RunCounts, lines_in}
 use Rattle.hub_spec.specs.State.{Hub}
 use Rattle.items.proofs.Items.{whole_fits, one_whole}
-use Rattle.hub_spec.proofs.Pieces.{Wrote, as_long, then_piece}
+use Rattle.hub_spec.proofs.Pieces.{Wrote, as_long, then_piece, tail_written}
 use Rattle.hub_spec.proofs.Reports.{line_size_law, line_room, one_report}
 
 abbrev pub hub : ℕ → ℕ → BeaconScanner → Hub
@@ -29,8 +31,8 @@ pub record Progress (h : Hub) (s out₀ out : List ℕ) (count found : ℕ) (sca
   pub all_octets : at + length (flatten (items_for (hub count found scanner) (drop at s))) ≡ length (flatten (items_for h s))
 
 -- an item is taken
-next_item : (h : Hub) (s : List ℕ) → h.items < most_items → (whole_size s ≡ 0 → ⊥)
-    → items_for h s ≡ take (whole_size s) s ∷ items_for (after_item h (take (whole_size s) s)) (drop (whole_size s) s)
+next_item : (h : Hub) (s : List ℕ) {size : ℕ} → h.items < most_items → whole_size s ≡ Some size
+    → items_for h s ≡ take size s ∷ items_for (after_item h (take size s)) (drop size s)
 unfolding after_item
 next_item h s more item =
     let left : most_items - h.items ≡ suc (most_items - (h.items + 1)) = omega arith in
@@ -45,13 +47,13 @@ module _ {h : Hub} {s out₀ out : List ℕ} {count found : ℕ} {scanner : Beac
   pub long_out : length out ≡ length out₀
   long_out = as_long p.wrote within
 
-  module _ (size : ℕ) (is : size ≡ whole_size (drop at s)) (more : count < most_items) (some : size ≡ 0 → ⊥) where
+  module _ (size : ℕ) (is : whole_size (drop at s) ≡ Some size) (more : count < most_items) where
     -- as the code lends it
     unfoldable pub item : List ℕ
     item = take (at + size - at) (drop at s)
 
     pub fits : at + size ≤ length s
-    fits = omega (arith, p.inside, whole_fits (drop at s), length-drop at s)
+    fits = omega (arith, p.inside, whole_fits (drop at s) is, length-drop at s)
 
     item_long : length item ≡ size
     unfolding item
@@ -61,12 +63,18 @@ module _ {h : Hub} {s out₀ out : List ℕ} {count found : ℕ} {scanner : Beac
     unfolding item
     split =
         let width : at + size - at ≡ size = omega arith in
-        rw (width, ← drop-drop size at s, is) (next_item (hub count found scanner) (drop at s) more (λ e. some (is ∙ e)))
+        rw (width, ← drop-drop size at s) (next_item (hub count found scanner) (drop at s) more is)
 
-    pub advance : {out' : List ℕ} → out' ≡ written (line (count + 1) (heard_in scanner item)) out to
-        → Progress h s out₀ out' (count + 1) (found + reports_in (heard_in scanner item)) (after_item (hub count found scanner) item).scanner (at + size) (to + line_size * reports_in (heard_in scanner item))
+    -- the item's line stands at the front of what was lent
+    lent : {part : List ℕ} → part ≡ at_front (line (count + 1) (heard_in scanner item)) (take (length out - to) (drop to out))
+        → put_mid to (length out - to) out part ≡ written (line (count + 1) (heard_in scanner item)) out to
+    lent is-part = tail_written (line (count + 1) (heard_in scanner item)) out to (omega (arith, within, long_out)) is-part
+
+    pub advance : {part : List ℕ} → part ≡ at_front (line (count + 1) (heard_in scanner item)) (take (length out - to) (drop to out))
+        → let out' = put_mid to (length out - to) out part in
+        Progress h s out₀ out' (count + 1) (found + reports_in (heard_in scanner item)) (after_item (hub count found scanner) item).scanner (at + size) (to + line_size * reports_in (heard_in scanner item))
     unfolding after_all printed_all printed after_item flatten
-    advance is-out =
+    advance is-part =
         let octets : length (flatten (items_for (hub count found scanner) (drop at s))) ≡ size + length (flatten (items_for (after_item (hub count found scanner) item) (drop (at + size) s))) =
         ap (λ (its : List (List ℕ)). length (flatten its)) split ∙ simp (length-append, item_long) in
         record {
@@ -74,7 +82,7 @@ module _ {h : Hub} {s out₀ out : List ℕ} {count found : ℕ} {scanner : Beac
           inside = fits;
           counted = (omega arith, omega (arith, p.counted.1, one_report (heard_in scanner item)));
           room = omega (arith, p.room, line_room scanner item, item_long);
-          wrote = then_piece p.wrote within (line (count + 1) (heard_in scanner item)) (line_size_law (count + 1) scanner item) (refl, is-out);
+          wrote = then_piece p.wrote within (line (count + 1) (heard_in scanner item)) (line_size_law (count + 1) scanner item) (refl, lent is-part);
           all_lines =
               append_assoc p.lines (line (count + 1) (heard_in scanner item)) _
               ∙ ap (λ (l : List ℕ). p.lines ++ l) (sym (ap (printed_all (hub count found scanner)) split))

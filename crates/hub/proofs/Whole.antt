@@ -1,10 +1,9 @@
 -- Reading a hub and what its calls return as records leaves nothing out (`whole`) and changes nothing that callers see (`as_it_is`). Assumes nothing.
 use mathlib.Core.Path.{◌≡◌, refl, sym, ap, ◌∙◌}
+use Rattle.std.specs.Prelude.{Option, None, Some, option_map}
 use Rattle.hub_spec.specs.State as spec
 use Rattle.hub.specs.State.{taken_step, Whole, AsItIs}
 use Rattle.hub.specs.declared.log.Hub.{Hub}
-use Rattle.hub.specs.declared.log.TakenIn.{TakenIn}
-use Rattle.hub.specs.declared.log.TakenIn.TheVariants as code
 use Rattle.hub.specs.declared.log.Block.{Block}
 
 -- what is read as a record, from that record
@@ -19,20 +18,16 @@ hub_of h =
 abbrev block_of : spec.Block → Block
 block_of r = record { hub = hub_of r.hub; written = r.written; kept = r.kept; is_stopped = r.is_stopped }
 
-abbrev taken_of : spec.TakenIn → TakenIn
-taken_of (spec.block t) = code.Block (block_of t)
-taken_of spec.refused = code.Refused
-
-again : (r : TakenIn) → taken_of (taken_step r) ≡ r
-again (code.Block t) = refl
-again code.Refused = refl
+again : (r : Option Block) → option_map block_of (taken_step r) ≡ r
+again (Some t) = refl
+again None = refl
 
 pub whole : Whole
 whole =
     record {
       hub = λ a b same. ap hub_of same;
       block = λ a b same. ap block_of same;
-      taken = λ a b same. sym (again a) ∙ (ap taken_of same ∙ again b);
+      taken = λ a b same. sym (again a) ∙ (ap (option_map block_of) same ∙ again b);
     }
 
 pub as_it_is : AsItIs

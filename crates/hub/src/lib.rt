@@ -4,4 +4,4 @@
 mod line;
 mod log;
 
-pub use log::{Block, Hub, TakenIn, listen, start};
+pub use log::{Block, Hub, left_over, listen, start};

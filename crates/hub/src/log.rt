@@ -8,7 +8,7 @@ ghost use Rattle.hub_spec.specs.Log.{start, heard_in, scanner_after, left_over, 
 ghost use Rattle.hub.specs.State.{hub_state, logged_step, block_step, taken_step};
 
 use crate::line::log_scanned;
-use addresses::header::{Header, HeaderMade};
+use addresses::header::Header;
 use beacon::beacon::BeaconScanner;
 use octets::time::Instant;
 
@@ -52,39 +52,25 @@ pub struct Block {
     pub is_stopped: bool,
 }
 
-// A block, or none: the buffer has fewer octets than it is said to hold, there is too little room for lines, or no run counts as this hub does.
-#[derive(Clone, Copy)]
-pub enum TakenIn {
-    Block(Block),
-    Refused,
-}
-
-// Has the scanner hear an item. A tick is no packet.
-fn log_item(
-    table: &[u8; 1024],
-    number: usize,
-    scanner: BeaconScanner,
-    item: &[u8],
-    out: &mut [u8],
-    at: usize,
-) -> usize
-    requires { (table.now ≡ octet_columns) × (at + room_for (length item.now) ≤ length out.old) }
-    ensures { (result ≡ reports_in (heard_in (scanner_state scanner) item.now)) × (out.new ≡ written (line number (heard_in (scanner_state scanner) item.now)) out.old at) }
+// Has the scanner hear an item, and writes its line, if it has one, to the front of `out`. A tick is no packet.
+fn log_item(number: usize, scanner: BeaconScanner, item: &[u8], out: &mut [u8]) -> usize
+    requires { room_for (length item.now) ≤ length out.old }
+    ensures { (result ≡ reports_in (heard_in (scanner_state scanner) item.now)) × (out.new ≡ at_front (line number (heard_in (scanner_state scanner) item.now)) out.old) }
 {
     if item.len() < 3 {
         return 0;
     }
     match Header::parse(&item[1..3]) {
-        HeaderMade::Header(header) => {
+        Ok(header) => {
             let scanned = scanner.process_adv_packet(
                 header,
                 &item[3..],
                 item[0] == items::CRC_GOOD,
                 &item[..0],
             );
-            log_scanned(table, number, scanned, item, out, at)
+            log_scanned(number, scanned, item, out)
         }
-        HeaderMade::Refused(_) => 0,
+        Err(_) => 0,
     }
 }
 
@@ -110,8 +96,8 @@ pub fn listen(scanner: BeaconScanner, item: &[u8]) -> BeaconScanner
 }
 
 // Logs the whole items at the front of s.
-fn log_items(table: &[u8; 1024], hub: Hub, s: &[u8], out: &mut [u8]) -> Logged
-    requires { (table.now ≡ octet_columns) × (RunCounts (hub_state hub) × (room_for (length s.now) ≤ length out.old)) }
+fn log_items(hub: Hub, s: &[u8], out: &mut [u8]) -> Logged
+    requires { RunCounts (hub_state hub) × (room_for (length s.now) ≤ length out.old) }
     ensures { (logged_step result ≡ logged_of (hub_state hub) s.now) × (out.new ≡ lines_in (hub_state hub) s.now out.old) }
 {
     let mut items = hub.items;
@@ -119,19 +105,18 @@ fn log_items(table: &[u8; 1024], hub: Hub, s: &[u8], out: &mut [u8]) -> Logged
     let mut scanner = hub.scanner;
     let mut at = 0;
     let mut written = 0;
+    // By a loop: each item says where the next begins.
     while items < MOST_ITEMS {
-        let size = items::whole_size(s, at);
-        if size == 0 {
+        let Some(size) = items::whole_size(s, at) else {
             break;
-        }
-        let next = at + size;
+        };
+        let item = &s[at..at + size];
         items += 1;
-        let item = &s[at..next];
-        let heard = log_item(table, items, scanner, item, out, written);
+        let heard = log_item(items, scanner, item, &mut out[written..]);
         reports += heard;
         scanner = listen(scanner, item);
         written += LINE * heard;
-        at = next;
+        at += size;
     }
     Logged {
         hub: Hub {
@@ -148,35 +133,17 @@ fn log_items(table: &[u8; 1024], hub: Hub, s: &[u8], out: &mut [u8]) -> Logged
 fn is_stuck(items: usize, rest: &[u8]) -> bool
     ensures { result ≡ is_stuck items rest.now }
 {
-    if rest.len() == 0 {
-        return false;
+    match rest.first() {
+        Some(first) => MOST_ITEMS <= items || items::CRC_BAD < *first,
+        None => false,
     }
-    if MOST_ITEMS <= items {
-        return true;
-    }
-    items::CRC_BAD < rest[0]
 }
 
 // Reading stops: the input has ended, or nothing that may follow makes an item of what is left over.
 fn is_last(is_end: bool, items: usize, rest: &[u8]) -> bool
     ensures { result ≡ is_end || is_stuck items rest.now }
 {
-    if is_end {
-        return true;
-    }
-    is_stuck(items, rest)
-}
-
-// Moves the octets from `from` to `end` to the front.
-fn keep(buf: &mut [u8], from: usize, end: usize)
-    requires { (from ≤ end) × (end ≤ length buf.old) }
-    ensures { buf.new ≡ take (end - from) (drop from buf.old) ++ drop (end - from) buf.old }
-{
-    let mut i = 0;
-    while i < end - from {
-        buf[i] = buf[from + i];
-        i += 1;
-    }
+    is_end || is_stuck(items, rest)
 }
 
 // `take_in` where all is ready.
@@ -184,12 +151,11 @@ fn take_block(hub: Hub, buf: &mut [u8], filled: usize, is_end: bool, out: &mut [
     requires { RunCounts (hub_state hub) × ((filled ≤ length buf.old) × (room_for filled + last_size ≤ length out.old)) }
     ensures { (block_step result ≡ block_of (hub_state hub) (take filled buf.old) is_end) × ((buf.new ≡ rest_in (hub_state hub) buf.old filled) × (out.new ≡ at_front (block_lines (hub_state hub) (take filled buf.old) is_end) out.old)) }
 {
-    let table = columns::octets();
-    let logged = log_items(&table, hub, &buf[..filled], out);
+    let logged = log_items(hub, &buf[..filled], out);
     let after = logged.hub;
     let taken = logged.taken;
     let is_stopped = is_last(is_end, after.items, &buf[taken..filled]);
-    keep(buf, taken, filled);
+    buf.copy_within(taken..filled, 0);
     let kept = filled - taken;
     let written = put_end(is_stopped, after, kept, out, logged.written);
     Block {
@@ -208,9 +174,10 @@ fn put_end(is_stopped: bool, hub: Hub, kept: usize, out: &mut [u8], at: usize) -
     if is_stopped {
         let end = at + LAST;
         put_last_line(hub, kept, &mut out[at..end]);
-        return end;
+        end
+    } else {
+        at
     }
-    at
 }
 
 // Writes the last line to all of `out`.
@@ -218,20 +185,17 @@ fn put_last_line(hub: Hub, kept: usize, out: &mut [u8])
     requires { length out.old ≡ last_size }
     ensures { out.new ≡ last_line (hub_state hub) kept }
 {
-    let reports = 6;
-    columns::put_column(hub.items, &mut out[0..reports]);
-    let flag = reports + 6;
-    columns::put_column(hub.reports, &mut out[reports..flag]);
-    let end = flag + 2;
-    columns::put_column(left_over(kept), &mut out[flag..end]);
-    out[end] = b'\n';
+    columns::put_column(hub.items, &mut out[..6]);
+    columns::put_column(hub.reports, &mut out[6..12]);
+    columns::put_column(left_over(kept), &mut out[12..14]);
+    out[14] = b'\n';
 }
 
 // 1 where octets are left over.
-fn left_over(kept: usize) -> usize
+pub fn left_over(kept: usize) -> usize
     ensures { result ≡ left_over kept }
 {
-    if kept == 0 { 0 } else { 1 }
+    usize::from(kept != 0)
 }
 
 impl Hub {
@@ -252,30 +216,30 @@ impl Hub {
     fn is_ready(self, filled: usize, size: usize, space: usize) -> bool
         ensures { result ≡ is_ready (hub_state self) filled size space }
     {
-        if MOST_ITEMS < self.items {
-            return false;
-        }
-        if self.items < self.reports {
-            return false;
-        }
-        if size < filled {
-            return false;
-        }
-        if space < LAST {
-            return false;
-        }
-        filled / SHORTEST <= (space - LAST) / LINE
+        self.items <= MOST_ITEMS
+            && self.reports <= self.items
+            && filled <= size
+            && LAST <= space
+            && filled / SHORTEST <= (space - LAST) / LINE
     }
 
     // Takes in the first `filled` octets of `buf`, with which the input ends or not: writes all that is to be written for them to the front of `out`, the
     // lines of the whole items among them and, where reading stops, the last line; and moves the octets after these items to the front of `buf`.
-    pub fn take_in(self, buf: &mut [u8], filled: usize, is_end: bool, out: &mut [u8]) -> TakenIn
+    // None where the buffer has fewer octets than it is said to hold, there is too little room for lines, or no run counts as this hub does.
+    pub fn take_in(
+        self,
+        buf: &mut [u8],
+        filled: usize,
+        is_end: bool,
+        out: &mut [u8],
+    ) -> Option<Block>
         ensures { (taken_step result ≡ taken_in (hub_state self) buf.old filled is_end out.old) × ((buf.new ≡ rest_after (hub_state self) buf.old filled out.old) × (out.new ≡ lines_after (hub_state self) buf.old filled is_end out.old)) }
     {
         if self.is_ready(filled, buf.len(), out.len()) {
-            return TakenIn::Block(take_block(self, buf, filled, is_end, out));
+            Some(take_block(self, buf, filled, is_end, out))
+        } else {
+            None
         }
-        TakenIn::Refused
     }
 
     // The last line, where `kept` octets are left over.

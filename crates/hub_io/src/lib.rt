@@ -5,13 +5,14 @@
 
 mod say;
 
-ghost use Rattle.std.specs.Prelude.{◌≡◌, true, false, ◌&&◌, ◌+◌, ◌<◌, ◌≤◌, nat_le, length, take, IfOk, OnOk};
+ghost use Rattle.std.specs.Prelude.{◌≡◌, ◌&&◌, ◌+◌, ◌<◌, ◌≤◌, nat_le, length, take, IfOk, OnOk};
 ghost use Rattle.hub.specs.State.{hub_state, block_step};
 ghost use Rattle.hub_spec.specs.Line.{last_size, room_for};
 ghost use Rattle.hub_spec.specs.Log.{octets_left, block_lines, block_of, RunCounts};
 ghost use Rattle.hub_spec.specs.Reads.{NextBlock, Ended};
 
-use hub::{Block, Hub, TakenIn};
+use hub::{Block, Hub};
+use say::Said;
 use std::io::{ErrorKind, Read, Write};
 use std::time::Duration;
 use std::{io, thread};
@@ -25,23 +26,28 @@ const LINE: usize = 39;
 
 const LAST: usize = 15;
 
-// A block, how many octets were written for it, and whether its read or its write failed.
+// A block, and how many octets were written for it.
 #[derive(Clone, Copy)]
 struct Step {
     block: Block,
     written: usize,
-    is_failed: bool,
 }
 
-// A run that is over: its hub, how many octets were written for whole blocks, and whether a read or a write failed.
+// A run that has ended: its hub, and how many octets were written.
 #[derive(Clone, Copy)]
 pub struct Run {
     pub hub: Hub,
     pub written: usize,
-    pub is_failed: bool,
+}
+
+// A run whose read or write failed, which was said on standard error, or whose buffers are too small: how many octets were written for whole blocks before.
+#[derive(Clone, Copy, Debug, PartialEq, Eq)]
+pub struct Failed {
+    pub written: usize,
 }
 
 // Reads to `buf` from `kept` on, and says how many octets it holds then. The first `kept` octets stay. At the end of the input there are no more than these.
+// A place beside the slice, here and below: what lies before it stays, on Err too, and the caller says so of the whole slice.
 fn read_once<R: Read>(input: &mut R, buf: &mut [u8], kept: usize) -> io::Result<usize>
     requires { kept < length buf.old }
     ensures upto { IfOk result (λ upto. (kept ≤ upto) × (upto ≤ length buf.old)) }
@@ -57,6 +63,7 @@ fn read_again<R: Read>(input: &mut R, buf: &mut [u8], kept: usize) -> io::Result
     ensures upto { IfOk result (λ upto. (kept ≤ upto) × (upto ≤ length buf.old)) }
     ensures kept { take kept buf.new ≡ take kept buf.old }
 {
+    // A count, here and below: each loop is proved to end, and how often the system is asked is not known.
     for _ in 0..u64::MAX {
         match read_once(input, buf, kept) {
             Ok(upto) => return Ok(upto),
@@ -88,11 +95,14 @@ fn wait(rt: &HostRuntime) {
 
 // Whether a write that failed may be tried again: a signal interrupted it, or there is no room yet. Then it waits first.
 fn may_try_again(rt: &HostRuntime, e: &io::Error) -> bool {
-    if e.kind() == ErrorKind::WouldBlock {
-        wait(rt);
-        return true;
+    match e.kind() {
+        ErrorKind::WouldBlock => {
+            wait(rt);
+            true
+        }
+        ErrorKind::Interrupted => true,
+        _ => false,
     }
-    e.kind() == ErrorKind::Interrupted
 }
 
 // Writes the octets of s from `done` on, or the first of them, and says how many of its octets are written then.
@@ -137,47 +147,19 @@ pub fn write_out<W: Write>(
     Err(io::Error::from(ErrorKind::WriteZero))
 }
 
-// How many octets of lines are written, and whether a write failed.
-#[derive(Clone, Copy)]
-struct Moved {
-    upto: usize,
-    is_failed: bool,
-}
-
-// Writes lines, or says at which one writing failed.
-fn write_lines<W: Write>(rt: &HostRuntime, output: &mut W, lines: &[u8], has_last: bool) -> Moved
-    ensures { (result.upto ≤ length lines.now) × (result.is_failed ≡ false → result.upto ≡ length lines.now) }
+// Writes lines, and answers how many octets these are, or says at which one writing failed.
+fn write_lines<W: Write>(
+    rt: &HostRuntime,
+    output: &mut W,
+    lines: &[u8],
+    has_last: bool,
+) -> Result<usize, Said>
+    ensures { IfOk result (λ upto. upto ≡ length lines.now) }
 {
     let mut upto = 0;
     match write_out(rt, output, lines, &mut upto) {
-        Ok(()) => Moved {
-            upto,
-            is_failed: false,
-        },
-        Err(e) => {
-            say::unwritten(rt, lines, upto, has_last, &e);
-            Moved {
-                upto,
-                is_failed: true,
-            }
-        }
-    }
-}
-
-// A run that ends here, with nothing taken in.
-fn failed(hub: Hub, kept: usize) -> Step
-    ensures { result.is_failed ≡ true }
-{
-    let block = Block {
-        hub,
-        written: 0,
-        kept,
-        is_stopped: true,
-    };
-    Step {
-        block,
-        written: 0,
-        is_failed: true,
+        Ok(()) => Ok(upto),
+        Err(e) => Err(say::unwritten(rt, lines, upto, has_last, &e)),
     }
 }
 
@@ -190,23 +172,16 @@ fn log_block<W: Write>(
     filled: usize,
     is_end: bool,
     out: &mut [u8],
-) -> Step
+) -> Result<Step, Said>
     requires { RunCounts (hub_state hub) × ((filled ≤ length buf.old) × (room_for filled + last_size ≤ length out.old)) }
-    ensures { (block_step result.block ≡ block_of (hub_state hub) (take filled buf.old) is_end) × ((take result.block.kept buf.new ≡ octets_left (hub_state hub) (take filled buf.old)) × (result.is_failed ≡ false → (result.written ≡ result.block.written) × (take result.written out.new ≡ block_lines (hub_state hub) (take filled buf.old) is_end))) }
+    ensures { IfOk result (λ step. (block_step step.block ≡ block_of (hub_state hub) (take filled buf.old) is_end) × ((take step.block.kept buf.new ≡ octets_left (hub_state hub) (take filled buf.old)) × ((step.written ≡ step.block.written) × (take step.written out.new ≡ block_lines (hub_state hub) (take filled buf.old) is_end)))) }
 {
-    match hub.take_in(buf, filled, is_end, out) {
-        TakenIn::Block(block) => {
-            let written = block.written;
-            let moved = write_lines(rt, output, &out[..written], block.is_stopped);
-            Step {
-                block,
-                written: moved.upto,
-                is_failed: moved.is_failed,
-            }
-        }
-        // The proof shows that this does not happen.
-        TakenIn::Refused => failed(hub, 0),
-    }
+    // The proof shows that there is a block.
+    let Some(block) = hub.take_in(buf, filled, is_end, out) else {
+        return Err(Said);
+    };
+    let written = write_lines(rt, output, &out[..block.written], block.is_stopped)?;
+    Ok(Step { block, written })
 }
 
 // Reads once, and writes what is to be written then. A read that brings nothing is the end of the input.
@@ -218,16 +193,13 @@ fn log_read<R: Read, W: Write>(
     kept: usize,
     buf: &mut [u8],
     out: &mut [u8],
-) -> Step
+) -> Result<Step, Said>
     requires { RunCounts (hub_state hub) × ((kept < length buf.old) × (room_for (length buf.old) + last_size ≤ length out.old)) }
-    ensures { result.is_failed ≡ false → NextBlock (hub_state hub) (take kept buf.old) (block_step result.block) (take result.block.kept buf.new) out.new result.written }
+    ensures { IfOk result (λ step. NextBlock (hub_state hub) (take kept buf.old) (block_step step.block) (take step.block.kept buf.new) out.new step.written) }
 {
     match read_more(input, buf, kept) {
         Ok(filled) => log_block(rt, output, hub, buf, filled, filled == kept, out),
-        Err(e) => {
-            say::unread(rt, hub.last_line(kept), &e);
-            failed(hub, kept)
-        }
+        Err(e) => Err(say::unread(rt, hub.last_line(kept), &e)),
     }
 }
 
@@ -238,32 +210,24 @@ fn log_input<R: Read, W: Write>(
     output: &mut W,
     buf: &mut [u8],
     out: &mut [u8],
-) -> Run
+) -> Result<Run, Failed>
     requires { (66 ≤ length buf.old) × (room_for (length buf.old) + last_size ≤ length out.old) }
-    ensures { result.is_failed ≡ false → Ended (hub_state result.hub) result.written }
+    ensures { IfOk result (λ run. Ended (hub_state run.hub) run.written) }
 {
     let mut hub = Hub::new();
     let mut kept = 0;
     let mut written = 0;
+    // By a loop: each read says how much is left for the next.
     loop {
-        let step = log_read(rt, input, output, hub, kept, buf, out);
+        let Ok(step) = log_read(rt, input, output, hub, kept, buf, out) else {
+            return Err(Failed { written });
+        };
         let block = step.block;
         hub = block.hub;
         kept = block.kept;
-        if step.is_failed {
-            return Run {
-                hub,
-                written,
-                is_failed: true,
-            };
-        }
         written += step.written;
         if block.is_stopped {
-            return Run {
-                hub,
-                written,
-                is_failed: false,
-            };
+            return Ok(Run { hub, written });
         }
     }
 }
@@ -286,13 +250,7 @@ fn lines_buffer() -> [u8; 283974]
 fn has_room(size: usize, space: usize) -> bool
     ensures { result ≡ nat_le 66 size && nat_le (room_for size + last_size) space }
 {
-    if size < LONGEST {
-        return false;
-    }
-    if space < LAST {
-        return false;
-    }
-    size / SHORTEST <= (space - LAST) / LINE
+    LONGEST <= size && LAST <= space && size / SHORTEST <= (space - LAST) / LINE
 }
 
 // Reads the hub's input from a reader to its end, and writes its log to a writer, through buffers that are lent. Where they are too small, the run
@@ -303,22 +261,23 @@ pub fn log_through<R: Read, W: Write>(
     output: &mut W,
     buf: &mut [u8],
     out: &mut [u8],
-) -> Run
-    ensures { result.is_failed ≡ false → Ended (hub_state result.hub) result.written }
+) -> Result<Run, Failed>
+    ensures { IfOk result (λ run. Ended (hub_state run.hub) run.written) }
 {
     if has_room(buf.len(), out.len()) {
-        return log_input(rt, input, output, buf, out);
-    }
-    Run {
-        hub: Hub::new(),
-        written: 0,
-        is_failed: true,
+        log_input(rt, input, output, buf, out)
+    } else {
+        Err(Failed { written: 0 })
     }
 }
 
 // The same through buffers of its own, which hold 64 KiB of the input.
-pub fn log_all<R: Read, W: Write>(rt: &HostRuntime, input: &mut R, output: &mut W) -> Run
-    ensures { result.is_failed ≡ false → Ended (hub_state result.hub) result.written }
+pub fn log_all<R: Read, W: Write>(
+    rt: &HostRuntime,
+    input: &mut R,
+    output: &mut W,
+) -> Result<Run, Failed>
+    ensures { IfOk result (λ run. Ended (hub_state run.hub) run.written) }
 {
     let mut buf = large_buffer();
     let mut out = lines_buffer();

@@ -12,7 +12,7 @@ use borrow.Author.Tests.{le-leb, leb-true, leb-false, ltb-true, ltb-false}
 use Rattle.hub_spec.specs.State.{Hub}
 use Rattle.hub_spec.specs.Line.{line_size, last_size, reports_in, room_for}
 use Rattle.octets.proofs.Places.{both_true}
-use Rattle.items.specs.Item.{whole_size, items, after_items}
+use Rattle.items.specs.Item.{items, after_items}
 use Rattle.hub_spec.specs.Log.{most_items, heard_in, after_item, after_all, printed, printed_all, items_for, lines_of, hub_of, octets_left, is_stuck, fresh_hub, last_line, log_of, is_last, block_lines, is_ready}
 use Rattle.hub_spec.specs.Reads.{written_for, AnyReads, Ready, BlockTaken}
 use Rattle.items.proofs.Items.{none_whole, one_whole, none_left, none_more, no_size, begun, at_front_law, items_fit, items_more, behind_more}
@@ -141,7 +141,7 @@ items_most zero s = omega arith
 items_most (suc n) s =
     ⊎_elim
     (λ no_item. rw (none_whole (suc n) s no_item) (omega arith))
-    (λ item. rw (one_whole n s item) (omega (arith, items_most n (drop (whole_size s) s))))
+    (λ item. rw (one_whole n s item.1) (omega (arith, items_most n (drop item.0 s))))
     (at_front_law s)
 
 fewer_reports : (h : Hub) (its : List (List ℕ)) → h.reports ≤ h.items → (after_all h its).reports ≤ (after_all h its).items

@@ -15,7 +15,6 @@ use Rattle.channels.specs.declared.phy.AdvertisingChannel.{AdvertisingChannel}
 use Rattle.channels.specs.declared.phy.AdvertisingChannel.TheVariants.{Channel37, Channel38, Channel39}
 use Rattle.records_spec.proofs.HubReads.{tiling_of, took}
 use Rattle.records_spec.specs.HubReading.{read_padded}
-use Rattle.records_spec.specs.declared.area.PaddedArea.TheVariants as padded
 use Rattle.columns.proofs.Rows.{row}
 use Rattle.columns.specs.Row.{Fits, row_of, read_row}
 use Rattle.items.proofs.Items.{cut}
@@ -24,6 +23,7 @@ use Rattle.hub_spec.specs.Line.{line_size}
 use Rattle.hub_spec.specs.Log.{most_items}
 use Rattle.hub_spec.specs.Reported as spec
 use Rattle.hub_spec.specs.Reported.{report_widths, line_each, Prints, ReportRows}
+use Rattle.std.specs.Prelude.{Ok}
 
 -- the items of octets are octets
 pub octets_in_law : (n : ℕ) (s : List ℕ) → Octets s → Octets (flatten (items n s))
@@ -41,7 +41,7 @@ good_size [] all = omega arith
 good_size ([] ∷ rs) all = absurd all.0
 good_size ((n ∷ body) ∷ rs) all = rw length-append (omega (arith, all.0.whole, all.0.some, good_size rs all.1))
 
-records_few : (records : List ℕ) (n taken : ℕ) → read_padded records ≡ padded.Accepted n taken → 2 * n ≤ length records
+records_few : (records : List ℕ) (n taken : ℕ) → read_padded records ≡ Ok (n, taken) → 2 * n ≤ length records
 records_few records n taken is =
     let some = took records n taken is [] in
     let tiles = tiling_of (take taken records) some.strictly in

@@ -1,18 +1,19 @@
 -- One piece written after the other: `Wrote`, and how many octets lines have. Assumes nothing.
 use mathlib.Core.Path.{◌≡◌, refl, sym, ap, ◌∙◌}
-use mathlib.Core.List.{List, [], ◌∷◌, ◌++◌, map, flatten}
+use mathlib.Core.List.{List, [], ◌∷◌, ◌++◌, append-nil, map, flatten}
 use Prim.Native.Nat.{ℕ, ◌+◌, ◌-◌, ◌*◌, ◌<◌, ◌≤◌}
 use native.Mathlib.Omega.{arith}
-use lib.ListN.{length, set, take, drop, length-append, length-take, length-drop, take-append-drop}
+use lib.ListN.{length, set, take, drop, length-append, length-take, length-drop, take-append-drop, drop_of_length-le}
+use Rattle.std.proofs.lemmas.List.{take_all}
 use lib.Seq.{drop-drop}
 use borrow.Rule.Slice.PartMut.{put_mid}
 use Rattle.octets.specs.Laws.{Octets}
-use Rattle.octets.specs.Bytes.{written}
+use Rattle.octets.specs.Bytes.{written, at_front}
 use Rattle.octets.proofs.Laws.{written_keeps, set_written, written_written}
 use Rattle.channels.specs.declared.phy.AdvertisingChannel.{AdvertisingChannel}
 use Rattle.addresses.specs.declared.device_address.DeviceAddress.{DeviceAddress}
 use Rattle.columns.specs.Column.{column}
-use Rattle.columns.specs.Table.{octet_columns, octet_from, number_from, octets_from}
+use Rattle.columns.specs.Table.{octet_columns, octets_from}
 use Rattle.columns.proofs.Printed.{printed}
 use Rattle.columns.proofs.Widths.{column_length}
 use Rattle.hub_spec.specs.Line.{report_line, line_size, last_size}
@@ -54,6 +55,18 @@ nothing_yet out at =
     let none_more : at + 0 ≡ at = omega arith in
     record { size = sym none_more; contents = rw none_more (sym (take-append-drop at out)) }
 
+pub front_written : (xs out : List ℕ) → at_front xs out ≡ written xs out 0
+front_written xs out =
+    let start : 0 + length xs ≡ length xs = omega arith in
+    rw start refl
+
+-- octets at the front of what is lent from `at` on
+pub tail_written : (xs out : List ℕ) (at : ℕ) {part : List ℕ} → at ≤ length out → part ≡ at_front xs (take (length out - at) (drop at out))
+    → put_mid at (length out - at) out part ≡ written xs out at
+tail_written xs out at inside is =
+    let all : length (drop at out) ≤ length out - at = omega (arith, length-drop at out) in
+    simp (is, take_all, drop_of_length-le, all, append-nil, drop-drop)
+
 module _ {out₀ : List ℕ} {at : ℕ} {done out : List ℕ} {next : ℕ} (w : Wrote out₀ at done out next) (inside : next ≤ length out₀) where
   pub as_long : length out ≡ length out₀
   as_long = ap length w.contents ∙ (written_keeps done out₀ at (omega (arith, w.size))).as_long
@@ -74,29 +87,19 @@ module _ {out₀ : List ℕ} {at : ℕ} {done out : List ℕ} {next : ℕ} (w : 
   pub then_octet : (x : ℕ) → next < length out₀ → Wrote out₀ at (done ++ (x ∷ [])) (set out next x) (next + 1)
   then_octet x more = then_piece (x ∷ []) {size = 1} refl (refl, set_written x out next (rw as_long more))
 
-  -- as a call writes it to a lent part, by `put_column`
+  -- as a call writes it to a lent part, by `put_column` or `put_octet`
   pub then_put : (width n : ℕ) {part : List ℕ} → next + width ≤ length out₀ → part ≡ column (length (take (next + width - next) (drop next out))) n
       → Wrote out₀ at (done ++ column width n) (put_mid next (next + width - next) out part) (next + width)
   then_put width n fits is =
       let size : length (take (next + width - next) (drop next out)) ≡ width = lent_length out next width (rw as_long fits) in
       then_column width n (refl, put_piece out (column width n) next width (column_length width n) (is ∙ ap (λ (k : ℕ). column k n) size))
 
-  -- by `put_octet`, `put_number` and `put_octets` from the table
-  module _ {table : List ℕ} (is-table : table ≡ octet_columns) where
-    pub then_copied : (width n : ℕ) {part : List ℕ} → n < 256 → next + width ≤ length out₀ → part ≡ octet_from table (length (take (next + width - next) (drop next out))) n
-        → Wrote out₀ at (done ++ column width n) (put_mid next (next + width - next) out part) (next + width)
-    then_copied width n small fits is =
-        then_put width n fits (is ∙ ap (λ (t : List ℕ). octet_from t (length (take (next + width - next) (drop next out))) n) is-table ∙ printed.octet (length (take (next + width - next) (drop next out))) n small)
-
-    pub then_number : (width n : ℕ) {part : List ℕ} → next + width ≤ length out₀ → part ≡ number_from table (length (take (next + width - next) (drop next out))) n
-        → Wrote out₀ at (done ++ column width n) (put_mid next (next + width - next) out part) (next + width)
-    then_number width n fits is =
-        then_put width n fits (is ∙ ap (λ (t : List ℕ). number_from t (length (take (next + width - next) (drop next out))) n) is-table ∙ printed.number (length (take (next + width - next) (drop next out))) n)
-
-    pub then_octets : (octets : List ℕ) {part : List ℕ} → Octets octets → next + 4 * length octets ≤ length out₀
-        → part ≡ octets_from table octets (take (next + 4 * length octets - next) (drop next out))
-        → Wrote out₀ at (done ++ flatten (map (column 4) octets)) (put_mid next (next + 4 * length octets - next) out part) (next + 4 * length octets)
-    then_octets octets all fits is =
-        let lent = take (next + 4 * length octets - next) (drop next out) in
-        let size : length lent ≡ 4 * length octets = lent_length out next (4 * length octets) (rw as_long fits) in
-        then_piece (flatten (map (column 4) octets)) (octets_length octets) (refl, put_piece out (flatten (map (column 4) octets)) next (4 * length octets) (octets_length octets) (is ∙ ap (λ (t : List ℕ). octets_from t octets lent) is-table ∙ printed.octets octets lent all size))
+  -- by `put_octets`
+  pub then_octets : (octets : List ℕ) (width : ℕ) {part : List ℕ} → Octets octets → width ≡ 4 * length octets → next + width ≤ length out₀
+      → part ≡ octets_from octet_columns octets (take (next + width - next) (drop next out))
+      → Wrote out₀ at (done ++ flatten (map (column 4) octets)) (put_mid next (next + width - next) out part) (next + width)
+  then_octets octets width all four fits is =
+      let lent = take (next + width - next) (drop next out) in
+      let size : length lent ≡ 4 * length octets = lent_length out next width (rw as_long fits) ∙ four in
+      let long : length (flatten (map (column 4) octets)) ≡ width = octets_length octets ∙ sym four in
+      then_piece (flatten (map (column 4) octets)) long (refl, put_piece out (flatten (map (column 4) octets)) next width long (is ∙ printed.octets octets lent all size))

@@ -16,7 +16,6 @@ use Rattle.channels.specs.Laws.{cycles}
 use Rattle.channels.specs.Phy.{index_of, cycled}
 use Rattle.channels.specs.declared.phy.AdvertisingChannel.{AdvertisingChannel}
 use Rattle.records_spec.specs.HubReading.{read_padded}
-use Rattle.records_spec.specs.declared.area.PaddedArea.TheVariants as padded
 use Rattle.addresses.specs.Address.{kind_of, address_of}
 use Rattle.addresses.specs.Header.{header_bits, header_of, tx_add}
 use Rattle.addresses.specs.declared.device_address.DeviceAddress.{DeviceAddress}
@@ -25,8 +24,8 @@ use Rattle.addresses.specs.declared.header.Header.{Header}
 use Rattle.beacon_spec.proofs.Reports.{reports, holds_decoded, type_is}
 use Rattle.beacon_spec.specs.Laws as laws
 use Rattle.beacon_spec.specs.Scanner.{timer_updated, scanned, is_report}
-use Rattle.beacon_spec.specs.State.{BeaconScanner, Scanned}
-use Rattle.beacon_spec.specs.declared.beacon.Report.TheVariants as report
+use Rattle.beacon_spec.specs.State.{BeaconScanner, Report, Scanned}
+use Rattle.beacon_spec.specs.declared.beacon.Sighting.{Sighting}
 use Rattle.columns.proofs.Rows.{row}
 use Rattle.columns.proofs.Widths.{column_length}
 use Rattle.columns.specs.Column.{column}
@@ -41,7 +40,7 @@ use Rattle.hub_spec.specs.Reported.{report_widths, last_widths, line_each, IsRep
 use Rattle.hub_spec.specs.State.{Hub}
 use Rattle.hub_spec.proofs.AnyReads.{counted, items_most, block_taken}
 use Rattle.hub_spec.proofs.Fitting.{octets_in_law, rows_fit, lines_read, lines_size}
-use Rattle.hub_spec.proofs.Reports.{is_beacon_law}
+use Rattle.std.specs.Prelude.{None, Some, Ok, Err}
 
 pub rowed : (h : Hub) (n : ℕ) → Rowed h n
 unfolding report_line last_line flatten row_of
@@ -83,7 +82,7 @@ record Printed (k channel : ℕ) (item line : List ℕ) (count : ℕ) : Type 0 w
 
 -- a packet that is reported prints its line
 beacon_prints : (k : ℕ) (on : AdvertisingChannel) (first h0 h1 : ℕ) (p : List ℕ) (n taken : ℕ) → 6 ≤ length p → first ≡ 1 → IsReported h0 h1 p
-    → read_padded (drop 6 p) ≡ padded.Accepted n taken
+    → read_padded (drop 6 p) ≡ Ok (n, taken)
     → Printed k (index_of on) (first ∷ h0 ∷ h1 ∷ p) (report_line k on (address_of (take 6 p) (kind_of (tx_add (header_of (h0 + 256 * h1))))) n) 1
 unfolding flatten
 beacon_prints k on first h0 h1 [] n taken long crc is good = absurd (omega arith)
@@ -114,18 +113,18 @@ module _ (s : BeaconScanner) (all_pass : s.filter.scan ≡ AllowAll) (k first h0
   heard : Scanned
   heard = scanned s header p (is_crc_good first) []
 
-  is_reported : heard.report ≡ report.Beacon → (first ≡ 1) × IsReported h0 h1 p
+  is_reported : (x : Sighting) → heard.report ≡ Ok (Some x) → (first ≡ 1) × IsReported h0 h1 p
   unfolding heard header
-  is_reported e =
-      let checks = (reports s header p (is_crc_good first) []).sound e in
-      (eqb-true first 1 checks.crc, record { type_2 = omega (arith, checks.type_2); decoding = checks.decoding })
+  is_reported x e =
+      let checks = (reports s header p (is_crc_good first) []).sound x e in
+      (eqb-true first 1 checks.crc, record { type_2 = omega (arith, checks.type_2); pdu = checks.pdu; decoding = checks.decoding })
 
-  reported_is : first ≡ 1 → IsReported h0 h1 p → heard.report ≡ report.Beacon
+  reported_is : first ≡ 1 → IsReported h0 h1 p → is_report heard.report ≡ true
   unfolding heard header
   reported_is good is =
-      ap (λ (x : Scanned). x.report)
+      ap (λ (x : Scanned). is_report x.report)
       ((reports s header p (is_crc_good first) []).complete
-      (record { crc = rw good refl; type_2 = omega (arith, is.type_2); decoding = is.decoding; filter = rw all_pass laws.all }))
+      (record { crc = rw good refl; type_2 = omega (arith, is.type_2); pdu = is.pdu; decoding = is.decoding; filter = rw all_pass laws.all }))
 
   not_reported : is_report heard.report ≡ false → (g0 g1 : ℕ) (q : List ℕ) → first ∷ h0 ∷ h1 ∷ p ≡ 0x01 ∷ g0 ∷ g1 ∷ q → IsReported g0 g1 q → ⊥
   not_reported e g0 g1 q same is =
@@ -133,27 +132,27 @@ module _ (s : BeaconScanner) (all_pass : s.filter.scan ≡ AllowAll) (k first h0
       let low : h0 ≡ g0 = cc in
       let high : h1 ≡ g1 = cc in
       let payload : p ≡ q = cc in
-      let said : heard.report ≡ report.Beacon = reported_is good (record { type_2 = rw low is.type_2; decoding = rw (low, high, payload) is.decoding }) in
-      true≢false (sym (ap is_report said) ∙ e)
+      true≢false (sym (reported_is good (record { type_2 = rw low is.type_2; pdu = is.pdu; decoding = rw (low, high, payload) is.decoding })) ∙ e)
 
   -- the channel is the scanner's own
-  same_channel : heard.report ≡ report.Beacon → heard.channel ≡ s.channel
-  unfolding heard header
-  same_channel e = ap (λ (x : Scanned). x.channel) ((reports s header p (is_crc_good first) []).complete ((reports s header p (is_crc_good first) []).sound e))
+  same_channel : heard.channel ≡ s.channel
+  unfolding heard header scanned
+  same_channel = refl
 
   prints : Printed k (index_of s.channel) (first ∷ h0 ∷ h1 ∷ p) (line k heard) (reports_in heard)
   unfolding line reports_in heard header
-  prints = go (is_report heard.report) refl
+  prints = go heard.report refl
     where
-      go : (b : Bool) → is_report heard.report ≡ b → Printed k (index_of s.channel) (first ∷ h0 ∷ h1 ∷ p) (line k heard) (reports_in heard)
-      go true is_one =
-          let e = is_beacon_law heard.report is_one in
+      go : (r : Report) → heard.report ≡ r → Printed k (index_of s.channel) (first ∷ h0 ∷ h1 ∷ p) (line k heard) (reports_in heard)
+      go (Ok (Some x)) e =
           let said = reports s header p (is_crc_good first) [] in
-          let is = is_reported e in
-          let long : 6 ≤ length p = omega (arith, (holds_decoded header p (type_is (header_bits 0 4 header) (said.sound e).type_2) (said.sound e).decoding).size) in
-          rw (is_one, said.sender e, same_channel e)
-          (beacon_prints k s.channel first h0 h1 p heard.adv_data.count heard.taken long is.0 is.1 (said.number_of_records e))
-      go false e = rw e (prints_none k (index_of s.channel) (first ∷ h0 ∷ h1 ∷ p) (not_reported e))
+          let is = is_reported x e in
+          let checks = said.sound x e in
+          let long : 6 ≤ length p = omega (arith, (holds_decoded header p checks.pdu (type_is (header_bits 0 4 header) checks.type_2) checks.decoding).size) in
+          rw (e, said.sender x e, same_channel)
+          (beacon_prints k s.channel first h0 h1 p x.adv_data.count x.taken long is.0 is.1 (said.number_of_records x e))
+      go (Ok None) e = rw e (prints_none k (index_of s.channel) (first ∷ h0 ∷ h1 ∷ p) (not_reported (ap is_report e)))
+      go (Err r) e = rw e (prints_none k (index_of s.channel) (first ∷ h0 ∷ h1 ∷ p) (not_reported (ap is_report e)))
 
 -- any item
 item_prints : (s : BeaconScanner) → s.filter.scan ≡ AllowAll → (k : ℕ) (item : List ℕ)

@@ -2,14 +2,13 @@
 -- are no more reads than items have octets (`fewer_left`). Assumes nothing.
 use mathlib.Core.Path.{◌≡◌, refl, sym, ap, ◌∙◌}
 use mathlib.Core.Logic.{⊎_elim}
-use mathlib.Core.Bool.{Bool, true, false, cond}
+use mathlib.Core.Bool.{Bool, true, false}
 use mathlib.Core.List.{List, [], ◌∷◌, ◌++◌, flatten}
 use Prim.Native.Nat.{ℕ, zero, suc, ◌+◌, ◌-◌, ◌*◌, ◌<◌, ◌≤◌}
 use native.Mathlib.Omega.{arith}
-use lib.ListN.{length, get_or, drop, length-append, length-take}
-use lib.Dec.{leb, ltb, eqb}
-use Rattle.items.specs.Item.{payload_size, size_of, whole_size, items, after_items}
-use Rattle.items.proofs.Items.{none_whole, one_whole, at_front_law}
+use lib.ListN.{length, drop, length-append, length-take}
+use Rattle.items.specs.Item.{size_of, whole_size, items, after_items}
+use Rattle.items.proofs.Items.{none_whole, one_whole, at_front_law, whole_inv, size_bounds}
 use Rattle.hub_spec.specs.Line.{line_size, last_size}
 use Rattle.hub_spec.specs.Log.{most_items, after_item, after_all, printed_all, items_for, lines_of, hub_of, octets_left, fresh_hub, last_line, log_of, is_last, block_lines, RunCounts}
 use Rattle.hub_spec.specs.Reads.{Ended}
@@ -96,31 +95,13 @@ module _ {h : Hub} {kept : List ℕ} {n : ℕ} (run : Running h kept n) where
           }
 
 -- An item has at most 66 octets, so each octet that is read brings a run nearer to its end.
-size_most : (s : List ℕ) → size_of s ≤ 66
-unfolding size_of
-size_most [] = omega arith
-size_most (first ∷ rest) = go (eqb first 0) (ltb 2 first)
-  where
-    go : (tick high : Bool) → cond tick 1 (cond high 0 (3 + payload_size (get_or rest 1 0))) ≤ 66
-    go true high = omega arith
-    go false true = omega arith
-    go false false = omega arith
-
-whole_most : (s : List ℕ) → whole_size s ≤ 66
-unfolding whole_size
-whole_most s = go (leb (size_of s) (length s))
-  where
-    go : (b : Bool) → cond b (size_of s) 0 ≤ 66
-    go true = size_most s
-    go false = omega arith
-
 octets_most : (n : ℕ) (s : List ℕ) → length (flatten (items n s)) ≤ 66 * length (items n s)
 unfolding items flatten
 octets_most zero s = omega arith
 octets_most (suc n) s =
     ⊎_elim
     (λ no_item. rw (none_whole (suc n) s no_item) (omega arith))
-    (λ item. rw (one_whole n s item, length-append) (omega (arith, whole_most s, length-take (whole_size s) s, octets_most n (drop (whole_size s) s))))
+    (λ item. rw (one_whole n s item.1, length-append) (omega (arith, size_bounds s (whole_inv s item.1).0, length-take item.0 s, octets_most n (drop item.0 s))))
     (at_front_law s)
 
 -- how many octets at most are still to be read

@@ -8,7 +8,7 @@ use lib.ListN.{length, replicate, length-append, length-replicate}
 use Rattle.octets.specs.Lists.{All}
 use Rattle.addresses.specs.Header.{pdu_type}
 use Rattle.advertising.specs.Pdu.{decode_by, by_type, undirected, with_area}
-use Rattle.beacon_spec.specs.Scanner.{scanned}
+use Rattle.beacon_spec.specs.Scanner.{scanned, sighted}
 use Rattle.columns.proofs.Widths.{column_length}
 use Rattle.columns.specs.Column.{leading, column}
 use Rattle.columns.specs.Text.{ascii, lines}
@@ -27,8 +27,8 @@ use Rattle.hub_spec.specs.Sample.{beacon, bad_beacon, padded_beacon, unended_bea
 both : items most_items (0x00 ∷ beacon) ≡ (0x00 ∷ []) ∷ beacon ∷ []
 unfolding size_of whole_size
 both =
-    one_whole (most_items - 1) (0x00 ∷ beacon) (λ e. omega arith)
-    ∙ ap (λ (its : List (List ℕ)). (0x00 ∷ []) ∷ its) (one_whole (most_items - 2) beacon (λ e. omega arith))
+    one_whole (most_items - 1) (0x00 ∷ beacon) refl
+    ∙ ap (λ (its : List (List ℕ)). (0x00 ∷ []) ∷ its) (one_whole (most_items - 2) beacon refl)
     ∙ ap (λ (its : List (List ℕ)). (0x00 ∷ []) ∷ beacon ∷ its) (none_whole (most_items - 2) [] refl)
 
 no_items : items most_items [] ≡ []
@@ -42,23 +42,23 @@ alone s one = one ∙ ap (λ (its : List (List ℕ)). s ∷ its) (none_whole (mo
 
 bad_item : items most_items bad_beacon ≡ bad_beacon ∷ []
 unfolding size_of whole_size
-bad_item = alone bad_beacon (one_whole (most_items - 1) bad_beacon (λ e. omega arith))
+bad_item = alone bad_beacon (one_whole (most_items - 1) bad_beacon refl)
 
 padded_item : items most_items padded_beacon ≡ padded_beacon ∷ []
 unfolding size_of whole_size
-padded_item = alone padded_beacon (one_whole (most_items - 1) padded_beacon (λ e. omega arith))
+padded_item = alone padded_beacon (one_whole (most_items - 1) padded_beacon refl)
 
 unended_item : items most_items unended_beacon ≡ unended_beacon ∷ []
 unfolding size_of whole_size
-unended_item = alone unended_beacon (one_whole (most_items - 1) unended_beacon (λ e. omega arith))
+unended_item = alone unended_beacon (one_whole (most_items - 1) unended_beacon refl)
 
 long_item : items most_items long_packet ≡ long_packet ∷ []
 unfolding size_of whole_size
-long_item = alone long_packet (one_whole (most_items - 1) long_packet (λ e. omega arith))
+long_item = alone long_packet (one_whole (most_items - 1) long_packet refl)
 
 above_item : items most_items (0x01 ∷ 0x00 ∷ 0xC0 ∷ []) ≡ (0x01 ∷ 0x00 ∷ 0xC0 ∷ []) ∷ []
 unfolding size_of whole_size
-above_item = alone (0x01 ∷ 0x00 ∷ 0xC0 ∷ []) (one_whole (most_items - 1) (0x01 ∷ 0x00 ∷ 0xC0 ∷ []) (λ e. omega arith))
+above_item = alone (0x01 ∷ 0x00 ∷ 0xC0 ∷ []) (one_whole (most_items - 1) (0x01 ∷ 0x00 ∷ 0xC0 ∷ []) refl)
 
 broken_item : items most_items (0x03 ∷ []) ≡ []
 unfolding size_of whole_size
@@ -92,7 +92,7 @@ six =
     ∙ ap (λ (l : List (List ℕ)). six_items ++ l) (none_whole (most_items - 6) (0x03 ∷ []) refl)
 
 pub sample : Sample
-unfolding leading column ascii lines after_items flatten scanned heard_in scanner_after report_line line reports_in after_item printed after_all printed_all last_line log_of decode_by by_type undirected with_area pdu_type read_padded ended_by is_zeros unpadded before_zero area_in read_area area_of reads with_first cut first record_read data_read flags_read up_to named
+unfolding leading column ascii lines after_items flatten scanned sighted heard_in scanner_after report_line line reports_in after_item printed after_all printed_all last_line log_of decode_by by_type undirected with_area pdu_type read_padded ended_by is_zeros unpadded before_zero area_in read_area area_of reads with_first cut first record_read data_read flags_read up_to named
 sample =
     record {
       sample = rw both;
@@ -126,7 +126,7 @@ short_found k few =
 
 -- each prints a line
 short_lines : (k count reports : ℕ) → length (printed_all (record { items = count; reports = reports; scanner = fresh_hub.scanner }) (replicate k short_beacon)) ≡ line_size * k
-unfolding leading column flatten scanned heard_in scanner_after report_line line reports_in after_item printed printed_all decode_by by_type undirected with_area pdu_type read_padded ended_by is_zeros unpadded before_zero area_in read_area area_of reads cut
+unfolding leading column flatten scanned sighted heard_in scanner_after report_line line reports_in after_item printed printed_all decode_by by_type undirected with_area pdu_type read_padded ended_by is_zeros unpadded before_zero area_in read_area area_of reads cut
 short_lines zero count reports = refl
 short_lines (suc k) count reports = simp (length-append, column_length) (omega (arith, short_lines k (count + 1) (reports + 1)))
 

@@ -2,7 +2,7 @@
 --   most_items                   == how many items count
 --   start                       == the time of every call: the input has ticks and no times
 --   is_crc_good first             == a packet that begins so is CRC-good
---   heard_in s item              == what the scanner s answers to an item
+--   heard_in s item              == what the scanner s answers to an item; unheard s: to one that is no packet
 --   scanner_after s item         == the scanner after it
 --   after_item h item, printed h item        == the hub after an item, and what it prints for it
 --   after_all h its, printed_all h its        == the same of many items
@@ -21,7 +21,7 @@
 --   rest_in h buf filled, lines_in h s out    == `buf` with what is left over at its front, and `out` with the lines of the items at its front
 --   taken_in, lines_after h buf filled isEnd out, rest_after h buf filled out == what `take_in` answers, and what it leaves in `out` and `buf`
 --   Sizes                       == how long lines are (Pieces.sizes)
-use Rattle.std.specs.Prelude.{◌≡◌, ℕ, ◌+◌, ◌-◌, ◌≤◌, Bool, true, false, cond, ◌&&◌, ◌||◌, length, take, leb, ltb, eqb}
+use Rattle.std.specs.Prelude.{◌≡◌, ℕ, ◌+◌, ◌-◌, ◌≤◌, Bool, true, false, cond, ◌&&◌, ◌||◌, length, take, leb, ltb, eqb, Option, None, Some, Ok}
 use mathlib.Core.List.{List, [], ◌∷◌, ◌++◌, flatten}
 use Rattle.octets.specs.Bytes.{le, at_front}
 use Rattle.octets.specs.declared.time.Instant.{Instant}
@@ -29,14 +29,12 @@ use Rattle.channels.specs.declared.phy.AdvertisingChannel.{AdvertisingChannel}
 use Rattle.addresses.specs.Header.{header_of}
 use Rattle.addresses.specs.declared.device_address.DeviceAddress.{DeviceAddress}
 use Rattle.addresses.specs.declared.filter.AddressFilter.TheVariants.{AllowAll}
-use Rattle.beacon_spec.specs.Scanner.{scanner_of, configured, timer_updated, unreported, scanned}
+use Rattle.beacon_spec.specs.Scanner.{scanner_of, configured, timer_updated, scanned}
 use Rattle.beacon_spec.specs.State.{BeaconScanner, Scanned}
-use Rattle.beacon_spec.specs.declared.beacon.Report.TheVariants as report
 use Rattle.columns.specs.Column.{column}
 use Rattle.items.specs.Item.{items, after_items}
 use Rattle.hub_spec.specs.Line.{report_line, line, reports_in, line_size, last_size, room_for}
-use Rattle.hub_spec.specs.State.{Hub, Logged, TakenIn, Block}
-use Rattle.hub_spec.specs.State as taken
+use Rattle.hub_spec.specs.State.{Hub, Logged, Block}
 
 -- reading stops "beyond 999,999"
 abbrev pub most_items : ℕ
@@ -49,11 +47,14 @@ start = record { 0 = 0 }
 abbrev pub is_crc_good : ℕ → Bool
 is_crc_good first = eqb first 1
 
+abbrev pub unheard : BeaconScanner → Scanned
+unheard s = record { report = Ok None; channel = s.channel }
+
 -- ".. is followed by header and as many octets as it counts"; a tick is no packet
 unfoldable pub heard_in : BeaconScanner → List ℕ → Scanned
-heard_in s [] = unreported report.Nothing s.channel
-heard_in s (first ∷ []) = unreported report.Nothing s.channel
-heard_in s (first ∷ h0 ∷ []) = unreported report.Nothing s.channel
+heard_in s [] = unheard s
+heard_in s (first ∷ []) = unheard s
+heard_in s (first ∷ h0 ∷ []) = unheard s
 heard_in s (first ∷ h0 ∷ h1 ∷ payload) = scanned s (header_of (le (h0 ∷ h1 ∷ []))) payload (is_crc_good first) []
 
 -- "00 is a tick"
@@ -151,8 +152,8 @@ abbrev pub lines_in : Hub → List ℕ → List ℕ → List ℕ
 lines_in h s out = at_front (lines_of h s) out
 
 -- what `take_in` answers, and what the two buffers hold then
-abbrev pub taken_in : Hub → List ℕ → ℕ → Bool → List ℕ → TakenIn
-taken_in h buf filled isEnd out = cond (is_ready h filled (length buf) (length out)) (taken.block (block_of h (take filled buf) isEnd)) taken.refused
+abbrev pub taken_in : Hub → List ℕ → ℕ → Bool → List ℕ → Option Block
+taken_in h buf filled isEnd out = cond (is_ready h filled (length buf) (length out)) (Some (block_of h (take filled buf) isEnd)) None
 
 abbrev pub rest_after : Hub → List ℕ → ℕ → List ℕ → List ℕ
 rest_after h buf filled out = cond (is_ready h filled (length buf) (length out)) (rest_in h buf filled) buf

@@ -5,12 +5,11 @@
 --   Ended h n                   == a run has ended: its hub, and how many octets were written
 --   Ready h buf filled out      == the hub counts as a run does, and there are so many octets and room for their lines
 --   BlockTaken h s isEnd        (AnyReads.block_taken)  a hub that is ready is never refused; and what a block leaves for the next
-use Rattle.std.specs.Prelude.{◌≡◌, Bool, true, false, cond, ℕ, ◌+◌, ◌<◌, ◌≤◌, length, take, drop, eqb}
+use Rattle.std.specs.Prelude.{◌≡◌, Bool, true, false, cond, ℕ, ◌+◌, ◌<◌, ◌≤◌, length, take, drop, eqb, None, Some}
 use mathlib.Core.List.{List, [], ◌∷◌, ◌++◌, flatten}
 use Rattle.hub_spec.specs.Line.{last_size, room_for}
 use Rattle.hub_spec.specs.Log.{fresh_hub, lines_of, hub_of, octets_left, logged_of, block_lines, block_of, last_line, log_of, RunCounts, taken_in, rest_after, lines_after}
 use Rattle.hub_spec.specs.State.{Hub, Block}
-use Rattle.hub_spec.specs.State as taken
 
 -- what is written for these reads, `kept` being left over of the octets before: each block is what was left over and what was read; at the end of the
 -- input nothing is read, and as soon as a block says that reading stops no further one is
@@ -45,10 +44,10 @@ Ready h buf filled out = RunCounts h × ((filled ≤ length buf) × (room_for fi
 
 -- A hub that is ready is never refused; and what a block leaves for the next. With which octets left over reading stops: `Stopping` (specs/Reported).
 pub record BlockTaken (h : Hub) (s : List ℕ) (isEnd : Bool) : Type 0 where
-  pub accepted : (buf : List ℕ) (filled : ℕ) (out : List ℕ) → Ready h buf filled out → taken_in h buf filled isEnd out ≡ taken.block (block_of h (take filled buf) isEnd)
+  pub accepted : (buf : List ℕ) (filled : ℕ) (out : List ℕ) → Ready h buf filled out → taken_in h buf filled isEnd out ≡ Some (block_of h (take filled buf) isEnd)
   -- else it is refused, and both buffers keep their octets
   pub refused : (buf : List ℕ) (filled : ℕ) (out : List ℕ) → (Ready h buf filled out → ⊥)
-      → (taken_in h buf filled isEnd out ≡ taken.refused) × ((rest_after h buf filled out ≡ buf) × (lines_after h buf filled isEnd out ≡ out))
+      → (taken_in h buf filled isEnd out ≡ None) × ((rest_after h buf filled out ≡ buf) × (lines_after h buf filled isEnd out ≡ out))
   -- what is left over stands at the front of the one buffer then, what is to be written at the front of the other, and the octets after these are kept
   pub left : (buf : List ℕ) (filled : ℕ) (out : List ℕ) → Ready h buf filled out
       → (take (block_of h (take filled buf) isEnd).kept (rest_after h buf filled out) ≡ octets_left h (take filled buf))

@@ -10,7 +10,7 @@
 --   Rowed h n                   == the lines by themselves, and that the last line's numbers fit (Reported.rowed)
 --   Added k c sender n          == where the channel stands in a report's line, and that nothing else changes (Reported.added)
 --   Stopping h s                == with which octets left over a block says that reading stops (Reported.stopping)
-use Rattle.std.specs.Prelude.{◌≡◌, ◌⊎◌, true, false, ℕ, suc, ◌+◌, ◌*◌, ◌/◌, ◌%◌, ◌<◌, ◌≤◌, length, get_or, take, drop}
+use Rattle.std.specs.Prelude.{◌≡◌, ◌⊎◌, true, false, ℕ, suc, ◌+◌, ◌*◌, ◌/◌, ◌%◌, ◌<◌, ◌≤◌, length, get_or, take, drop, Ok}
 use mathlib.Core.List.{List, [], ◌∷◌, ◌++◌, map, flatten}
 use Rattle.octets.specs.Lists.{All}
 use Rattle.octets.specs.Bytes.{part}
@@ -20,14 +20,13 @@ use Rattle.channels.specs.Phy.{index_of}
 use Rattle.channels.specs.declared.phy.AdvertisingChannel.{AdvertisingChannel}
 use Rattle.channels.specs.declared.phy.AdvertisingChannel.TheVariants.{Channel37}
 use Rattle.records_spec.specs.HubReading.{read_padded}
-use Rattle.records_spec.specs.declared.area.PaddedArea.TheVariants as padded
 use Rattle.addresses.specs.Address.{address_of}
 use Rattle.addresses.specs.Header.{header_of}
 use Rattle.addresses.specs.declared.device_address.AddressKind.TheVariants.{Public, Random}
 use Rattle.addresses.specs.declared.device_address.DeviceAddress.{DeviceAddress}
 use Rattle.addresses.specs.declared.filter.AddressFilter.TheVariants.{AllowAll}
 use Rattle.advertising.specs.Pdu.{heard_of}
-use Rattle.octets.specs.declared.error.Outcome.TheVariants as outcome
+use Rattle.advertising.specs.declared.pdu.Pdu.{Pdu}
 use Rattle.columns.specs.Column.{column}
 use Rattle.columns.specs.Row.{row_of, read_row, Fits}
 use Rattle.items.specs.Item.{items}
@@ -50,13 +49,14 @@ line_each rows = flatten (map (row_of report_widths) rows)
 -- "CRC, type 2, decoding": the type is the header's bits 0 to 3, decoding the hub's, and all senders pass
 pub record IsReported (h0 h1 : ℕ) (payload : List ℕ) : Type 0 where
   pub type_2 : h0 % 16 ≡ 2
-  pub decoding : (heard_of (header_of (h0 + 256 * h1)) payload).outcome ≡ outcome.Accepted
+  pub pdu : Pdu
+  pub decoding : heard_of (header_of (h0 + 256 * h1)) payload ≡ Ok pdu
 
 pub data Prints (k channel : ℕ) : List ℕ → List (List ℕ) → Type 0 where
   -- the kind is TxAdd, bit 6 of the header; the records are those before the padding, which is not printed
   report : (h0 h1 a b c d e f : ℕ) (records : List ℕ) (n taken : ℕ)
       → IsReported h0 h1 (a ∷ b ∷ c ∷ d ∷ e ∷ f ∷ records)
-      → read_padded records ≡ padded.Accepted n taken
+      → read_padded records ≡ Ok (n, taken)
       → Prints k channel (0x01 ∷ h0 ∷ h1 ∷ a ∷ b ∷ c ∷ d ∷ e ∷ f ∷ records) ((k ∷ channel ∷ (h0 / 64 % 2) ∷ a ∷ b ∷ c ∷ d ∷ e ∷ f ∷ n ∷ []) ∷ [])
   -- every other item prints nothing
   other : (item : List ℕ) → ((h0 h1 : ℕ) (payload : List ℕ) → item ≡ 0x01 ∷ h0 ∷ h1 ∷ payload → IsReported h0 h1 payload → ⊥) → Prints k channel item []

@@ -2,7 +2,6 @@
 --   Hub         == what the hub has counted, and the scanner that it listens with
 --   Logged      == what logging the items of a block did: the hub, the octets of the whole items, and the octets of the lines
 --   Block       == what taking in the octets that a read brought did
---   TakenIn     == a block, or none: the buffer has fewer octets than it is said to hold, there is too little room for lines, or no run counts as this hub does
 use Rattle.std.specs.Prelude.{Bool, ℕ}
 use Rattle.beacon_spec.specs.State.{BeaconScanner}
 
@@ -22,7 +21,3 @@ pub record Block : Type 0 where
   pub written : ℕ
   pub kept : ℕ
   pub is_stopped : Bool
-
-pub data TakenIn : Type 0 where
-  block : Block → TakenIn
-  refused : TakenIn

@@ -15,6 +15,6 @@ fn main(rt: HostRuntime) -> io::Result<()> {
         let _said = usage(&rt);
         return Ok(());
     }
-    hub_io::log_all(&rt, &mut rt.stdin(), &mut rt.stdout());
+    let _run = hub_io::log_all(&rt, &mut rt.stdin(), &mut rt.stdout());
     Ok(())
 }

@@ -2,7 +2,7 @@
 #![tactic(auto)]
 
 ghost use Rattle.std.specs.Prelude.{◌≡◌, drop};
-ghost use Rattle.items.specs.Item.{whole_size};
+ghost use Rattle.items.specs.Item.{size_of, whole_size};
 
 // What an item begins with.
 pub const TICK: u8 = 0x00;
@@ -11,29 +11,25 @@ pub const CRC_GOOD: u8 = 0x01;
 
 pub const CRC_BAD: u8 = 0x02;
 
-fn wide(octet: u8) -> usize
-    ensures { result ≡ octet }
+// The size of the item that begins so.
+fn size_of(s: &[u8]) -> Option<usize>
+    ensures { result ≡ size_of s.now }
 {
-    octet as usize
+    match *s.first()? {
+        TICK => Some(1),
+        CRC_GOOD | CRC_BAD => {
+            let h1 = s.get(2).copied().unwrap_or(0);
+            Some(3 + h1 as usize % 64)
+        }
+        _ => None,
+    }
 }
 
-// The size of the whole item at `at`, or 0 where none is.
-pub fn whole_size(s: &[u8], at: usize) -> usize
+// The size of the whole item at `at`.
+pub fn whole_size(s: &[u8], at: usize) -> Option<usize>
     ensures { result ≡ whole_size (drop at s.now) }
 {
-    if s.len() <= at {
-        return 0;
-    }
-    let left = s.len() - at;
-    if s[at] == TICK {
-        return 1;
-    }
-    if CRC_BAD < s[at] {
-        return 0;
-    }
-    if left < 3 {
-        return 0;
-    }
-    let size = 3 + wide(s[at + 2]) % 64;
-    if size <= left { size } else { 0 }
+    let rest = s.get(at..)?;
+    let size = size_of(rest)?;
+    if size <= rest.len() { Some(size) } else { None }
 }

@@ -19,17 +19,14 @@ use Rattle.records_spec.specs.HubReads.{Fault, bad_record, not_zero, PaddedVerdi
 use Rattle.records_spec.specs.HubReading.{before_zero, unpadded, is_zeros, ended_by, read_padded}
 use Rattle.records_spec.specs.Record.{flags_read, uuids_read, data_read, up_to, record_read, first}
 use Rattle.flags.specs.Flags.{named}
-use Rattle.records_spec.specs.declared.area.PaddedArea.{PaddedArea}
-use Rattle.records_spec.specs.declared.area.PaddedArea.TheVariants as padded
 use Rattle.records_spec.specs.Search.{first_where, searched, IsRead, Stands, Told, Decides, Searching}
-use Rattle.records_spec.specs.declared.area.Found.{Found}
-use Rattle.records_spec.specs.declared.area.Found.TheVariants.{At, Nothing}
+use Rattle.octets.specs.declared.bytes.Part.{Part}
 use Rattle.records_spec.proofs.HubReads.{hub_reads}
 use Rattle.records_spec.proofs.Search.{searching}
 use Rattle.names_spec.specs.Laws.{Named, complete_type, shortened_type, Answers, bad_advertisement, bad_reply, complete_in_reply, complete_in_advertisement, shortened_in_reply, shortened_in_advertisement, no_name, LooksUp, NoNames, Eleven, HandsOn, Hands, AnyPlace, NameRows, PartRows, Holds}
 use Rattle.names_spec.specs.Name.{is_name, name_in, in_reply, in_advertisement, chosen, after_area, name_of}
 use Rattle.names_spec.specs.declared.NamePlace.{NamePlace}
-use Rattle.names_spec.specs.declared.NamePlace.TheVariants.{Refused}
+use Rattle.std.specs.Prelude.{Result, Ok, Err, Option, Some, None}
 
 -- the test of a record is whether it is a name
 decides_name : (ty : ℕ) → Decides (is_name ty) (Named ty)
@@ -52,29 +49,29 @@ module _ (a r : List ℕ) where
       pick (name_in complete_type (unpadded r)) (search r y complete_type).told (name_in complete_type (unpadded a)) (search a x complete_type).told (name_in shortened_type (unpadded r)) (search r y shortened_type).told
       (name_in shortened_type (unpadded a)) (search a x shortened_type).told
     where
-      pick : (f : Found) → Told (Named complete_type) r f → (g : Found) → Told (Named complete_type) a g → (h : Found) → Told (Named shortened_type) r h → (k : Found) → Told (Named shortened_type) a k
-          → Answers a r (in_reply f (in_advertisement g (in_reply h (in_advertisement k (Refused NoName)))))
-      pick (At start len) tf g tg h th k tk = complete_in_reply start len x y tf
-      pick Nothing tf (At start len) tg h th k tk = complete_in_advertisement start len x y tf tg
-      pick Nothing tf Nothing tg (At start len) th k tk = shortened_in_reply start len x y tf tg th
-      pick Nothing tf Nothing tg Nothing th (At start len) tk = shortened_in_advertisement start len x y tf tg th tk
-      pick Nothing tf Nothing tg Nothing th Nothing tk = no_name x y tf tg th tk
+      pick : (f : Option Part) → Told (Named complete_type) r f → (g : Option Part) → Told (Named complete_type) a g → (h : Option Part) → Told (Named shortened_type) r h → (k : Option Part) → Told (Named shortened_type) a k
+          → Answers a r (in_reply f (in_advertisement g (in_reply h (in_advertisement k (Err NoName)))))
+      pick (Some at) tf g tg h th k tk = complete_in_reply at.start at.len x y tf
+      pick None tf (Some at) tg h th k tk = complete_in_advertisement at.start at.len x y tf tg
+      pick None tf None tg (Some at) th k tk = shortened_in_reply at.start at.len x y tf tg th
+      pick None tf None tg None th (Some at) tk = shortened_in_advertisement at.start at.len x y tf tg th tk
+      pick None tf None tg None th None tk = no_name x y tf tg th tk
 
   found : Answers a r (name_of a r)
   unfolding name_of after_area
   found = go (read_padded a) refl (read_padded r) refl
     where
-      go : (x : PaddedArea) → read_padded a ≡ x → (y : PaddedArea) → read_padded r ≡ y → Answers a r (after_area x (after_area y (chosen (unpadded a) (unpadded r))))
-      go (padded.Refused e) is y also = bad_advertisement e is
-      go (padded.Accepted n taken) is (padded.Refused e) also = bad_reply e (record { number = n; taken = taken; accepted = is }) also
-      go (padded.Accepted n taken) is (padded.Accepted m more) also = choice (record { number = n; taken = taken; accepted = is }) (record { number = m; taken = more; accepted = also })
+      go : (x : Result (ℕ × ℕ) Error) → read_padded a ≡ x → (y : Result (ℕ × ℕ) Error) → read_padded r ≡ y → Answers a r (after_area x (after_area y (chosen (unpadded a) (unpadded r))))
+      go (Err e) is y also = bad_advertisement e is
+      go (Ok (n, taken)) is (Err e) also = bad_reply e (record { number = n; taken = taken; accepted = is }) also
+      go (Ok (n, taken)) is (Ok (m, more)) also = choice (record { number = n; taken = taken; accepted = is }) (record { number = m; taken = more; accepted = also })
 
   -- what is left of the definition where both areas are read
   read_both : IsRead a → IsRead r → name_of a r ≡ chosen (unpadded a) (unpadded r)
   unfolding name_of after_area
   read_both x y = rw (x.accepted, y.accepted)
 
-  only : (p : NamePlace) → Answers a r p → name_of a r ≡ p
+  only : (p : Result NamePlace Error) → Answers a r p → name_of a r ≡ p
   unfolding name_of after_area chosen in_reply in_advertisement name_in
   only _ (bad_advertisement e is) = rw is
   only _ (bad_reply e x is) = rw (x.accepted, is)
@@ -95,7 +92,7 @@ no_bad _ _ (too_few some few) is = let z : ◌≡◌ {A = ℕ} 0 1 = cc in omega
 no_bad _ _ (wrong_flags some there type other) is = let z : ◌≡◌ {A = ℕ} 0 1 = cc in omega arith
 no_bad _ _ (odd_list some there type even) is = let z : ◌≡◌ {A = ℕ} 0 1 = cc in omega arith
 
-no_fault : (s : List ℕ) → read_padded s ≡ padded.Refused NoName → ⊥
+no_fault : (s : List ℕ) → read_padded s ≡ Err NoName → ⊥
 no_fault s is = go NoName refl (subst (PaddedVerdict s) is (hub_reads s).found)
   where
     go : (e : Error) → e ≡ NoName → Fault s e → ⊥
@@ -106,15 +103,15 @@ pub eleven : (a r : List ℕ) → Eleven a r
 eleven a r =
     record {
       only_then = λ is. go (name_of a r) is (found a r);
-      then = λ n. only a r (Refused NoName) (no_name n.advertisement n.reply n.complete.1 n.complete.0 n.shortened.1 n.shortened.0);
+      then = λ n. only a r (Err NoName) (no_name n.advertisement n.reply n.complete.1 n.complete.0 n.shortened.1 n.shortened.0);
     }
   where
-    refusals : {e : Error} → Refused e ≡ Refused NoName → e ≡ NoName
+    refusals : {e : Error} → ◌≡◌ {A = Result NamePlace Error} (Err e) (Err NoName) → e ≡ NoName
     refusals is = cc
 
-    go : (p : NamePlace) → p ≡ Refused NoName → Answers a r p → NoNames a r
-    go _ is (bad_advertisement e bad) = absurd (no_fault a (bad ∙ ap padded.Refused (refusals is)))
-    go _ is (bad_reply e x bad) = absurd (no_fault r (bad ∙ ap padded.Refused (refusals is)))
+    go : (p : Result NamePlace Error) → p ≡ Err NoName → Answers a r p → NoNames a r
+    go _ is (bad_advertisement e bad) = absurd (no_fault a (bad ∙ ap Err (refusals is)))
+    go _ is (bad_reply e x bad) = absurd (no_fault r (bad ∙ ap Err (refusals is)))
     go _ is (complete_in_reply start len x y c) = absurd (let z : ◌≡◌ {A = ℕ} 0 1 = cc in omega arith)
     go _ is (complete_in_advertisement start len x y n c) = absurd (let z : ◌≡◌ {A = ℕ} 0 1 = cc in omega arith)
     go _ is (shortened_in_reply start len x y n m c) = absurd (let z : ◌≡◌ {A = ℕ} 0 1 = cc in omega arith)

@@ -15,22 +15,22 @@
 --   ada, bo, broken, empty ty   == records of type ty: names "Ada" and "Bo", one that is not UTF-8, and an empty one
 --   zero_octets n                == n zeros
 --   cut_short, no_length        == a record that is cut short, and a zero length before another octet
+--   reply_at, advertisement_at  == a place in the reply, or in the advertisement
 --   NameRows                    (Names.rows)       worked values: places
 --   lent x at octets            == octets that are lent at a place
 --   handed_part x a r            == where the name lies for an advertisement and a reply, and its octets
 --   PartRows x                  (Names.part_rows)  worked values: what is handed on
 --   Holds                       (Names.holds)      all of these, of every two areas
-use Rattle.std.specs.Prelude.{true, List, [], ◌∷◌, ◌++◌, map, ◌≡◌, ℕ, ◌+◌, ◌<◌, length, replicate}
+use Rattle.std.specs.Prelude.{true, List, [], ◌∷◌, ◌++◌, map, ◌≡◌, ℕ, ◌+◌, ◌<◌, length, replicate, Result, Ok, Err}
 use Rattle.std.specs.Borrow.{Bor}
 use Rattle.octets.specs.declared.error.Error.{Error}
 use Rattle.octets.specs.declared.error.Error.TheVariants.{Eof, InvalidLength, NoName}
 use Rattle.utf8.specs.Utf8.{is_utf8}
 use Rattle.records_spec.specs.HubReading.{read_padded}
-use Rattle.records_spec.specs.Search.{IsRead, Stands, First, None}
-use Rattle.records_spec.specs.declared.area.PaddedArea.TheVariants as padded
+use Rattle.records_spec.specs.Search.{IsRead, Stands, First, Nowhere}
 use Rattle.names_spec.specs.Name.{name_of, handed_from, handed_on, name_from, name_octets}
 use Rattle.names_spec.specs.declared.NamePlace.{NamePlace}
-use Rattle.names_spec.specs.declared.NamePlace.TheVariants.{InReply, InAdvertisement, Refused}
+use Rattle.names_spec.specs.declared.NamePlace.TheVariants.{InReply, InAdvertisement}
 
 -- a record of type ty whose data are well-formed UTF-8
 abbrev pub Named : ℕ → ℕ → List ℕ → Type 0
@@ -43,39 +43,39 @@ complete_type = 0x09
 abbrev pub shortened_type : ℕ
 shortened_type = 0x08
 
-pub data Answers (a r : List ℕ) : NamePlace → Type 0 where
-  bad_advertisement : (e : Error) → read_padded a ≡ padded.Refused e → Answers a r (Refused e)
-  bad_reply : (e : Error) → IsRead a → read_padded r ≡ padded.Refused e → Answers a r (Refused e)
-  complete_in_reply : (start len : ℕ) → IsRead a → IsRead r → First (Named complete_type) r start len → Answers a r (InReply start len)
-  complete_in_advertisement : (start len : ℕ) → IsRead a → IsRead r → None (Named complete_type) r → First (Named complete_type) a start len → Answers a r (InAdvertisement start len)
-  shortened_in_reply : (start len : ℕ) → IsRead a → IsRead r → None (Named complete_type) r → None (Named complete_type) a → First (Named shortened_type) r start len → Answers a r (InReply start len)
-  shortened_in_advertisement : (start len : ℕ) → IsRead a → IsRead r → None (Named complete_type) r → None (Named complete_type) a → None (Named shortened_type) r → First (Named shortened_type) a start len
-      → Answers a r (InAdvertisement start len)
-  no_name : IsRead a → IsRead r → None (Named complete_type) r → None (Named complete_type) a → None (Named shortened_type) r → None (Named shortened_type) a → Answers a r (Refused NoName)
+pub data Answers (a r : List ℕ) : Result NamePlace Error → Type 0 where
+  bad_advertisement : (e : Error) → read_padded a ≡ Err e → Answers a r (Err e)
+  bad_reply : (e : Error) → IsRead a → read_padded r ≡ Err e → Answers a r (Err e)
+  complete_in_reply : (start len : ℕ) → IsRead a → IsRead r → First (Named complete_type) r start len → Answers a r (Ok (InReply (record { start = start; len = len })))
+  complete_in_advertisement : (start len : ℕ) → IsRead a → IsRead r → Nowhere (Named complete_type) r → First (Named complete_type) a start len → Answers a r (Ok (InAdvertisement (record { start = start; len = len })))
+  shortened_in_reply : (start len : ℕ) → IsRead a → IsRead r → Nowhere (Named complete_type) r → Nowhere (Named complete_type) a → First (Named shortened_type) r start len → Answers a r (Ok (InReply (record { start = start; len = len })))
+  shortened_in_advertisement : (start len : ℕ) → IsRead a → IsRead r → Nowhere (Named complete_type) r → Nowhere (Named complete_type) a → Nowhere (Named shortened_type) r → First (Named shortened_type) a start len
+      → Answers a r (Ok (InAdvertisement (record { start = start; len = len })))
+  no_name : IsRead a → IsRead r → Nowhere (Named complete_type) r → Nowhere (Named complete_type) a → Nowhere (Named shortened_type) r → Nowhere (Named shortened_type) a → Answers a r (Err NoName)
 
 pub record LooksUp (a r : List ℕ) : Type 0 where
   pub found : Answers a r (name_of a r)
-  pub only : (p : NamePlace) → Answers a r p → name_of a r ≡ p
+  pub only : (p : Result NamePlace Error) → Answers a r p → name_of a r ≡ p
 
 -- both areas are read, and no name of either type stands in either
 pub record NoNames (a r : List ℕ) : Type 0 where
   pub advertisement : IsRead a
   pub reply : IsRead r
-  pub complete : None (Named complete_type) a × None (Named complete_type) r
-  pub shortened : None (Named shortened_type) a × None (Named shortened_type) r
+  pub complete : Nowhere (Named complete_type) a × Nowhere (Named complete_type) r
+  pub shortened : Nowhere (Named shortened_type) a × Nowhere (Named shortened_type) r
 
 pub record Eleven (a r : List ℕ) : Type 0 where
-  pub only_then : name_of a r ≡ Refused NoName → NoNames a r
-  pub then : NoNames a r → name_of a r ≡ Refused NoName
+  pub only_then : name_of a r ≡ Err NoName → NoNames a r
+  pub then : NoNames a r → name_of a r ≡ Err NoName
 
 -- the data of the record that is found, in its own area and place
 pub record HandsOn (a r : Bor (List ℕ)) : Type 0 where
-  pub of_reply : (ty start len : ℕ) → name_of a.now r.now ≡ InReply start len → (n : Stands (Named ty) r.now start len)
+  pub of_reply : (ty start len : ℕ) → name_of a.now r.now ≡ Ok (InReply (record { start = start; len = len })) → (n : Stands (Named ty) r.now start len)
       → (name_octets a.now r.now ≡ n.octets) × (name_from a r ≡ (r.ref_ptr.0, r.ref_ptr.1 + start))
-  pub of_advertisement : (ty start len : ℕ) → name_of a.now r.now ≡ InAdvertisement start len → (n : Stands (Named ty) a.now start len)
+  pub of_advertisement : (ty start len : ℕ) → name_of a.now r.now ≡ Ok (InAdvertisement (record { start = start; len = len })) → (n : Stands (Named ty) a.now start len)
       → (name_octets a.now r.now ≡ n.octets) × (name_from a r ≡ (a.ref_ptr.0, a.ref_ptr.1 + start))
   -- no octets, and a place of the advertisement
-  pub refused : (e : Error) → name_of a.now r.now ≡ Refused e → (name_from a r ≡ a.ref_ptr) × (name_octets a.now r.now ≡ [])
+  pub refused : (e : Error) → name_of a.now r.now ≡ Err e → (name_from a r ≡ a.ref_ptr) × (name_octets a.now r.now ≡ [])
 
 -- what is handed on of s for a place in it: the octets that stand there, where they lie; none, at its start, where it has fewer
 pub record Hands (s : Bor (List ℕ)) (start len : ℕ) (from : ℕ × ℕ) (part : List ℕ) : Type 0 where
@@ -83,9 +83,9 @@ pub record Hands (s : Bor (List ℕ)) (start len : ℕ) (from : ℕ × ℕ) (par
   pub fewer : length s.now < start + len → (part ≡ []) × (from ≡ s.ref_ptr)
 
 pub record AnyPlace (a r : Bor (List ℕ)) : Type 0 where
-  pub of_reply : (start len : ℕ) → Hands r start len (handed_from (InReply start len) a r) (handed_on (InReply start len) a.now r.now)
-  pub of_advertisement : (start len : ℕ) → Hands a start len (handed_from (InAdvertisement start len) a r) (handed_on (InAdvertisement start len) a.now r.now)
-  pub refused : (e : Error) → (handed_from (Refused e) a r ≡ a.ref_ptr) × (handed_on (Refused e) a.now r.now ≡ [])
+  pub of_reply : (start len : ℕ) → Hands r start len (handed_from (Ok (InReply (record { start = start; len = len }))) a r) (handed_on (Ok (InReply (record { start = start; len = len }))) a.now r.now)
+  pub of_advertisement : (start len : ℕ) → Hands a start len (handed_from (Ok (InAdvertisement (record { start = start; len = len }))) a r) (handed_on (Ok (InAdvertisement (record { start = start; len = len }))) a.now r.now)
+  pub refused : (e : Error) → (handed_from (Err e) a r ≡ a.ref_ptr) × (handed_on (Err e) a.now r.now ≡ [])
 
 -- Flags, and names: "Ada", "Bo", one that is not UTF-8, and an empty one
 abbrev pub flags_area : List ℕ
@@ -113,34 +113,40 @@ cut_short = 0x04 ∷ 0x09 ∷ 0x41 ∷ []
 abbrev pub no_length : List ℕ
 no_length = 0x00 ∷ 0x01 ∷ []
 
+abbrev pub reply_at : ℕ → ℕ → Result NamePlace Error
+reply_at start len = Ok (InReply (record { start = start; len = len }))
+
+abbrev pub advertisement_at : ℕ → ℕ → Result NamePlace Error
+advertisement_at start len = Ok (InAdvertisement (record { start = start; len = len }))
+
 pub record NameRows : Type 0 where
   -- each of the four places, with names in the places after it, in either order; then none
   pub first : map (λ (a : List ℕ). name_of a (ada 0x08 ++ bo 0x09)) ((ada 0x09 ++ bo 0x08) ∷ (bo 0x08 ++ ada 0x09) ∷ ada 0x08 ∷ flags_area ∷ [] ∷ [])
-      ≡ InReply 7 2 ∷ InReply 7 2 ∷ InReply 7 2 ∷ InReply 7 2 ∷ InReply 7 2 ∷ []
-  pub second : map (name_of (flags_area ++ (bo 0x08 ++ ada 0x09))) (ada 0x08 ∷ flags_area ∷ [] ∷ []) ≡ InAdvertisement 9 3 ∷ InAdvertisement 9 3 ∷ InAdvertisement 9 3 ∷ []
-  pub third : map (λ (a : List ℕ). name_of a (flags_area ++ bo 0x08)) (ada 0x08 ∷ flags_area ∷ [] ∷ []) ≡ InReply 5 2 ∷ InReply 5 2 ∷ InReply 5 2 ∷ []
-  pub fourth : map (name_of (ada 0x08)) (flags_area ∷ [] ∷ []) ≡ InAdvertisement 2 3 ∷ InAdvertisement 2 3 ∷ []
-  pub none : map (name_of []) ([] ∷ flags_area ∷ ada 0x07 ∷ ada 0x0A ∷ broken 0x09 ∷ broken 0x08 ∷ []) ≡ replicate 6 (Refused NoName)
-  pub none_either : map (λ (a : List ℕ). name_of a flags_area) (flags_area ∷ ada 0x07 ∷ ada 0x0A ∷ broken 0x09 ∷ broken 0x08 ∷ []) ≡ replicate 5 (Refused NoName)
+      ≡ reply_at 7 2 ∷ reply_at 7 2 ∷ reply_at 7 2 ∷ reply_at 7 2 ∷ reply_at 7 2 ∷ []
+  pub second : map (name_of (flags_area ++ (bo 0x08 ++ ada 0x09))) (ada 0x08 ∷ flags_area ∷ [] ∷ []) ≡ advertisement_at 9 3 ∷ advertisement_at 9 3 ∷ advertisement_at 9 3 ∷ []
+  pub third : map (λ (a : List ℕ). name_of a (flags_area ++ bo 0x08)) (ada 0x08 ∷ flags_area ∷ [] ∷ []) ≡ reply_at 5 2 ∷ reply_at 5 2 ∷ reply_at 5 2 ∷ []
+  pub fourth : map (name_of (ada 0x08)) (flags_area ∷ [] ∷ []) ≡ advertisement_at 2 3 ∷ advertisement_at 2 3 ∷ []
+  pub none : map (name_of []) ([] ∷ flags_area ∷ ada 0x07 ∷ ada 0x0A ∷ broken 0x09 ∷ broken 0x08 ∷ []) ≡ replicate 6 (Err NoName)
+  pub none_either : map (λ (a : List ℕ). name_of a flags_area) (flags_area ∷ ada 0x07 ∷ ada 0x0A ∷ broken 0x09 ∷ broken 0x08 ∷ []) ≡ replicate 5 (Err NoName)
   -- of two in an area the first; one that is not UTF-8 is passed over, within its area and from search to search
-  pub of_two : map (name_of []) ((ada 0x09 ++ bo 0x09) ∷ (bo 0x08 ++ ada 0x08) ∷ []) ≡ InReply 2 3 ∷ InReply 2 2 ∷ []
-  pub passed_over : map (name_of (bo 0x09)) ((broken 0x09 ++ ada 0x09) ∷ (broken 0x09 ++ ada 0x08) ∷ []) ≡ InReply 5 3 ∷ InAdvertisement 2 2 ∷ []
-  pub passed_over_twice : name_of (broken 0x09 ++ bo 0x08) (broken 0x09 ++ (broken 0x08 ++ ada 0x08)) ≡ InReply 8 3
+  pub of_two : map (name_of []) ((ada 0x09 ++ bo 0x09) ∷ (bo 0x08 ++ ada 0x08) ∷ []) ≡ reply_at 2 3 ∷ reply_at 2 2 ∷ []
+  pub passed_over : map (name_of (bo 0x09)) ((broken 0x09 ++ ada 0x09) ∷ (broken 0x09 ++ ada 0x08) ∷ []) ≡ reply_at 5 3 ∷ advertisement_at 2 2 ∷ []
+  pub passed_over_twice : name_of (broken 0x09 ++ bo 0x08) (broken 0x09 ++ (broken 0x08 ++ ada 0x08)) ≡ reply_at 8 3
   -- an empty name counts
-  pub nothing_in_it : map (name_of (ada 0x09)) (empty 0x09 ∷ (empty 0x09 ++ bo 0x09) ∷ empty 0x08 ∷ []) ≡ InReply 2 0 ∷ InReply 2 0 ∷ InAdvertisement 2 3 ∷ []
+  pub nothing_in_it : map (name_of (ada 0x09)) (empty 0x09 ∷ (empty 0x09 ++ bo 0x09) ∷ empty 0x08 ∷ []) ≡ reply_at 2 0 ∷ reply_at 2 0 ∷ advertisement_at 2 3 ∷ []
   -- padding after either, or in place of it; what stands after the zero is no name, and 2
-  pub padded_areas : map (λ (n : ℕ). name_of (flags_area ++ zero_octets n) (bo 0x09 ++ zero_octets n)) (1 ∷ 24 ∷ []) ≡ InReply 2 2 ∷ InReply 2 2 ∷ []
-  pub padded_alone : map (λ (n : ℕ). name_of (bo 0x08 ++ zero_octets n) (zero_octets n)) (0 ∷ 1 ∷ 27 ∷ []) ≡ InAdvertisement 2 2 ∷ InAdvertisement 2 2 ∷ InAdvertisement 2 2 ∷ []
-  pub zeros_alone : name_of (zero_octets 31) (zero_octets 31) ≡ Refused NoName
-  pub behind_the_zero : map (name_of (ada 0x09)) ((zero_octets 1 ++ bo 0x09) ∷ (bo 0x09 ++ (zero_octets 1 ++ ada 0x09)) ∷ []) ≡ Refused InvalidLength ∷ Refused InvalidLength ∷ []
+  pub padded_areas : map (λ (n : ℕ). name_of (flags_area ++ zero_octets n) (bo 0x09 ++ zero_octets n)) (1 ∷ 24 ∷ []) ≡ reply_at 2 2 ∷ reply_at 2 2 ∷ []
+  pub padded_alone : map (λ (n : ℕ). name_of (bo 0x08 ++ zero_octets n) (zero_octets n)) (0 ∷ 1 ∷ 27 ∷ []) ≡ advertisement_at 2 2 ∷ advertisement_at 2 2 ∷ advertisement_at 2 2 ∷ []
+  pub zeros_alone : name_of (zero_octets 31) (zero_octets 31) ≡ Err NoName
+  pub behind_the_zero : map (name_of (ada 0x09)) ((zero_octets 1 ++ bo 0x09) ∷ (bo 0x09 ++ (zero_octets 1 ++ ada 0x09)) ∷ []) ≡ Err InvalidLength ∷ Err InvalidLength ∷ []
   -- each refusal in each area, whatever name the other has; the advertisement's first; both before 11
-  pub bad_first : map (λ (a : List ℕ). name_of a (ada 0x09)) (cut_short ∷ no_length ∷ empty 0x01 ∷ []) ≡ Refused Eof ∷ Refused InvalidLength ∷ Refused InvalidLength ∷ []
-  pub bad_second : map (name_of (ada 0x09)) (cut_short ∷ no_length ∷ empty 0x01 ∷ []) ≡ Refused Eof ∷ Refused InvalidLength ∷ Refused InvalidLength ∷ []
-  pub bad_both : name_of cut_short no_length ≡ Refused Eof
-  pub bad_both_ways : name_of no_length cut_short ≡ Refused InvalidLength
-  pub bad_before_none : name_of flags_area (flags_area ++ cut_short) ≡ Refused Eof
+  pub bad_first : map (λ (a : List ℕ). name_of a (ada 0x09)) (cut_short ∷ no_length ∷ empty 0x01 ∷ []) ≡ Err Eof ∷ Err InvalidLength ∷ Err InvalidLength ∷ []
+  pub bad_second : map (name_of (ada 0x09)) (cut_short ∷ no_length ∷ empty 0x01 ∷ []) ≡ Err Eof ∷ Err InvalidLength ∷ Err InvalidLength ∷ []
+  pub bad_both : name_of cut_short no_length ≡ Err Eof
+  pub bad_both_ways : name_of no_length cut_short ≡ Err InvalidLength
+  pub bad_before_none : name_of flags_area (flags_area ++ cut_short) ≡ Err Eof
   -- a bad record after a name: its refusal
-  pub bad_behind : map (name_of (ada 0x09 ++ cut_short)) ([] ∷ bo 0x09 ∷ []) ≡ Refused Eof ∷ Refused Eof ∷ []
+  pub bad_behind : map (name_of (ada 0x09 ++ cut_short)) ([] ∷ bo 0x09 ∷ []) ≡ Err Eof ∷ Err Eof ∷ []
 
 -- octets that are lent at a place
 abbrev pub lent : Bor (List ℕ) → ℕ × ℕ → List ℕ → Bor (List ℕ)

@@ -7,63 +7,61 @@
 --   name_of a r                             == the place chosen where both are read as the hub reads them, or the refusal
 --   handed_from p a r, handed_on p a r       == where the octets lie that a place p names in the areas a and r, and these octets
 --   name_from a r, name_octets a r           == the same of the place that is found
-use Rattle.std.specs.Prelude.{Bool, ◌&&◌, List, [], ℕ, eqb, get_or, drop}
+use Rattle.std.specs.Prelude.{Bool, ◌&&◌, List, [], ℕ, eqb, get_or, drop, Result, Ok, Err, Option, Some, None}
 use Rattle.std.specs.Borrow.{Bor}
 use Rattle.octets.specs.Bytes.{part_or, part_place}
 use Rattle.octets.specs.declared.error.Error.TheVariants.{NoName}
 use Rattle.utf8.specs.Utf8.{is_utf8}
 use Rattle.records_spec.specs.Types.{shortened_name_type, complete_name_type}
 use Rattle.records_spec.specs.Search.{searched}
-use Rattle.records_spec.specs.declared.area.Found.{Found}
-use Rattle.records_spec.specs.declared.area.Found.TheVariants.{At, Nothing}
+use Rattle.octets.specs.declared.bytes.Part.{Part}
 use Rattle.records_spec.specs.HubReading.{unpadded, read_padded}
-use Rattle.records_spec.specs.declared.area.PaddedArea.{PaddedArea}
-use Rattle.records_spec.specs.declared.area.PaddedArea.TheVariants as padded
 use Rattle.names_spec.specs.declared.NamePlace.{NamePlace}
 use Rattle.names_spec.specs.declared.NamePlace.TheVariants as place
+use Rattle.octets.specs.declared.error.Error.{Error}
 
 -- a record is its length, its type and its data (the Core, Vol 3 Part C, 11); those of a name are UTF-8 (the Supplement, Part A, 1.2)
 unfoldable pub is_name : ℕ → List ℕ → Bool
 is_name ty r = eqb (get_or r 1 0) ty && is_utf8 (drop 2 r)
 
-unfoldable pub name_in : ℕ → List ℕ → Found
+unfoldable pub name_in : ℕ → List ℕ → Option Part
 name_in ty s = searched (is_name ty) s
 
 -- what a search of the reply, or of the advertisement, finds; or else what comes after it
-unfoldable pub in_reply : Found → NamePlace → NamePlace
-in_reply (At start len) else = place.InReply start len
-in_reply Nothing else = else
+unfoldable pub in_reply : Option Part → Result NamePlace Error → Result NamePlace Error
+in_reply (Some part) else = Ok (place.InReply part)
+in_reply None else = else
 
-unfoldable pub in_advertisement : Found → NamePlace → NamePlace
-in_advertisement (At start len) else = place.InAdvertisement start len
-in_advertisement Nothing else = else
+unfoldable pub in_advertisement : Option Part → Result NamePlace Error → Result NamePlace Error
+in_advertisement (Some part) else = Ok (place.InAdvertisement part)
+in_advertisement None else = else
 
 -- "A complete name in the reply comes first, then complete in the advertisement, then shortened in the reply, then shortened in the advertisement."
-unfoldable pub chosen : List ℕ → List ℕ → NamePlace
+unfoldable pub chosen : List ℕ → List ℕ → Result NamePlace Error
 chosen advertisement reply =
     in_reply (name_in complete_name_type reply)
     (in_advertisement (name_in complete_name_type advertisement)
     (in_reply (name_in shortened_name_type reply)
     (in_advertisement (name_in shortened_name_type advertisement)
-    (place.Refused NoName))))
+    (Err NoName))))
 
 -- a reading refusal comes before anything else
-unfoldable pub after_area : PaddedArea → NamePlace → NamePlace
-after_area (padded.Accepted n taken) name = name
-after_area (padded.Refused e) name = place.Refused e
+unfoldable pub after_area : Result (ℕ × ℕ) Error → Result NamePlace Error → Result NamePlace Error
+after_area (Ok (n, taken)) name = name
+after_area (Err e) name = Err e
 
-unfoldable pub name_of : List ℕ → List ℕ → NamePlace
+unfoldable pub name_of : List ℕ → List ℕ → Result NamePlace Error
 name_of advertisement reply = after_area (read_padded advertisement) (after_area (read_padded reply) (chosen (unpadded advertisement) (unpadded reply)))
 
-abbrev pub handed_from : NamePlace → Bor (List ℕ) → Bor (List ℕ) → ℕ × ℕ
-handed_from (place.InReply start len) advertisement reply = part_place len reply start
-handed_from (place.InAdvertisement start len) advertisement reply = part_place len advertisement start
-handed_from (place.Refused e) advertisement reply = advertisement.ref_ptr
+abbrev pub handed_from : Result NamePlace Error → Bor (List ℕ) → Bor (List ℕ) → ℕ × ℕ
+handed_from (Ok (place.InReply part)) advertisement reply = part_place part.len reply part.start
+handed_from (Ok (place.InAdvertisement part)) advertisement reply = part_place part.len advertisement part.start
+handed_from (Err e) advertisement reply = advertisement.ref_ptr
 
-abbrev pub handed_on : NamePlace → List ℕ → List ℕ → List ℕ
-handed_on (place.InReply start len) advertisement reply = part_or len reply start
-handed_on (place.InAdvertisement start len) advertisement reply = part_or len advertisement start
-handed_on (place.Refused e) advertisement reply = []
+abbrev pub handed_on : Result NamePlace Error → List ℕ → List ℕ → List ℕ
+handed_on (Ok (place.InReply part)) advertisement reply = part_or part.len reply part.start
+handed_on (Ok (place.InAdvertisement part)) advertisement reply = part_or part.len advertisement part.start
+handed_on (Err e) advertisement reply = []
 
 abbrev pub name_from : Bor (List ℕ) → Bor (List ℕ) → ℕ × ℕ
 name_from advertisement reply = handed_from (name_of advertisement.now reply.now) advertisement reply

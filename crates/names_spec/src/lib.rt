@@ -1,12 +1,11 @@
 // The player's name beside a move: where it lies, which name counts, and the laws of that. The functions are in `names`.
 #![tactic(auto)]
 
-use octets::error::Error;
+use octets::bytes::Part;
 
-// Which of the two lent areas holds the name, where it begins there, and how many octets it has.
+// Which of the two lent areas holds the name, and which part of that area it is.
 #[derive(Clone, Copy)]
 pub enum NamePlace {
-    InReply { start: usize, len: usize },
-    InAdvertisement { start: usize, len: usize },
-    Refused(Error),
+    InReply(Part),
+    InAdvertisement(Part),
 }

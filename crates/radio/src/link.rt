@@ -1,8 +1,8 @@
 // The link layer: a device in standby, advertising or connected. It goes into each call by value and comes back beside the answer.
 ghost use Rattle.std.specs.Prelude.{◌≡◌, ◌&&◌};
 ghost use Rattle.advertising.specs.PduBuf.{payload_to, payload_after};
-ghost use Rattle.settings.specs.Settings.{Within};
-ghost use Rattle.radio_spec.specs.Calls.{fresh, is_advertising, is_connected, is_scan_request, refusal, listens, responds, replies_with, replied_if, connects_to, addressed, advertised, sent, is_for, pdu_heard, hops, start_of, start_after, tick_of, tick_after, packet_of, packet_after, scan_data_of, event_of, stop_of, begun};
+ghost use Rattle.settings.specs.Settings.{settings_of};
+ghost use Rattle.radio_spec.specs.Calls.{asks, fresh, is_advertising, is_connected, is_scan_request, refusal, listens, responds, replies_with, replied_if, connects_to, addressed, advertised, sent, is_for, pdu_heard, hops, start_of, start_after, tick_of, tick_after, packet_of, packet_after, scan_data_of, event_of, stop_of, begun};
 ghost use Rattle.radio.specs.State.{advertisement, state, step};
 
 use addresses::device_address::DeviceAddress;
@@ -12,8 +12,7 @@ use advertising::pdu_buf::PduBuf;
 use channels::channel_map::ChannelMap;
 use channels::connection::{Hop, hop_channel};
 use channels::phy::AdvertisingChannel;
-use octets::bytes::Written;
-use octets::error::{Error, Outcome};
+use octets::error::Error;
 use octets::time::Instant;
 pub use radio_spec::link::{Answer, Mode};
 use settings::ConnectionSettings;
@@ -41,7 +40,7 @@ pub struct Connection {
     unmapped_channel: u8,
 }
 
-// rubble's `LinkLayer`. `adv` and `conn` have a meaning in their own mode only.
+// rubble's `LinkLayer`. `adv` and `conn` have a meaning in their own mode only; they are no fields of `Mode`, since radio_spec's `stop_of` and `connected_at` hand them on.
 #[derive(Clone, Copy)]
 pub struct Device {
     mode: Mode,
@@ -52,10 +51,10 @@ pub struct Device {
     conn: Connection,
 }
 
-// What a call answers, and the device after it.
+// What a call answers, and the device after it: a refusal hands it back too.
 #[derive(Clone, Copy)]
 pub struct Called {
-    pub answer: Answer,
+    pub answer: Result<Answer, Error>,
     pub device: Device,
 }
 
@@ -64,8 +63,7 @@ impl Device {
     pub fn new(dev_addr: DeviceAddress) -> Device
         ensures { state result ≡ fresh dev_addr }
     {
-        let bare = PduBuf::scan_response(dev_addr, &[0u8; 0]);
-        let scan_response = bare.pdu;
+        let scan_response = PduBuf::scan_response(dev_addr, &[]).unwrap_or(PduBuf::empty());
         Device {
             mode: Mode::Standby,
             dev_addr,
@@ -87,43 +85,31 @@ impl Device {
     pub fn is_advertising(self) -> bool
         ensures { result ≡ is_advertising (state self).mode }
     {
-        let mode = self.mode;
-        match mode {
-            Mode::Standby => false,
-            Mode::Advertising => true,
-            Mode::Connected => false,
-        }
+        matches!(self.mode, Mode::Advertising)
     }
 
     pub fn is_connected(self) -> bool
         ensures { result ≡ is_connected (state self).mode }
     {
-        let mode = self.mode;
-        match mode {
-            Mode::Standby => false,
-            Mode::Advertising => false,
-            Mode::Connected => true,
-        }
+        matches!(self.mode, Mode::Connected)
     }
 
     // Starts advertising with records, which are lent encoded, and makes the first tick. An accepted start ends a connection; a refused one ends nothing.
+    #[tactic(auto, unfolding(radio_spec::specs::Calls::start_of, radio_spec::specs::Calls::start_after))]
     pub fn start_advertise(self, time: Instant, interval: u32, data: &[u8], tx: &mut [u8]) -> Called
         ensures { (step result ≡ start_of (state self) time interval «data».now tx.old) × (tx.new ≡ start_after (state self) «data».now tx.old) }
     {
-        let own = self.dev_addr;
-        let built = PduBuf::discoverable(own, data);
-        let pdu = built.pdu;
-        let first = AdvertisingChannel::first();
-        let adv = Advertisement {
-            next_adv: time,
-            interval,
-            pdu,
-            channel: first,
-        };
-        let outcome = built.outcome;
-        match outcome {
-            Outcome::Accepted => self.transmit(adv, tx),
-            Outcome::Refused(e) => self.refused(e),
+        match PduBuf::discoverable(self.dev_addr, data) {
+            Ok(pdu) => {
+                let adv = Advertisement {
+                    next_adv: time,
+                    interval,
+                    pdu,
+                    channel: AdvertisingChannel::first(),
+                };
+                self.transmit(adv, tx)
+            }
+            Err(e) => self.refused(e),
         }
     }
 
@@ -131,17 +117,14 @@ impl Device {
     pub fn set_scan_data(self, data: &[u8]) -> Called
         ensures { step result ≡ scan_data_of (state self) «data».now }
     {
-        let own = self.dev_addr;
-        let built = PduBuf::scan_response(own, data);
-        let scan_response = built.pdu;
-        let outcome = built.outcome;
-        match outcome {
-            Outcome::Accepted => self.reply_with(scan_response),
-            Outcome::Refused(error) => self.refused(error),
+        match PduBuf::scan_response(self.dev_addr, data) {
+            Ok(scan_response) => self.reply_with(scan_response),
+            Err(e) => self.refused(e),
         }
     }
 
     // Takes a packet from the channel that it listens on. Only the reply to a scan request is written to the transmit buffer.
+    #[tactic(auto, unfolding(radio_spec::specs::Calls::packet_of, radio_spec::specs::Calls::packet_after))]
     pub fn process_adv_packet(
         self,
         rx_end: Instant,
@@ -152,54 +135,50 @@ impl Device {
     ) -> Called
         ensures { (step result ≡ packet_of (state self) rx_end header payload.now crc_ok tx.old) × (tx.new ≡ packet_after (state self) header payload.now crc_ok tx.old) }
     {
-        if self.is_advertising() {
-            if crc_ok {
-                let decoded = Pdu::from_header_and_payload(header, payload);
-                let pdu = decoded.pdu;
-                return self.hear(rx_end, pdu, tx);
-            }
+        if !self.is_advertising() {
+            return self.refused(Error::WrongMode);
+        }
+        if !crc_ok {
             return self.listen();
         }
-        self.refused(Error::WrongMode)
+        match Pdu::from_header_and_payload(header, payload) {
+            Ok(pdu) => self.hear(rx_end, pdu, tx),
+            Err(_) => self.listen(),
+        }
     }
 
     // A tick: transmits on the next channel.
+    #[tactic(auto, unfolding(radio_spec::specs::Calls::tick_of, radio_spec::specs::Calls::tick_after))]
     pub fn update_timer(self, tx: &mut [u8]) -> Called
         ensures { (step result ≡ tick_of (state self) tx.old) × (tx.new ≡ tick_after (state self) tx.old) }
     {
         if self.is_advertising() {
-            let adv = self.adv;
-            return self.transmit(adv, tx);
+            self.transmit(self.adv, tx)
+        } else {
+            self.refused(Error::WrongMode)
         }
-        self.refused(Error::WrongMode)
     }
 
     // The channel of the next connection event.
+    #[tactic(auto, unfolding(radio_spec::specs::Calls::event_of))]
     pub fn event(self) -> Called
         ensures { step result ≡ event_of (state self) }
     {
         if self.is_connected() {
-            return self.hop();
+            self.hop()
+        } else {
+            self.refused(Error::WrongMode)
         }
-        self.refused(Error::WrongMode)
     }
 
     pub fn stop(self) -> Called
         ensures { step result ≡ stop_of (state self) }
     {
-        let dev_addr = self.dev_addr;
-        // Scan data outlive a stop.
-        let kept = self.scan_response;
-        let adv = self.adv;
-        let conn = self.conn;
         Called {
-            answer: Answer::Stopped,
+            answer: Ok(Answer::Stopped),
             device: Device {
                 mode: Mode::Standby,
-                dev_addr,
-                scan_response: kept,
-                adv,
-                conn,
+                ..self
             },
         }
     }
@@ -209,7 +188,7 @@ impl Device {
         ensures { step result ≡ refusal (state self) e }
     {
         Called {
-            answer: Answer::Refused(e),
+            answer: Err(e),
             device: self,
         }
     }
@@ -217,10 +196,8 @@ impl Device {
     fn listen(self) -> Called
         ensures { step result ≡ listens (state self) }
     {
-        let adv = self.adv;
-        let channel = adv.channel;
         Called {
-            answer: Answer::Listen(channel),
+            answer: Ok(Answer::Listen(self.adv.channel)),
             device: self,
         }
     }
@@ -229,18 +206,11 @@ impl Device {
     fn reply_with(self, scan_response: PduBuf) -> Called
         ensures { step result ≡ replies_with (state self) scan_response }
     {
-        let mode = self.mode;
-        let dev_addr = self.dev_addr;
-        let adv = self.adv;
-        let conn = self.conn;
         Called {
-            answer: Answer::ScanDataSet,
+            answer: Ok(Answer::ScanDataSet),
             device: Device {
-                mode,
-                dev_addr,
                 scan_response,
-                adv,
-                conn,
+                ..self
             },
         }
     }
@@ -249,10 +219,9 @@ impl Device {
     fn transmit(self, adv: Advertisement, tx: &mut [u8]) -> Called
         ensures { (step result ≡ sent (state self) (advertisement adv) (payload_to adv.pdu tx.old)) × (tx.new ≡ payload_after adv.pdu tx.old) }
     {
-        let pdu = adv.pdu;
-        match pdu.write_payload(tx) {
-            Written::To(_) => self.advertise(adv),
-            Written::Refused(e) => self.refused(e),
+        match adv.pdu.write_payload(tx) {
+            Ok(_) => self.advertise(adv),
+            Err(e) => self.refused(e),
         }
     }
 
@@ -260,56 +229,45 @@ impl Device {
     fn advertise(self, adv: Advertisement) -> Called
         ensures { step result ≡ advertised (state self) (advertisement adv) }
     {
-        let pdu = adv.pdu;
-        let last = adv.channel;
-        let channel = last.cycle();
-        let due = adv.next_adv;
-        let next_adv = due.add(adv.interval);
-        let dev_addr = self.dev_addr;
-        let scan_response = self.scan_response;
-        let conn = self.conn;
+        let channel = adv.channel.cycle();
+        let next_adv = adv.next_adv.add(adv.interval);
         Called {
-            answer: Answer::Sent {
-                header: pdu.header(),
+            answer: Ok(Answer::Sent {
+                header: adv.pdu.header(),
                 channel,
                 next_adv,
-            },
+            }),
             device: Device {
                 mode: Mode::Advertising,
-                dev_addr,
-                scan_response,
                 adv: Advertisement {
                     next_adv,
-                    interval: adv.interval,
-                    pdu,
                     channel,
+                    ..adv
                 },
-                conn,
+                ..self
             },
         }
     }
 
-    // A CRC-good packet.
+    // A CRC-good packet that decodes.
     fn hear(self, rx_end: Instant, pdu: Pdu, tx: &mut [u8]) -> Called
-        ensures { (step result ≡ pdu_heard (state self) rx_end pdu tx.old) × (tx.new ≡ replied_if (is_for self.dev_addr pdu && is_scan_request pdu.ty) (state self) tx.old) }
+        ensures { (step result ≡ pdu_heard (state self) rx_end tx.old (Ok pdu)) × (tx.new ≡ replied_if (asks is_scan_request self.dev_addr (Ok pdu)) (state self) tx.old) }
     {
-        let own = self.dev_addr;
-        if is_for(own, pdu) {
-            return self.take(rx_end, pdu, tx);
+        if is_for(self.dev_addr, pdu) {
+            self.take(rx_end, pdu, tx)
+        } else {
+            self.listen()
         }
-        self.listen()
     }
 
     // Of the packets to this device only the two requests are answered.
+    #[tactic(auto, unfolding(radio_spec::specs::Calls::addressed))]
     fn take(self, rx_end: Instant, pdu: Pdu, tx: &mut [u8]) -> Called
         ensures { (step result ≡ addressed (state self) rx_end pdu.lldata tx.old pdu.ty) × (tx.new ≡ replied_if (is_scan_request pdu.ty) (state self) tx.old) }
     {
         match pdu.ty() {
             PduType::ScanReq => self.respond(tx),
-            PduType::ConnectReq => {
-                let lldata = pdu.lldata;
-                self.connect(rx_end, lldata)
-            }
+            PduType::ConnectReq => self.connect(rx_end, pdu.lldata),
             _ => self.listen(),
         }
     }
@@ -318,31 +276,26 @@ impl Device {
     fn respond(self, tx: &mut [u8]) -> Called
         ensures { (step result ≡ responds (state self) (payload_to self.scan_response tx.old)) × (tx.new ≡ payload_after self.scan_response tx.old) }
     {
-        let response = self.scan_response;
-        let adv = self.adv;
-        let channel = adv.channel;
-        match response.write_payload(tx) {
-            Written::To(_) => Called {
-                answer: Answer::Respond {
-                    header: response.header(),
-                    channel,
-                },
+        match self.scan_response.write_payload(tx) {
+            Ok(_) => Called {
+                answer: Ok(Answer::Respond {
+                    header: self.scan_response.header(),
+                    channel: self.adv.channel,
+                }),
                 device: self,
             },
-            Written::Refused(e) => self.refused(e),
+            Err(e) => self.refused(e),
         }
     }
 
     // Takes the settings of a connect request, and with them begins the connection that it asks for.
+    #[tactic(auto, unfolding(radio_spec::specs::Calls::connects_to))]
     fn connect(self, rx_end: Instant, lldata: ConnectRequestData) -> Called
         ensures { step result ≡ connects_to (state self) rx_end lldata }
     {
-        let taken = ConnectionSettings::of(lldata);
-        let settings = taken.settings;
-        let outcome = taken.outcome;
-        match outcome {
-            Outcome::Accepted => self.begin(rx_end, lldata, settings),
-            Outcome::Refused(reason) => self.refused(reason),
+        match ConnectionSettings::of(lldata) {
+            Ok(settings) => self.begin(rx_end, lldata, settings),
+            Err(e) => self.refused(e),
         }
     }
 
@@ -353,84 +306,63 @@ impl Device {
         lldata: ConnectRequestData,
         settings: ConnectionSettings,
     ) -> Called
-        requires { Within settings }
-        ensures { step result ≡ begun (state self) rx_end lldata settings }
+        ensures { step result ≡ begun (state self) rx_end lldata (settings_of settings) }
     {
         let channel_map = settings.channel_map();
         let hop = settings.hop();
         match hop_channel(channel_map, 0, hop) {
-            Hop::To {
-                unmapped: unmapped_channel,
-                channel,
-            } => {
+            Ok(Hop { unmapped, channel }) => {
                 // rubble's margin of 500 µs: with the 1,250 that the window's end includes, document 01's 1,750.
                 let at = rx_end.add(lldata.end_of_tx_window()).add(500);
-                let dev_addr = self.dev_addr;
-                let scan_response = self.scan_response;
-                let adv = self.adv;
                 Called {
-                    answer: Answer::FirstEvent {
+                    answer: Ok(Answer::FirstEvent {
                         channel,
                         at,
                         access_address: lldata.access_address(),
                         crc_init: lldata.crc_init(),
-                    },
+                    }),
                     device: Device {
                         mode: Mode::Connected,
-                        dev_addr,
-                        scan_response,
-                        adv,
                         conn: Connection {
                             channel_map,
                             hop,
-                            unmapped_channel,
+                            unmapped_channel: unmapped,
                         },
+                        ..self
                     },
                 }
             }
-            // Not reached: the settings mark at least two channels.
-            Hop::Refused(error) => self.refused(error),
+            // Not reached: settings mark at least two channels.
+            Err(e) => self.refused(e),
         }
     }
 
     // Hops to the next event of the connection.
+    #[tactic(auto, unfolding(radio_spec::specs::Calls::hops))]
     fn hop(self) -> Called
         ensures { step result ≡ hops (state self) }
     {
         let conn = self.conn;
-        let channel_map = conn.channel_map;
-        match hop_channel(channel_map, conn.unmapped_channel, conn.hop) {
-            Hop::To { unmapped, channel } => {
-                let mode = self.mode;
-                let dev_addr = self.dev_addr;
-                let scan_response = self.scan_response;
-                let adv = self.adv;
-                Called {
-                    answer: Answer::NextEvent(channel),
-                    device: Device {
-                        mode,
-                        dev_addr,
-                        scan_response,
-                        adv,
-                        conn: Connection {
-                            channel_map,
-                            hop: conn.hop,
-                            unmapped_channel: unmapped,
-                        },
+        match hop_channel(conn.channel_map, conn.unmapped_channel, conn.hop) {
+            Ok(Hop { unmapped, channel }) => Called {
+                answer: Ok(Answer::NextEvent(channel)),
+                device: Device {
+                    conn: Connection {
+                        unmapped_channel: unmapped,
+                        ..conn
                     },
-                }
-            }
-            Hop::Refused(e) => self.refused(e),
+                    ..self
+                },
+            },
+            Err(e) => self.refused(e),
         }
     }
 }
 
-// Whether the PDU has a second address, and that is `own`. One that did not decode has none.
+// Whether the PDU has a second address, and that is `own`.
+#[tactic(auto, unfolding(radio_spec::specs::Calls::is_for))]
 fn is_for(own: DeviceAddress, pdu: Pdu) -> bool
     ensures { result ≡ is_for own pdu }
 {
-    if pdu.has_receiver() {
-        return pdu.receiver().eq(own);
-    }
-    false
+    pdu.has_receiver() && pdu.receiver() == own
 }

@@ -10,7 +10,6 @@ use Rattle.octets.specs.declared.error.Error.TheVariants.{WrongMode}
 use Rattle.octets.specs.declared.time.Instant.{Instant}
 use Rattle.addresses.specs.declared.device_address.DeviceAddress.{DeviceAddress}
 use Rattle.addresses.specs.declared.header.Header.{Header}
-use Rattle.advertising.specs.Pdu.{decode_of}
 use Rattle.radio_spec.specs.Calls.{fresh, is_advertising, listens, refusal, addressed, packet_of}
 use Rattle.radio_spec.specs.Demand.{RefusedAt, TicksFrom, ListeningFrom, RepliesAt, SetsAt, BeginsAt, EventsFrom, StopsAt, Events, ReplyOf, mode_then, ModesFrom, Demand3}
 use Rattle.radio_spec.specs.Call.{Call, start, tick, packet, event, stop, set_scan_data, call_of}
@@ -18,7 +17,7 @@ use Rattle.radio_spec.specs.SoFar.{for_board, connects, SoFar, at_first, start_n
 use Rattle.radio_spec.specs.Trace.{Entry, trace_from, trace, state_from, state_after, gather, tick_run, event_run, AtEach, none, here, Strikable, crc_bad, malformed, foreign, Choice, keep, strike, remaining}
 use Rattle.radio_spec.specs.State.{State, Step}
 use Rattle.radio_spec.specs.declared.link.Mode.{Mode}
-use Rattle.radio_spec.proofs.Packets.{not_for}
+use Rattle.radio_spec.proofs.Packets.{pdu_in, packet_as, not_for}
 use Rattle.radio_spec.proofs.Replies.{bare}
 use Rattle.radio_spec.proofs.Runs.{entry_of, traced, TicksOf, payload_in, ticks_from, listening_from, events_from, begins_at, replies_at, sets_at, stops_at, refused_at}
 use Rattle.radio_spec.proofs.Steps.{so_far, scan_after, Sound, is_set, happens, address_kept, sound_kept, reads_on}
@@ -99,8 +98,9 @@ module _ (d : State) (end : Instant) (h : Header) (p tx : List ℕ) where
   listened true true true r e = absurd (false≢true (sym e))
 
   unheard_same : (crc_good : Bool) → (crc_good && for_board d.dev_addr h p) ≡ false → (packet_of d end h p crc_good tx).state ≡ d
-  unfolding packet_of
-  unheard_same crc_good e = listened (is_advertising d.mode) crc_good (for_board d.dev_addr h p) (addressed d end (decode_of h p).pdu.lldata tx (decode_of h p).pdu.ty) e
+  unheard_same crc_good e =
+      ap (λ (s : Step). s.state) (packet_as d end h p crc_good tx)
+      ∙ listened (is_advertising d.mode) crc_good (for_board d.dev_addr h p) (addressed d end (pdu_in h p).lldata tx (pdu_in h p).ty) e
 
 pub not_ours : {own : DeviceAddress} {end : Instant} {h : Header} {p tx : List ℕ} {crc_good : Bool} → Strikable own (packet end h p crc_good tx)
     → (crc_good && for_board own h p) ≡ false

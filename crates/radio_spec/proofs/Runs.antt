@@ -15,7 +15,6 @@ use Rattle.channels.specs.Hop.{event_channel, uses as uses_in, remapped, unmappe
 use Rattle.channels.specs.Laws.{cycles}
 use Rattle.channels.specs.Map.{marks, channel_at, from_raw}
 use Rattle.channels.specs.Phy.{index_of, cycled, first_channel}
-use Rattle.channels.specs.declared.connection.Hop.TheVariants as hop
 use Rattle.channels.specs.declared.phy.AdvertisingChannel.{AdvertisingChannel}
 use Rattle.channels.specs.declared.phy.DataChannel.{DataChannel}
 use Rattle.octets.specs.Time.{later}
@@ -39,7 +38,11 @@ use Rattle.radio_spec.specs.declared.link.Answer.{Answer}
 use Rattle.radio_spec.specs.declared.link.Answer.TheVariants.{Sent, Respond, Stopped, ScanDataSet}
 use Rattle.radio_spec.specs.declared.link.Mode.{Mode}
 use Rattle.radio_spec.specs.declared.link.Mode.TheVariants.{Advertising, Connected}
-use Rattle.radio_spec.proofs.Steps.{number, scan_after, Made, Sound, Untouched, Quiet, plain, Happens, starts, ticks, replies as replying, begins, hopping, stops, sets, stays, happens, sound_kept, is_stop, is_set, is_sent, heard_on}
+use Rattle.radio_spec.proofs.Steps.{hop_or, number, scan_after, Made, Sound, Untouched, Quiet, plain, Happens, starts, ticks, replies as replying, begins, hopping, stops, sets, stays, happens, sound_kept, is_stop, is_set, is_sent, heard_on}
+use Rattle.channels.specs.declared.connection.Hop.{Hop}
+use Rattle.octets.specs.declared.error.Error.{Error}
+use Rattle.std.specs.Prelude.{Result, Ok}
+use Rattle.octets.specs.declared.error.Error.{Error}
 
 -- an entry of the trace by the device alone, for a call that came to r
 abbrev pub entry_of : List ℕ → State → Call → Step → Entry
@@ -74,7 +77,7 @@ each_map P Q f k [] each = tt
 each_map P Q f k (e ∷ es) each = (f k e each.0, each_map P Q f (suc k) es each.1)
 
 -- channels that follow f, by their places
-module _ (channel : Answer → ℕ) (f : ℕ → ℕ) where
+module _ (channel : Result Answer Error → ℕ) (f : ℕ → ℕ) where
   follows : (k : ℕ) (es : List Entry) → Each (λ k e. channel e.result.answer ≡ f k) k es
       → (j : ℕ) → j < length es → get_or (channels_by channel es) j 0 ≡ f (k + j)
   follows k [] each j below = absurd (omega arith)
@@ -119,9 +122,9 @@ module _ (own : DeviceAddress) (time : Instant) (interval : ℕ) (records : List
   TickAt k d = d.adv ≡ adv_at k
 
   answer_at : (k : ℕ) (d : State) → (advertised d (adv_at k)).answer
-      ≡ Sent (header_for AdvInd (is_random own.kind) false (9 + length records)) (cycles (suc k) first_channel) (instant (later time.0 (suc k * interval)))
+      ≡ Ok (Sent (header_for AdvInd (is_random own.kind) false (9 + length records)) (cycles (suc k) first_channel) (instant (later time.0 (suc k * interval))))
   unfolding cycles
-  answer_at k d = λ i. Sent ((ap (λ (p : PduBuf). p.header) (pdu_at k) ∙ made.header) i) (cycled (channel_at_law k i)) (instant (due_at k i))
+  answer_at k d = λ i. Ok (Sent ((ap (λ (p : PduBuf). p.header) (pdu_at k) ∙ made.header) i) (cycled (channel_at_law k i)) (instant (due_at k i)))
 
   tick_moves : (k : ℕ) {scan : List ℕ} {d : State} {c : Call} {r : Step} → TickAt k d → Happens scan d c r
       → Moves (Tick own time interval records) TickAt tick_run (tick_run (eqb (number scan d c) 0) c) k (entry_of scan d c r)
@@ -190,7 +193,7 @@ ticks_from (stays (set_scan_data records) s) sound a cs = tt
 
 -- Packets between two ticks are heard on the channel of the first
 
-listened : (c : AdvertisingChannel) {x : AdvertisingChannel} {a : Answer} → ListensOn x a → heard_on c a ≡ x
+listened : (c : AdvertisingChannel) {x : AdvertisingChannel} {a : Result Answer Error} → ListensOn x a → heard_on c a ≡ x
 listened c keeps = refl
 listened c replies = refl
 
@@ -231,7 +234,7 @@ module _ (x : AdvertisingChannel) where
   hear_run_law scan d cs sound at = gather_each HearsOn HearAt hear_run (λ k scan d c sound at. hear_moves k at (happens scan d sound c)) scan d cs sound 0 at
 
 -- an answer that sent on a channel left the device there
-sent_there : {scan : List ℕ} {d : State} {c : Call} {r : Step} → Happens scan d c r → (header : Header) (x : AdvertisingChannel) (next : Instant) → r.answer ≡ Sent header x next
+sent_there : {scan : List ℕ} {d : State} {c : Call} {r : Step} → Happens scan d c r → (header : Header) (x : AdvertisingChannel) (next : Instant) → r.answer ≡ Ok (Sent header x next)
     → r.state.adv.channel ≡ x
 sent_there (starts time interval records tx pdu ok made wrote) header x next is = cc
 sent_there (ticks tx m ok wrote) header x next is = cc
@@ -273,12 +276,12 @@ module _ (p : List ℕ) (ranges : Within (settings_in (request_of p))) where
   five_bits = omega arith
 
   -- event k: the channel of the hop, and the unmapped channel of the next
-  event_is : (k u : ℕ) (channel : DataChannel) → hopped (from_raw (map_in p)) (unmapped_before (from_raw (map_in p)) (hop_in p) k) (hop_in p) ≡ hop.To u channel
+  event_is : (k u : ℕ) (channel : DataChannel) → hopped (from_raw (map_in p)) (unmapped_before (from_raw (map_in p)) (hop_in p) k) (hop_in p) ≡ Ok (record { unmapped = u; channel = channel })
       → (channel.index ≡ channel_of k) × (u ≡ unmapped_before (from_raw (map_in p)) (hop_in p) (suc k))
   unfolding unmapped_before
   event_is k u channel there =
       let same = sym there ∙ run (map_in p) (hop_in p) k some in
-      let index : channel.index ≡ event_channel (map_in p) (hop_in p % 32) k = cc in
+      let index : channel.index ≡ event_channel (map_in p) (hop_in p % 32) k = ap (λ (r : Result Hop Error). (hop_or r).channel.index) same in
       (index ∙ ap (λ (h : ℕ). event_channel (map_in p) h k) five_bits, rw there)
 
   event_moves : (k : ℕ) {scan : List ℕ} {d : State} {c : Call} {r : Step} → EventAt k d → Happens scan d c r
@@ -364,7 +367,7 @@ replies_at {scan} {d} sound (replying end header payload crc_good tx m scan_requ
       exactly = sym there;
       reply = λ e.
           record {
-            answer = ap (λ (h : Header). Respond h d.adv.channel) sound.reply.header;
+            answer = ap (λ (h : Header). Ok (Respond h d.adv.channel)) sound.reply.header;
             octets = ap (λ (l : List ℕ). payload ∷ l ∷ []) (rw (← sound.reply.payload) wrote);
           };
       elsewhere = λ e. absurd (false≢true (sym e ∙ there));
@@ -375,7 +378,7 @@ replies_at {scan} {d} {c} {r} sound stops after = quietly scan d c r after refl 
 replies_at {scan} {d} {c} {r} sound (sets records pdu ok made) after = quietly scan d c r after refl (plain scan d c refl)
 replies_at {scan} {d} {r = r} sound (stays c s) after = quietly scan d c r after s.no_reply s.quiet
 
-pub stops_at : {scan : List ℕ} {d : State} {c : Call} {r : Step} → Happens scan d c r → c ≡ stop → r.answer ≡ Stopped
+pub stops_at : {scan : List ℕ} {d : State} {c : Call} {r : Step} → Happens scan d c r → c ≡ stop → r.answer ≡ Ok Stopped
 stops_at (starts time interval records tx pdu ok made wrote) is = absurd (false≢true (ap is_stop is))
 stops_at (ticks tx m ok wrote) is = absurd (false≢true (ap is_stop is))
 stops_at (replying end header payload crc_good tx m scan_request k ok wrote) is = absurd (false≢true (ap is_stop is))
@@ -385,7 +388,7 @@ stops_at stops is = refl
 stops_at (sets records pdu ok made) is = absurd (false≢true (ap is_stop is))
 stops_at (stays c s) is = absurd (false≢true (sym s.no_stop ∙ ap is_stop is))
 
-pub sets_at : {scan : List ℕ} {d : State} {c : Call} {r : Step} → Happens scan d c r → is_set c ≡ true → eqb (number scan d c) 0 ≡ true → r.answer ≡ ScanDataSet
+pub sets_at : {scan : List ℕ} {d : State} {c : Call} {r : Step} → Happens scan d c r → is_set c ≡ true → eqb (number scan d c) 0 ≡ true → r.answer ≡ Ok ScanDataSet
 sets_at (starts time interval records tx pdu ok made wrote) is a = absurd (false≢true is)
 sets_at (ticks tx m ok wrote) is a = absurd (false≢true is)
 sets_at (replying end header payload crc_good tx m scan_request k ok wrote) is a = absurd (false≢true is)

@@ -16,41 +16,38 @@ use Rattle.octets.specs.declared.time.Instant.{Instant}
 use Rattle.channels.specs.Hop.{mapped, next, hopped}
 use Rattle.channels.specs.Map.{from_raw, marks}
 use Rattle.channels.specs.declared.channel_map.ChannelMap.{ChannelMap}
-use Rattle.channels.specs.declared.connection.Hop.TheVariants as hop
 use Rattle.channels.specs.declared.phy.AdvertisingChannel.{AdvertisingChannel}
 use Rattle.channels.specs.declared.phy.DataChannel.{DataChannel}
 use Rattle.records_spec.proofs.RoundTrip.{round_trip}
 use Rattle.records_spec.specs.Area.{read_area, rewritten}
-use Rattle.records_spec.specs.declared.area.Area.{Area}
-use Rattle.records_spec.specs.declared.area.Area.TheVariants as area
 use Rattle.addresses.specs.Address.{is_random}
 use Rattle.addresses.specs.declared.device_address.DeviceAddress.{DeviceAddress}
 use Rattle.addresses.specs.declared.header.Header.{Header}
 use Rattle.addresses.specs.declared.header.PduType.{PduType}
 use Rattle.addresses.specs.declared.header.PduType.TheVariants.{AdvInd, AdvDirectInd, AdvNonconnInd, AdvScanInd, ScanReq, ScanRsp, ConnectReq, Unknown}
-use Rattle.advertising.proofs.Builders.{builders}
 use Rattle.advertising.proofs.Building.{building}
 use Rattle.settings.proofs.Ranges.{tests, settles}
 use Rattle.advertising.specs.Laws.{ReadsBack}
-use Rattle.advertising.specs.Pdu.{ll_data_of, request_of, decode_of}
-use Rattle.advertising.specs.PduBuf.{header_for, flags_record, scan_response_pdu, payload_of, payload_to}
-use Rattle.settings.specs.Settings.{Within, settings_in, taken_of}
-use Rattle.settings.specs.declared.Taken.{Taken}
+use Rattle.advertising.specs.Pdu.{ll_data_of, request_of}
+use Rattle.advertising.specs.PduBuf.{header_for, flags_record, payload_of, payload_to}
+use Rattle.settings.specs.Settings.{Within, settings_in, taken_of, Settings}
 use Rattle.advertising.specs.declared.pdu.Pdu.{Pdu}
 use Rattle.advertising.specs.declared.pdu_buf.PduBuf.{PduBuf}
-use Rattle.radio_spec.specs.Calls.{is_advertising, is_connected, is_scan_request, refusal, advertised, sent, beginning, is_for, listens, responds, replies_with, replied_if, connected_at, settled, hopped_to, connects_to, addressed, hops, start_of, start_after, tick_of, tick_after, packet_of, packet_after, scan_data_of, event_of, stop_of}
+use Rattle.radio_spec.specs.Calls.{is_advertising, is_connected, is_scan_request, refusal, advertised, sent, beginning, listens, responds, replies_with, replied_if, connected_at, settled, hopped_to, connects_to, addressed, hops, start_of, start_after, tick_of, tick_after, packet_after, scan_data_of, event_of, stop_of}
 use Rattle.radio_spec.specs.Demand.{number_in, is_first_event, is_reply, ReplyOf}
 use Rattle.radio_spec.specs.Call.{Call, start, tick, packet, event, stop, set_scan_data, call_of, octets_of}
-use Rattle.radio_spec.specs.SoFar.{is_connect_request, requested, asks_to_connect, asks_to_scan, map_in, hop_in, in_ranges_in, connects, asks_to_scan_with, reply_size, SoFar, start_number, scan_data_number, refused_by, then_call}
+use Rattle.radio_spec.specs.SoFar.{is_connect_request, requested, asks_to_connect, asks_to_scan, map_in, hop_in, in_ranges_in, connects, asks_to_scan_with, reply_size, SoFar, start_number, scan_data_number, refused_by, then_call, for_board}
 use Rattle.radio_spec.specs.Trace.{outside, tick_run, event_run, hear_run}
 use Rattle.radio_spec.specs.declared.link.Answer.{Answer}
-use Rattle.radio_spec.specs.declared.link.Answer.TheVariants.{Refused, Sent, Listen, Respond, FirstEvent, NextEvent, Stopped, ScanDataSet}
+use Rattle.radio_spec.specs.declared.link.Answer.TheVariants.{Sent, Listen, Respond, FirstEvent, NextEvent, Stopped, ScanDataSet}
 use Rattle.radio_spec.specs.State.{Connection, State, Step}
 use Rattle.radio_spec.specs.declared.link.Mode.{Mode}
 use Rattle.radio_spec.specs.declared.link.Mode.TheVariants.{Standby, Advertising, Connected}
 use Rattle.radio_spec.proofs.Answers.{no_zero, first_number}
-use Rattle.radio_spec.proofs.Packets.{known, requested_is}
+use Rattle.radio_spec.proofs.Packets.{pdu_in, packet_as, after_as, known, requested_is}
 use Rattle.radio_spec.proofs.Replies.{reply_size_law, built_reply}
+use Rattle.channels.specs.declared.connection.Hop.{Hop}
+use Rattle.std.specs.Prelude.{Result, Ok, Err}
 
 -- what the list says of the calls so far, as the device has it; the scan data `scan` themselves are not in the device, but their reply is
 abbrev pub so_far : List ℕ → State → SoFar
@@ -118,26 +115,26 @@ is_set event = false
 is_set stop = false
 is_set (set_scan_data records) = true
 
-abbrev pub is_sent : Answer → Bool
-is_sent (Sent header channel next) = true
-is_sent (Refused e) = false
-is_sent (Listen channel) = false
-is_sent (Respond header channel) = false
-is_sent (FirstEvent channel at access crc) = false
-is_sent (NextEvent channel) = false
-is_sent Stopped = false
-is_sent ScanDataSet = false
+abbrev pub is_sent : Result Answer Error → Bool
+is_sent (Ok (Sent header channel next)) = true
+is_sent (Err e) = false
+is_sent (Ok (Listen channel)) = false
+is_sent (Ok (Respond header channel)) = false
+is_sent (Ok (FirstEvent channel at access crc)) = false
+is_sent (Ok (NextEvent channel)) = false
+is_sent (Ok Stopped) = false
+is_sent (Ok ScanDataSet) = false
 
 -- the channel that an answer listens on; c where it listens on none
-abbrev pub heard_on : AdvertisingChannel → Answer → AdvertisingChannel
-heard_on c (Listen channel) = channel
-heard_on c (Respond header channel) = channel
-heard_on c (Sent header channel next) = c
-heard_on c (Refused e) = c
-heard_on c (FirstEvent channel at access crc) = c
-heard_on c (NextEvent channel) = c
-heard_on c Stopped = c
-heard_on c ScanDataSet = c
+abbrev pub heard_on : AdvertisingChannel → Result Answer Error → AdvertisingChannel
+heard_on c (Ok (Listen channel)) = channel
+heard_on c (Ok (Respond header channel)) = channel
+heard_on c (Ok (Sent header channel next)) = c
+heard_on c (Err e) = c
+heard_on c (Ok (FirstEvent channel at access crc)) = c
+heard_on c (Ok (NextEvent channel)) = c
+heard_on c (Ok Stopped) = c
+heard_on c (Ok ScanDataSet) = c
 
 -- a packet call's buffers as they were lent
 abbrev pub Untouched : Call → List (List ℕ) → Type 0
@@ -154,7 +151,7 @@ pub record Quiet (scan : List ℕ) (d : State) (c : Call) : Type 0 where
   pub untouched : Untouched c (octets_of d c)
 
 -- a call that leaves the device as it is: no tick or event accepted, no connection begun, no reply given, and nothing listened for on another channel
-pub record Stays (scan : List ℕ) (d : State) (c : Call) (answer : Answer) : Type 0 where
+pub record Stays (scan : List ℕ) (d : State) (c : Call) (answer : Result Answer Error) : Type 0 where
   pub no_tick : tick_run (eqb (number scan d c) 0) c ≡ outside
   pub no_event : event_run (eqb (number scan d c) 0) c ≡ outside
   pub no_start : (is_start c && eqb (number scan d c) 0) ≡ false
@@ -182,21 +179,26 @@ pub data Happens (scan : List ℕ) (d : State) : Call → Step → Type 0 where
       → asks_to_scan_with (reply_size scan) d.dev_addr (packet end header payload crc_good tx) ≡ true
       → connects d.dev_addr (packet end header payload crc_good tx) ≡ false → number scan d (packet end header payload crc_good tx) ≡ 0
       → packet_after d header payload crc_good tx ≡ payload_of d.scan_response ++ drop (length (payload_of d.scan_response)) tx
-      → Happens scan d (packet end header payload crc_good tx) (record { answer = Respond d.scan_response.header d.adv.channel; state = d })
+      → Happens scan d (packet end header payload crc_good tx) (record { answer = Ok (Respond d.scan_response.header d.adv.channel); state = d })
   begins : (end : Instant) (header : Header) (payload : List ℕ) (crc_good : Bool) (tx : List ℕ) (u : ℕ) (channel : DataChannel) → d.mode ≡ Advertising
       → connects d.dev_addr (packet end header payload crc_good tx) ≡ true → number scan d (packet end header payload crc_good tx) ≡ 0
-      → Within (settings_in (request_of payload)) → hopped (from_raw (map_in payload)) 0 (hop_in payload) ≡ hop.To u channel → u ≤ 36
+      → Within (settings_in (request_of payload)) → hopped (from_raw (map_in payload)) 0 (hop_in payload) ≡ Ok (record { unmapped = u; channel = channel }) → u ≤ 36
       → Quiet scan d (packet end header payload crc_good tx)
       → Happens scan d (packet end header payload crc_good tx) (connected_at d end (request_of payload) (settings_in (request_of payload)) u channel)
-  hopping : (u : ℕ) (channel : DataChannel) → d.mode ≡ Connected → hopped d.conn.channel_map d.conn.unmapped_channel d.conn.hop ≡ hop.To u channel
-      → u ≤ 36 → number scan d event ≡ 0 → Happens scan d event (hopped_to d (hop.To u channel))
+  hopping : (u : ℕ) (channel : DataChannel) → d.mode ≡ Connected → hopped d.conn.channel_map d.conn.unmapped_channel d.conn.hop ≡ Ok (record { unmapped = u; channel = channel })
+      → u ≤ 36 → number scan d event ≡ 0 → Happens scan d event (hopped_to d (Ok (record { unmapped = u; channel = channel })))
   stops : Happens scan d stop (stop_of d)
   sets : (records : List ℕ) (pdu : PduBuf) → scan_data_number records ≡ 0 → ReplyOf d.dev_addr records pdu → Happens scan d (set_scan_data records) (replies_with d pdu)
-  stays : (c : Call) {answer : Answer} → Stays scan d c answer → Happens scan d c (record { answer = answer; state = d })
+  stays : (c : Call) {answer : Result Answer Error} → Stays scan d c answer → Happens scan d c (record { answer = answer; state = d })
+
+-- the hop that is answered
+abbrev pub hop_or : Result Hop Error → Hop
+hop_or (Ok h) = h
+hop_or (Err e) = record { unmapped = 0; channel = record { index = 0 } }
 
 -- a hop over a map that marks a channel
 pub hop_there : (map : ChannelMap) (u h : ℕ) → u ≤ 36 → 0 < map.num_used_channels
-    → hopped map u h ≡ hop.To (next u h) (record { index = mapped map.raw map.num_used_channels (next u h) })
+    → hopped map u h ≡ Ok (record { unmapped = next u h; channel = record { index = mapped map.raw map.num_used_channels (next u h) } })
 hop_there map u h low some = rw (le-ltb 36 u low, ne_eqb map.num_used_channels 0 (omega arith))
 
 next_low : (u h : ℕ) → next u h ≤ 36
@@ -250,7 +252,7 @@ module _ (scan : List ℕ) (d : State) (sound : Sound scan d) where
     front = simp length-append (omega (arith, sound.six))
 
     -- records that fit
-    module _ (n : ℕ) (good : read_area records ≡ area.Accepted n) (few : length records ≤ 28) where
+    module _ (n : ℕ) (good : read_area records ≡ Ok n) (few : length records ≤ 28) where
       back : ReadsBack AdvInd d.dev_addr flags_record records (n + 1)
       back = building.discoverable d.dev_addr records n sound.six good few
 
@@ -276,16 +278,16 @@ module _ (scan : List ℕ) (d : State) (sound : Sound scan d) where
           rw (back.built, room)
           (starts time interval records tx back.pdu (rw (good, few_is, e)) made (rw (back.built, room, zero-add)))
 
-    start_happens : (a : Area) → read_area records ≡ a → (many : Bool) → ltb 28 (length records) ≡ many
+    start_happens : (a : Result ℕ Error) → read_area records ≡ a → (many : Bool) → ltb 28 (length records) ≡ many
         → Happens scan d this-start (start_of d time interval records tx)
     unfolding start_of start_number refused_by
-    start_happens (area.Refused e) is many m =
+    start_happens (Err e) is many m =
         rw (building.bad_area AdvInd d.dev_addr flags_record records e is)
         (refused this-start e (rw is (first_number e _)) no_request_law refl (plain scan d this-start refl))
-    start_happens (area.Accepted n) is true m =
+    start_happens (Ok n) is true m =
         rw (building.too_long AdvInd d.dev_addr flags_record records n is (omega (arith, front)) (omega (arith, front, ltb-true 28 (length records) m)))
         (refused this-start Eof (rw (is, m)) no_request_law refl (plain scan d this-start refl))
-    start_happens (area.Accepted n) is false m = fitting n is (ltb-false 28 (length records) m) (ltb (length tx) (9 + length records)) refl
+    start_happens (Ok n) is false m = fitting n is (ltb-false 28 (length records) m) (ltb (length tx) (9 + length records)) refl
 
   tick_happens : (tx : List ℕ) (m : Mode) → d.mode ≡ m → (short : Bool) → ltb (length tx) (length (payload_of d.adv.pdu)) ≡ short
       → Happens scan d (tick tx) (cond (is_advertising m) (sent d d.adv (payload_to d.adv.pdu tx)) (refusal d WrongMode))
@@ -317,20 +319,20 @@ module _ (scan : List ℕ) (d : State) (sound : Sound scan d) where
     unfolding connects
     no_connect_set = simp and-false
 
-    set_happens : (a : Area) → read_area records ≡ a → (many : Bool) → ltb 31 (length records) ≡ many → Happens scan d this-set (scan_data_of d records)
+    set_happens : (a : Result ℕ Error) → read_area records ≡ a → (many : Bool) → ltb 31 (length records) ≡ many → Happens scan d this-set (scan_data_of d records)
     unfolding scan_data_number refused_by
-    set_happens (area.Refused e) is many m =
+    set_happens (Err e) is many m =
         rw (building.bad_area ScanRsp d.dev_addr [] records e is)
         (refused this-set e (rw is (first_number e _)) no_connect_set refl (plain scan d this-set refl))
-    set_happens (area.Accepted n) is true m =
+    set_happens (Ok n) is true m =
         let six : length (d.dev_addr.bytes ++ []) ≡ 6 = simp append-nil sound.six in
         rw (building.too_long ScanRsp d.dev_addr [] records n is (omega (arith, six)) (omega (arith, six, ltb-true 31 (length records) m)))
         (refused this-set Eof (rw (is, m)) no_connect_set refl (plain scan d this-set refl))
-    set_happens (area.Accepted n) is false m =
+    set_happens (Ok n) is false m =
         let few : length records ≤ 31 = ltb-false 31 (length records) m in
-        let made = built_reply d.dev_addr records sound.six n is few in
-        rw ((builders d.dev_addr records sound.six).scan_response_law.accepted n is few)
-        (sets records (scan_response_pdu d.dev_addr records).pdu (rw (is, m)) made)
+        let reply = built_reply d.dev_addr records sound.six n is few in
+        rw reply.1
+        (sets records reply.0 (rw (is, m)) reply.2)
 
   module _ (end : Instant) (header : Header) (payload : List ℕ) (crc_good : Bool) (tx : List ℕ) where
     abbrev this : Call
@@ -340,12 +342,11 @@ module _ (scan : List ℕ) (d : State) (sound : Sound scan d) where
     own = d.dev_addr
 
     abbrev pdu : Pdu
-    pdu = (decode_of header payload).pdu
+    pdu = pdu_in header payload
 
     -- the transmit buffer goes by the list's word `asks_to_scan`
     after_is : packet_after d header payload crc_good tx ≡ replied_if (is_advertising d.mode && asks_to_scan own crc_good header payload) d tx
-    unfolding packet_after
-    after_is = ap (λ (b : Bool). replied_if (is_advertising d.mode && b) d tx) (sym (requested_is own header payload is_scan_request crc_good))
+    after_is = after_as d header payload crc_good tx ∙ ap (λ (b : Bool). replied_if (is_advertising d.mode && b) d tx) (sym (requested_is own header payload is_scan_request crc_good))
 
     unscanned : asks_to_scan own crc_good header payload ≡ false → Quiet scan d this
     unfolding asks_to_scan_with
@@ -356,7 +357,7 @@ module _ (scan : List ℕ) (d : State) (sound : Sound scan d) where
         }
 
     -- a packet that begins no connection, gets no reply and is not refused
-    unheard : (answer : Answer) → is_first_event answer ≡ false → number_in answer ≡ 0 → heard_on d.adv.channel answer ≡ d.adv.channel → is_sent answer ≡ false → is_reply answer ≡ false
+    unheard : (answer : Result Answer Error) → is_first_event answer ≡ false → number_in answer ≡ 0 → heard_on d.adv.channel answer ≡ d.adv.channel → is_sent answer ≡ false → is_reply answer ≡ false
         → asks_to_connect own crc_good header payload ≡ false → asks_to_scan own crc_good header payload ≡ false → d.mode ≡ Advertising
         → Happens scan d this (record { answer = answer; state = d })
     unfolding tick_run event_run hear_run then_call refused_by connects
@@ -381,10 +382,10 @@ module _ (scan : List ℕ) (d : State) (sound : Sound scan d) where
         })
 
     -- a packet of a type that `is` says is scan_request for, where it is for this board
-    asking : (is : PduType → Bool) → crc_good ≡ true → is_for own pdu ≡ true → is pdu.ty ≡ true → requested is own crc_good header payload ≡ true
+    asking : (is : PduType → Bool) → crc_good ≡ true → for_board own header payload ≡ true → is pdu.ty ≡ true → requested is own crc_good header payload ≡ true
     asking is crc ours ty = requested_is own header payload is crc_good ∙ rw (crc, ours, ty)
 
-    foreign_asks : (is : PduType → Bool) → is_for own pdu ≡ false → requested is own crc_good header payload ≡ false
+    foreign_asks : (is : PduType → Bool) → for_board own header payload ≡ false → requested is own crc_good header payload ≡ false
     foreign_asks is ours = requested_is own header payload is crc_good ∙ rw ours (simp and-false)
 
     other_asks : (is : PduType → Bool) (ty : PduType) → pdu.ty ≡ ty → is ty ≡ false → requested is own crc_good header payload ≡ false
@@ -396,10 +397,10 @@ module _ (scan : List ℕ) (d : State) (sound : Sound scan d) where
     bad_asks is crc = requested_is own header payload is crc_good ∙ rw crc
 
     -- what taking the settings answers
-    settling : (t : Taken) → t ≡ taken_of (request_of payload) → Happens scan d this (settled d end (request_of payload) t.settings t.outcome)
+    settling : (t : Result Settings Error) → t ≡ taken_of (request_of payload) → Happens scan d this (settled d end (request_of payload) t)
         → Happens scan d this (connects_to d end (request_of payload))
     unfolding connects_to
-    settling t is h = subst (λ (t : Taken). Happens scan d this (settled d end (request_of payload) t.settings t.outcome)) is h
+    settling t is h = subst (λ (t : Result Settings Error). Happens scan d this (settled d end (request_of payload) t)) is h
 
     -- a connect request, by the channels that it marks and the ranges of its settings
     begun : d.mode ≡ Advertising → asks_to_connect own crc_good header payload ≡ true → asks_to_scan own crc_good header payload ≡ false → (some : Bool) → ltb 0 (marks (map_in payload)) ≡ some
@@ -450,7 +451,7 @@ module _ (scan : List ℕ) (d : State) (sound : Sound scan d) where
     other_type : (ty : PduType) → pdu.ty ≡ ty → is_connect_request ty ≡ false → is_scan_request ty ≡ false → d.mode ≡ Advertising → Happens scan d this (listens d)
     other_type ty t c s m = unheard _ refl refl refl refl refl (other_asks is_connect_request ty t c) (other_asks is_scan_request ty t s) m
 
-    packet_happens : (m : Mode) → d.mode ≡ m → (crc : Bool) → crc_good ≡ crc → (ours : Bool) → is_for own pdu ≡ ours → (ty : PduType) → pdu.ty ≡ ty
+    packet_happens : (m : Mode) → d.mode ≡ m → (crc : Bool) → crc_good ≡ crc → (ours : Bool) → for_board own header payload ≡ ours → (ty : PduType) → pdu.ty ≡ ty
         → Happens scan d this (cond (is_advertising m) (cond crc (cond ours (addressed d end pdu.lldata tx ty) (listens d)) (listens d)) (refusal d WrongMode))
     unfolding addressed
     packet_happens Standby m crc c ours o ty t = elsewhere (rw m)
@@ -471,11 +472,12 @@ module _ (scan : List ℕ) (d : State) (sound : Sound scan d) where
     packet_happens Advertising m true c true o (Unknown n) t = other_type (Unknown n) t refl refl m
 
   pub happens : (c : Call) → Happens scan d c (call_of d c)
-  unfolding tick_of packet_of event_of
+  unfolding tick_of event_of
   happens (start time interval records tx) = start_happens time interval records tx (read_area records) refl (ltb 28 (length records)) refl
   happens (tick tx) = tick_happens tx d.mode refl (ltb (length tx) (length (payload_of d.adv.pdu))) refl
   happens (packet end header payload crc_good tx) =
-      packet_happens end header payload crc_good tx d.mode refl crc_good refl (is_for d.dev_addr (decode_of header payload).pdu) refl (decode_of header payload).pdu.ty refl
+      subst (Happens scan d (packet end header payload crc_good tx)) (sym (packet_as d end header payload crc_good tx))
+      (packet_happens end header payload crc_good tx d.mode refl crc_good refl (for_board d.dev_addr header payload) refl (pdu_in header payload).ty refl)
   happens event = event_happens d.mode refl
   happens stop = stops
   happens (set_scan_data records) = set_happens records (read_area records) refl (ltb 31 (length records)) refl

@@ -24,7 +24,7 @@
 --   ModesFrom own m last es   == m is the mode before the entries es, each call leads from one mode to the next, and `last` is the mode after them
 --   RefusedAt, TicksFrom, ListeningFrom, RepliesAt, BeginsAt, EventsFrom, StopsAt, SetsAt   == what holds at an entry, with the entries after it
 --   Demand3 own calls         (Demand.demand_3)   the whole of demand 3
-use Rattle.std.specs.Prelude.{Bool, true, false, cond, not, ◌&&◌, List, [], ◌∷◌, ◌++◌, ◌≡◌, ℕ, suc, ◌+◌, ◌*◌, ◌%◌, ◌≤◌, ◌<◌, eqb, length}
+use Rattle.std.specs.Prelude.{Bool, true, false, cond, not, ◌&&◌, List, [], ◌∷◌, ◌++◌, ◌≡◌, ℕ, suc, ◌+◌, ◌*◌, ◌%◌, ◌≤◌, ◌<◌, eqb, length, Result, Ok, Err}
 use Rattle.octets.specs.Bytes.{at_front}
 use Rattle.octets.specs.Error.{number_of}
 use Rattle.octets.specs.Time.{later}
@@ -50,38 +50,33 @@ use Rattle.radio_spec.specs.Trace.{Entry, accepted, trace, state_after, AtEach, 
 use Rattle.radio_spec.specs.declared.link.Answer.{Answer}
 use Rattle.radio_spec.specs.declared.link.Mode.{Mode}
 use Rattle.radio_spec.specs.declared.link.Mode.TheVariants.{Standby, Advertising, Connected}
-use Rattle.radio_spec.specs.declared.link.Answer.TheVariants.{Refused, Sent, Listen, Respond, FirstEvent, NextEvent, Stopped, ScanDataSet}
+use Rattle.radio_spec.specs.declared.link.Answer.TheVariants.{Sent, Listen, Respond, FirstEvent, NextEvent, Stopped, ScanDataSet}
+use Rattle.octets.specs.declared.error.Error.{Error}
 
 -- the number that an answer refuses with; 0 where it refuses nothing
-abbrev pub number_in : Answer → ℕ
-number_in (Refused e) = number_of e
-number_in (Sent header channel next) = 0
-number_in (Listen channel) = 0
-number_in (Respond header channel) = 0
-number_in (FirstEvent channel at access crc) = 0
-number_in (NextEvent channel) = 0
-number_in Stopped = 0
-number_in ScanDataSet = 0
+abbrev pub number_in : Result Answer Error → ℕ
+number_in (Err e) = number_of e
+number_in (Ok answer) = 0
 
-abbrev pub is_first_event : Answer → Bool
-is_first_event (Refused e) = false
-is_first_event (Sent header channel next) = false
-is_first_event (Listen channel) = false
-is_first_event (Respond header channel) = false
-is_first_event (FirstEvent channel at access crc) = true
-is_first_event (NextEvent channel) = false
-is_first_event Stopped = false
-is_first_event ScanDataSet = false
+abbrev pub is_first_event : Result Answer Error → Bool
+is_first_event (Err e) = false
+is_first_event (Ok (Sent header channel next)) = false
+is_first_event (Ok (Listen channel)) = false
+is_first_event (Ok (Respond header channel)) = false
+is_first_event (Ok (FirstEvent channel at access crc)) = true
+is_first_event (Ok (NextEvent channel)) = false
+is_first_event (Ok Stopped) = false
+is_first_event (Ok ScanDataSet) = false
 
-abbrev pub is_reply : Answer → Bool
-is_reply (Respond header channel) = true
-is_reply (Refused e) = false
-is_reply (Sent header channel next) = false
-is_reply (Listen channel) = false
-is_reply (FirstEvent channel at access crc) = false
-is_reply (NextEvent channel) = false
-is_reply Stopped = false
-is_reply ScanDataSet = false
+abbrev pub is_reply : Result Answer Error → Bool
+is_reply (Ok (Respond header channel)) = true
+is_reply (Err e) = false
+is_reply (Ok (Sent header channel next)) = false
+is_reply (Ok (Listen channel)) = false
+is_reply (Ok (FirstEvent channel at access crc)) = false
+is_reply (Ok (NextEvent channel)) = false
+is_reply (Ok Stopped) = false
+is_reply (Ok ScanDataSet) = false
 
 -- P holds of each entry with its place, counted from k
 abbrev pub Each : (ℕ → Entry → Type 0) → ℕ → List Entry → Type 0
@@ -101,7 +96,7 @@ transmitted payload (set_scan_data records) = records ∷ []
 -- channel after k + 1 cycles from the first, and the start's time and k + 1 intervals; it writes the own address (6 octets), Flags (3) and the records.
 pub record Tick (own : DeviceAddress) (time : Instant) (interval : ℕ) (records : List ℕ) (k : ℕ) (e : Entry) : Type 0 where
   pub answer : e.result.answer
-      ≡ Sent (header_for AdvInd (is_random own.kind) false (9 + length records)) (cycles (suc k) first_channel) (instant (later time.0 (suc k * interval)))
+      ≡ Ok (Sent (header_for AdvInd (is_random own.kind) false (9 + length records)) (cycles (suc k) first_channel) (instant (later time.0 (suc k * interval))))
   pub octets : e.octets ≡ transmitted ((own.bytes ++ flags_record) ++ rewritten records) e.call
 
 -- the accepted ticks of a start: any three successive ones use each channel once
@@ -139,7 +134,7 @@ replied_to own e = is_advertising e.mode && asks_to_scan_with (reply_size e.scan
 
 -- the reply of the scan data that the list says, on the channel of the last accepted tick
 pub record Reply (own : DeviceAddress) (e : Entry) : Type 0 where
-  pub answer : e.result.answer ≡ Respond (reply_header own e.scan_data) e.channel
+  pub answer : e.result.answer ≡ Ok (Respond (reply_header own e.scan_data) e.channel)
   pub octets : e.octets ≡ transmitted (reply_octets own e.scan_data) e.call
 
 -- a call is refused with the number of the table, and exactly where the table refuses it
@@ -155,7 +150,7 @@ TicksFrom own e after =
 -- from a start or tick that sent on channel c to the next: a packet call that listens on a channel does so on c
 abbrev pub ListeningFrom : Entry → List Entry → Type 0
 ListeningFrom e after =
-    (header : Header) (c : AdvertisingChannel) (next : Instant) → e.result.answer ≡ Sent header c next
+    (header : Header) (c : AdvertisingChannel) (next : Instant) → e.result.answer ≡ Ok (Sent header c next)
     → Each (λ k heard. (d : AdvertisingChannel) → ListensOn d heard.result.answer → d ≡ c) 0 (gather hear_run after)
 
 -- a reply is given exactly where `replied_to` says; elsewhere a packet call leaves its transmit buffer as it was lent
@@ -178,11 +173,11 @@ EventsFrom e after =
     → Events payload (e ∷ gather event_run after)
 
 abbrev pub StopsAt : Entry → List Entry → Type 0
-StopsAt e after = e.call ≡ stop → e.result.answer ≡ Stopped
+StopsAt e after = e.call ≡ stop → e.result.answer ≡ Ok Stopped
 
 -- scan data that the table does not refuse are set
 abbrev pub SetsAt : Entry → List Entry → Type 0
-SetsAt e after = (records : List ℕ) → e.call ≡ set_scan_data records → accepted e ≡ true → e.result.answer ≡ ScanDataSet
+SetsAt e after = (records : List ℕ) → e.call ≡ set_scan_data records → accepted e ≡ true → e.result.answer ≡ Ok ScanDataSet
 
 -- "The mode is read from the list: standby at first, advertising after an accepted start, connected after a request as demand 3 names it, standby after a stop."
 -- No other call changes it: by the mode before a call, the call, and whether it was accepted, whatever came earlier.

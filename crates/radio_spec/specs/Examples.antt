@@ -15,7 +15,7 @@
 --   high_request                  == the connect request with a CRC start whose top bit is set
 --   long_trace                    == more than a cycle of ticks and of events, and calls in each other mode
 --   Long                         (Example.long)           what these answer
-use Rattle.std.specs.Prelude.{Bool, true, false, List, [], ◌∷◌, ◌++◌, map, ◌≡◌, ℕ, ◌+◌, length, take, drop, replicate}
+use Rattle.std.specs.Prelude.{Bool, true, false, List, [], ◌∷◌, ◌++◌, map, ◌≡◌, ℕ, ◌+◌, length, take, drop, replicate, Result, Ok, Err}
 use Rattle.octets.specs.declared.error.Error.TheVariants.{Eof, InvalidLength, WrongMode, EmptyMap, OutOfRange}
 use Rattle.channels.specs.declared.phy.AdvertisingChannel.TheVariants.{Channel37, Channel38, Channel39}
 use Rattle.addresses.specs.Address.{address_of}
@@ -26,7 +26,8 @@ use Rattle.radio_spec.specs.Calls.{instant}
 use Rattle.radio_spec.specs.Call.{Call, start, tick, packet, event, stop, set_scan_data}
 use Rattle.radio_spec.specs.Trace.{Entry, trace, event_on, channels_by, times, gather, tick_run, event_run, hear_run}
 use Rattle.radio_spec.specs.declared.link.Answer.{Answer}
-use Rattle.radio_spec.specs.declared.link.Answer.TheVariants.{Refused, Sent, Listen, Respond, FirstEvent, NextEvent, Stopped, ScanDataSet}
+use Rattle.radio_spec.specs.declared.link.Answer.TheVariants.{Sent, Listen, Respond, FirstEvent, NextEvent, Stopped, ScanDataSet}
+use Rattle.octets.specs.declared.error.Error.{Error}
 
 abbrev pub board : DeviceAddress
 board = address_of (1 ∷ 2 ∷ 3 ∷ 4 ∷ 5 ∷ 6 ∷ []) Public
@@ -46,16 +47,16 @@ example_trace =
     ∷ replicate 36 event
     )
 
-abbrev pub example_answers : List Answer
+abbrev pub example_answers : List (Result Answer Error)
 example_answers = map (λ (e : Entry). e.result.answer) example_trace
 
 -- the start on 38 and the tick on 39; then channels 3 and 1, and in the 37 events channel 1 has 20 and channel 3 has 17; what the start and the tick write
 pub record Example : Type 0 where
   pub answers : take 4 example_answers
-      ≡ Sent (header_of 0x0C00) Channel38 (instant 94)
-      ∷ Sent (header_of 0x0C00) Channel39 (instant 194)
-      ∷ FirstEvent (record { index = 3 }) (instant 9000) 0x8E89BED6 0x123456
-      ∷ NextEvent (record { index = 1 })
+      ≡ Ok (Sent (header_of 0x0C00) Channel38 (instant 94))
+      ∷ Ok (Sent (header_of 0x0C00) Channel39 (instant 194))
+      ∷ Ok (FirstEvent (record { index = 3 }) (instant 9000) 0x8E89BED6 0x123456)
+      ∷ Ok (NextEvent (record { index = 1 }))
       ∷ []
   pub channel_1 : times 1 2 37 (channels_by event_on example_trace) ≡ 20
   pub channel_3 : times 3 2 37 (channels_by event_on example_trace) ≡ 17
@@ -103,19 +104,19 @@ titled_trace =
 
 pub record TitleExample : Type 0 where
   pub answers : map (λ (e : Entry). e.result.answer) titled_trace
-      ≡ ScanDataSet
-      ∷ Refused Eof
-      ∷ Sent (header_of 0x0940) Channel38 (instant 100)
-      ∷ Respond (header_of 0x0D44) Channel38
-      ∷ Refused Eof
-      ∷ Stopped
-      ∷ Refused WrongMode
-      ∷ Sent (header_of 0x0940) Channel38 (instant 100)
-      ∷ Sent (header_of 0x0940) Channel39 (instant 200)
-      ∷ Respond (header_of 0x0D44) Channel39
-      ∷ ScanDataSet
-      ∷ Respond (header_of 0x0644) Channel39
-      ∷ Refused Eof
+      ≡ Ok ScanDataSet
+      ∷ Err Eof
+      ∷ Ok (Sent (header_of 0x0940) Channel38 (instant 100))
+      ∷ Ok (Respond (header_of 0x0D44) Channel38)
+      ∷ Err Eof
+      ∷ Ok Stopped
+      ∷ Err WrongMode
+      ∷ Ok (Sent (header_of 0x0940) Channel38 (instant 100))
+      ∷ Ok (Sent (header_of 0x0940) Channel39 (instant 200))
+      ∷ Ok (Respond (header_of 0x0D44) Channel39)
+      ∷ Ok ScanDataSet
+      ∷ Ok (Respond (header_of 0x0644) Channel39)
+      ∷ Err Eof
       ∷ []
   -- the buffers after the first, from the first request on
   pub octets : map (λ (e : Entry). drop 1 e.octets) (drop 3 titled_trace)
@@ -200,38 +201,38 @@ limits_trace =
 
 pub record Limits : Type 0 where
   pub answers : map (λ (e : Entry). e.result.answer) limits_trace
-      ≡ Refused WrongMode
-      ∷ Refused WrongMode
-      ∷ Refused WrongMode
-      ∷ Refused Eof
-      ∷ Refused Eof
-      ∷ Sent (header_of 0x2500) Channel38 (instant 100)
-      ∷ Refused Eof
-      ∷ Respond (header_of 0x0604) Channel38
-      ∷ Respond (header_of 0x0604) Channel38
-      ∷ Refused Eof
-      ∷ Listen Channel38
-      ∷ Listen Channel38
-      ∷ Listen Channel38
-      ∷ Listen Channel38
-      ∷ ScanDataSet
-      ∷ Refused Eof
-      ∷ Refused InvalidLength
-      ∷ Refused Eof
-      ∷ Respond (header_of 0x2504) Channel38
-      ∷ Refused EmptyMap
-      ∷ Refused EmptyMap
-      ∷ Refused OutOfRange
-      ∷ Refused OutOfRange
-      ∷ Refused OutOfRange
-      ∷ FirstEvent (record { index = 3 }) (instant 9000) 0x8E89BED6 0x123456
-      ∷ Refused WrongMode
-      ∷ Refused WrongMode
-      ∷ Refused InvalidLength
-      ∷ NextEvent (record { index = 1 })
-      ∷ ScanDataSet
-      ∷ Sent (header_of 0x0900) Channel38 (instant 100)
-      ∷ Respond (header_of 0x0604) Channel38
+      ≡ Err WrongMode
+      ∷ Err WrongMode
+      ∷ Err WrongMode
+      ∷ Err Eof
+      ∷ Err Eof
+      ∷ Ok (Sent (header_of 0x2500) Channel38 (instant 100))
+      ∷ Err Eof
+      ∷ Ok (Respond (header_of 0x0604) Channel38)
+      ∷ Ok (Respond (header_of 0x0604) Channel38)
+      ∷ Err Eof
+      ∷ Ok (Listen Channel38)
+      ∷ Ok (Listen Channel38)
+      ∷ Ok (Listen Channel38)
+      ∷ Ok (Listen Channel38)
+      ∷ Ok ScanDataSet
+      ∷ Err Eof
+      ∷ Err InvalidLength
+      ∷ Err Eof
+      ∷ Ok (Respond (header_of 0x2504) Channel38)
+      ∷ Err EmptyMap
+      ∷ Err EmptyMap
+      ∷ Err OutOfRange
+      ∷ Err OutOfRange
+      ∷ Err OutOfRange
+      ∷ Ok (FirstEvent (record { index = 3 }) (instant 9000) 0x8E89BED6 0x123456)
+      ∷ Err WrongMode
+      ∷ Err WrongMode
+      ∷ Err InvalidLength
+      ∷ Ok (NextEvent (record { index = 1 }))
+      ∷ Ok ScanDataSet
+      ∷ Ok (Sent (header_of 0x0900) Channel38 (instant 100))
+      ∷ Ok (Respond (header_of 0x0604) Channel38)
       ∷ []
   -- what the first seven packets leave in their transmit buffers, the bare replies' and the others as they were lent; and the longest reply
   pub octets : map (λ (e : Entry). drop 1 e.octets) (take 7 (drop 7 limits_trace))
@@ -279,30 +280,30 @@ long_trace =
 
 pub record Long : Type 0 where
   pub before : map (λ (e : Entry). e.result.answer) (take 10 long_trace)
-      ≡ Sent (header_of 0x0900) Channel38 (instant 100)
-      ∷ Sent (header_of 0x0900) Channel39 (instant 200)
-      ∷ Sent (header_of 0x0900) Channel37 (instant 300)
-      ∷ Sent (header_of 0x0900) Channel38 (instant 400)
-      ∷ Sent (header_of 0x0900) Channel39 (instant 500)
-      ∷ Sent (header_of 0x0900) Channel37 (instant 600)
-      ∷ Refused WrongMode
-      ∷ Sent (header_of 0x0900) Channel38 (instant 57)
-      ∷ Refused Eof
-      ∷ Sent (header_of 0x0900) Channel39 (instant 107)
+      ≡ Ok (Sent (header_of 0x0900) Channel38 (instant 100))
+      ∷ Ok (Sent (header_of 0x0900) Channel39 (instant 200))
+      ∷ Ok (Sent (header_of 0x0900) Channel37 (instant 300))
+      ∷ Ok (Sent (header_of 0x0900) Channel38 (instant 400))
+      ∷ Ok (Sent (header_of 0x0900) Channel39 (instant 500))
+      ∷ Ok (Sent (header_of 0x0900) Channel37 (instant 600))
+      ∷ Err WrongMode
+      ∷ Ok (Sent (header_of 0x0900) Channel38 (instant 57))
+      ∷ Err Eof
+      ∷ Ok (Sent (header_of 0x0900) Channel39 (instant 107))
       ∷ []
-  pub first : map (λ (e : Entry). e.result.answer) (take 1 (drop 10 long_trace)) ≡ FirstEvent (record { index = 3 }) (instant 9000) 0x8E89BED6 0x923456 ∷ []
+  pub first : map (λ (e : Entry). e.result.answer) (take 1 (drop 10 long_trace)) ≡ Ok (FirstEvent (record { index = 3 }) (instant 9000) 0x8E89BED6 0x923456) ∷ []
   -- the channels of the 40 events; the last three begin the cycle anew
   pub events : channels_by event_on (take 40 (drop 10 long_trace))
       ≡ 3 ∷ 1 ∷ 3 ∷ 1 ∷ 3 ∷ 1 ∷ 3 ∷ 3 ∷ 1 ∷ 3 ∷ 1 ∷ 3 ∷ 1 ∷ 3 ∷ 1 ∷ 1 ∷ 3 ∷ 1 ∷ 3 ∷ 1 ∷ 3 ∷ 1 ∷ 1 ∷ 3 ∷ 1 ∷ 3 ∷ 1 ∷ 3 ∷ 1 ∷ 1 ∷ 3 ∷ 1 ∷ 3 ∷ 1 ∷ 3 ∷ 1 ∷ 1 ∷ 3 ∷ 1 ∷ 3 ∷ []
   -- the runs: the ticks of the first start, the events of the connection, and the packets after the last tick before it
   pub runs : length (gather tick_run (drop 1 long_trace)) ∷ length (gather event_run (drop 11 long_trace)) ∷ length (gather hear_run (drop 10 long_trace)) ∷ [] ≡ 5 ∷ 39 ∷ 1 ∷ []
   pub after : map (λ (e : Entry). e.result.answer) (drop 50 long_trace)
-      ≡ Stopped
-      ∷ Refused WrongMode
-      ∷ Refused WrongMode
-      ∷ Refused WrongMode
-      ∷ Stopped
-      ∷ Sent (header_of 0x0900) Channel38 (instant 100)
-      ∷ Stopped
-      ∷ Refused WrongMode
+      ≡ Ok Stopped
+      ∷ Err WrongMode
+      ∷ Err WrongMode
+      ∷ Err WrongMode
+      ∷ Ok Stopped
+      ∷ Ok (Sent (header_of 0x0900) Channel38 (instant 100))
+      ∷ Ok Stopped
+      ∷ Err WrongMode
       ∷ []

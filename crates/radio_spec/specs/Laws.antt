@@ -17,7 +17,7 @@
 --   SetsScanData d                      (Replies.sets_scan_data)  which scan data are set, what that changes, and that no other call changes the reply
 --   HearsPacket d end h p crc_good tx    (Words.hears_packet)      what a packet call answers and writes
 --   Holds                               (Holding.holds)           all of these, with what they assume: demand 3, specs/Answering and specs/Examples too
-use Rattle.std.specs.Prelude.{Bool, true, false, List, [], ◌∷◌, ◌++◌, ◌⊎◌, ◌≡◌, ℕ, ◌+◌, ◌*◌, ◌%◌, ◌≤◌, ◌<◌, ◌^◌, length, drop}
+use Rattle.std.specs.Prelude.{Bool, true, false, List, [], ◌∷◌, ◌++◌, ◌⊎◌, ◌≡◌, ℕ, ◌+◌, ◌*◌, ◌%◌, ◌≤◌, ◌<◌, ◌^◌, length, drop, Ok, Err}
 use Rattle.octets.specs.Bytes.{part, le, at_front}
 use Rattle.octets.specs.Time.{later}
 use Rattle.octets.specs.declared.error.Error.{Error}
@@ -27,16 +27,15 @@ use Rattle.channels.specs.Hop.{event_channel}
 use Rattle.channels.specs.Map.{marks}
 use Rattle.records_spec.specs.Area.{read_area, rewritten}
 use Rattle.records_spec.specs.HubReads.{ZeroLength}
-use Rattle.records_spec.specs.declared.area.Area.TheVariants as area
 use Rattle.addresses.specs.Address.{is_random, kind_of, address_of}
 use Rattle.addresses.specs.Header.{header_bits, tx_add, rx_add, length_of}
 use Rattle.addresses.specs.declared.device_address.DeviceAddress.{DeviceAddress}
 use Rattle.addresses.specs.declared.header.Header.{Header}
 use Rattle.addresses.specs.declared.header.PduType.TheVariants.{ScanRsp}
 use Rattle.advertising.specs.Pdu.{request_of, decode_of, well_formed}
+use Rattle.advertising.specs.declared.pdu.Pdu.{Pdu}
 use Rattle.advertising.specs.PduBuf.{flags_record, payload_of}
 use Rattle.settings.specs.Settings.{Within, settings_in}
-use Rattle.octets.specs.declared.error.Outcome.TheVariants as outcome
 use Rattle.radio_spec.specs.Answering.{StartSends, TickSends, EventHops, ModeMoves}
 use Rattle.radio_spec.specs.Examples.{Example, TitleExample, Limits, Long}
 use Rattle.radio_spec.specs.Calls.{is_advertising, is_connected, instant, fresh, start_of, start_after, tick_of, tick_after, packet_of, packet_after, scan_data_of, event_of, stop_of}
@@ -44,7 +43,7 @@ use Rattle.radio_spec.specs.Demand.{number_in, transmitted, reply_header, reply_
 use Rattle.radio_spec.specs.Call.{Call, start, tick, packet, event, stop, set_scan_data, call_of, octets_of}
 use Rattle.radio_spec.specs.SoFar.{for_board, asks_to_scan, map_in, hop_in, connects, reply_size}
 use Rattle.radio_spec.specs.Trace.{Entry, accepted, InRun, ends, inside, outside, gather, tick_run, event_run, hear_run, Strikable}
-use Rattle.radio_spec.specs.declared.link.Answer.TheVariants.{Refused, Listen, Respond, FirstEvent, ScanDataSet}
+use Rattle.radio_spec.specs.declared.link.Answer.TheVariants.{Listen, Respond, FirstEvent, ScanDataSet}
 use Rattle.radio_spec.specs.State.{State}
 use Rattle.radio_spec.specs.declared.link.Mode.{Mode}
 use Rattle.radio_spec.specs.declared.link.Mode.TheVariants.{Standby, Advertising, Connected}
@@ -77,8 +76,8 @@ pub record Scans (own : DeviceAddress) (h : Header) (p : List ℕ) (crc_good : B
 pub record Words (own : DeviceAddress) (h : Header) (p : List ℕ) : Type 0 where
   pub standby : (fresh own).mode ≡ Standby
   pub address : (fresh own).dev_addr ≡ own
-  pub well_formed_law : well_formed h p ≡ true → (decode_of h p).outcome ≡ outcome.Accepted
-  pub well_formed_if : (decode_of h p).outcome ≡ outcome.Accepted → well_formed h p ≡ true
+  pub well_formed_law : well_formed h p ≡ true → (pdu : Pdu) × (decode_of h p ≡ Ok pdu)
+  pub well_formed_if : (pdu : Pdu) → decode_of h p ≡ Ok pdu → well_formed h p ≡ true
   pub for_board_law : for_board own h p ≡ true → ForBoard own h p
   pub for_board_if : ForBoard own h p → for_board own h p ≡ true
   pub scan_request_law : (crc_good : Bool) → asks_to_scan own crc_good h p ≡ true → Scans own h p crc_good
@@ -106,8 +105,8 @@ lent_by (set_scan_data records) = records ∷ []
 
 -- A refused call, of any device, leaves the device and every buffer as they were.
 pub record CallRefused (d : State) (c : Call) (e : Error) : Type 0 where
-  pub state : (call_of d c).answer ≡ Refused e → (call_of d c).state ≡ d
-  pub buffers : (call_of d c).answer ≡ Refused e → octets_of d c ≡ lent_by c
+  pub state : (call_of d c).answer ≡ Err e → (call_of d c).state ≡ d
+  pub buffers : (call_of d c).answer ≡ Err e → octets_of d c ≡ lent_by c
 
 abbrev pub in_runs : Bool → Call → List InRun
 in_runs ok c = tick_run ok c ∷ event_run ok c ∷ hear_run ok c ∷ []
@@ -169,10 +168,11 @@ pub record ReplyDecodes (own : DeviceAddress) (s : List ℕ) (n : ℕ) : Type 0 
   pub counted : length_of (reply_header own s) ≡ 6 + length s
   pub reserved : (header_bits 4 2 (reply_header own s) ≡ 0) × (header_bits 14 2 (reply_header own s) ≡ 0)
   pub of_16_bits : (reply_header own s).0 < 2 ^ 16
-  pub decoded : (decode_of (reply_header own s) (reply_octets own s)).outcome ≡ outcome.Accepted
-  pub type : (decode_of (reply_header own s) (reply_octets own s)).pdu.ty ≡ ScanRsp
-  pub sender : (decode_of (reply_header own s) (reply_octets own s)).pdu.sender ≡ own
-  pub count : (decode_of (reply_header own s) (reply_octets own s)).pdu.adv_data.count ≡ n
+  pub pdu : Pdu
+  pub decoded : decode_of (reply_header own s) (reply_octets own s) ≡ Ok pdu
+  pub type : pdu.ty ≡ ScanRsp
+  pub sender : pdu.sender ≡ own
+  pub count : pdu.adv_data.count ≡ n
 
 -- "A fresh device", of an address of six octets, has the reply without scan data.
 abbrev pub Bare : DeviceAddress → Type 0
@@ -180,15 +180,15 @@ Bare own = ReplyOf own [] (fresh own).scan_response
 
 -- A start, in any mode, with a bad area is refused as its first bad record is, before its size and the transmit buffer are looked at; zeros after the records are 2.
 pub record BadStart (d : State) (time : Instant) (interval : ℕ) (records tx : List ℕ) : Type 0 where
-  pub bad_area : (e : Error) → read_area records ≡ area.Refused e → call_of d (start time interval records tx) ≡ record { answer = Refused e; state = d }
-  pub zeros : ZeroLength records → call_of d (start time interval records tx) ≡ record { answer = Refused InvalidLength; state = d }
+  pub bad_area : (e : Error) → read_area records ≡ Err e → call_of d (start time interval records tx) ≡ record { answer = Err e; state = d }
+  pub zeros : ZeroLength records → call_of d (start time interval records tx) ≡ record { answer = Err InvalidLength; state = d }
 
 -- Scan data are set, in any mode, where they are an accepted area of at most 31 octets, and refused otherwise, a bad area as its first bad record is. The
 -- reply is then theirs, and nothing else changes; no other call changes the reply.
 pub record SetsScanData (d : State) : Type 0 where
-  pub accepted : length d.dev_addr.bytes ≡ 6 → (s : List ℕ) (n : ℕ) → read_area s ≡ area.Accepted n → length s ≤ 31 → (call_of d (set_scan_data s)).answer ≡ ScanDataSet
-  pub bad_area : (s : List ℕ) (e : Error) → read_area s ≡ area.Refused e → (call_of d (set_scan_data s)).answer ≡ Refused e
-  pub too_long : length d.dev_addr.bytes ≡ 6 → (s : List ℕ) (n : ℕ) → read_area s ≡ area.Accepted n → 31 < length s → (call_of d (set_scan_data s)).answer ≡ Refused Eof
+  pub accepted : length d.dev_addr.bytes ≡ 6 → (s : List ℕ) (n : ℕ) → read_area s ≡ Ok n → length s ≤ 31 → (call_of d (set_scan_data s)).answer ≡ Ok ScanDataSet
+  pub bad_area : (s : List ℕ) (e : Error) → read_area s ≡ Err e → (call_of d (set_scan_data s)).answer ≡ Err e
+  pub too_long : length d.dev_addr.bytes ≡ 6 → (s : List ℕ) (n : ℕ) → read_area s ≡ Ok n → 31 < length s → (call_of d (set_scan_data s)).answer ≡ Err Eof
   pub reply : length d.dev_addr.bytes ≡ 6 → (s : List ℕ) → number_in (call_of d (set_scan_data s)).answer ≡ 0
       → ReplyOf d.dev_addr s (call_of d (set_scan_data s)).state.scan_response
   pub alone : (s : List ℕ)
@@ -206,25 +206,25 @@ pub record SetsScanData (d : State) : Type 0 where
 -- octets, where it marks no channel is 6, and where it marks one and has a setting outside its range is 12. Only a scan request to us changes the transmit
 -- buffer.
 pub record HearsPacket (d : State) (end : Instant) (h : Header) (p : List ℕ) (crc_good : Bool) (tx : List ℕ) : Type 0 where
-  pub off : is_advertising d.mode ≡ false → packet_of d end h p crc_good tx ≡ record { answer = Refused WrongMode; state = d }
+  pub off : is_advertising d.mode ≡ false → packet_of d end h p crc_good tx ≡ record { answer = Err WrongMode; state = d }
   pub bad : d.mode ≡ Advertising → Strikable d.dev_addr (packet end h p crc_good tx)
-      → packet_of d end h p crc_good tx ≡ record { answer = Listen d.adv.channel; state = d }
+      → packet_of d end h p crc_good tx ≡ record { answer = Ok (Listen d.adv.channel); state = d }
   pub other : d.mode ≡ Advertising → crc_good ≡ true → ForBoard d.dev_addr h p → header_bits 0 4 h ≡ 1
-      → packet_of d end h p crc_good tx ≡ record { answer = Listen d.adv.channel; state = d }
+      → packet_of d end h p crc_good tx ≡ record { answer = Ok (Listen d.adv.channel); state = d }
   pub scan : (s : List ℕ) → length d.dev_addr.bytes ≡ 6 → ReplyOf d.dev_addr s d.scan_response → d.mode ≡ Advertising → Scans d.dev_addr h p crc_good
       → reply_size s ≤ length tx
-      → (packet_of d end h p crc_good tx ≡ record { answer = Respond (reply_header d.dev_addr s) d.adv.channel; state = d })
+      → (packet_of d end h p crc_good tx ≡ record { answer = Ok (Respond (reply_header d.dev_addr s) d.adv.channel); state = d })
       × (packet_after d h p crc_good tx ≡ reply_octets d.dev_addr s ++ drop (reply_size s) tx)
   pub no_room : (s : List ℕ) → length d.dev_addr.bytes ≡ 6 → ReplyOf d.dev_addr s d.scan_response → d.mode ≡ Advertising → Scans d.dev_addr h p crc_good
-      → length tx < reply_size s → packet_of d end h p crc_good tx ≡ record { answer = Refused Eof; state = d }
+      → length tx < reply_size s → packet_of d end h p crc_good tx ≡ record { answer = Err Eof; state = d }
   pub request : d.mode ≡ Advertising → Requests d.dev_addr h p crc_good
       → (packet_of d end h p crc_good tx).answer
-      ≡ FirstEvent (record { index = event_channel (part 5 p 28) (le (part 1 p 33) % 32) 0 })
-      (instant (later end.0 (le (part 2 p 20) * 1250 + le (part 1 p 19) * 1250 + 1750))) (le (part 4 p 12)) (le (part 3 p 16))
+      ≡ Ok (FirstEvent (record { index = event_channel (part 5 p 28) (le (part 1 p 33) % 32) 0 })
+      (instant (later end.0 (le (part 2 p 20) * 1250 + le (part 1 p 19) * 1250 + 1750))) (le (part 4 p 12)) (le (part 3 p 16)))
   pub empty : d.mode ≡ Advertising → crc_good ≡ true → ForBoard d.dev_addr h p → header_bits 0 4 h ≡ 5 → marks (part 5 p 28) ≡ 0
-      → packet_of d end h p crc_good tx ≡ record { answer = Refused EmptyMap; state = d }
+      → packet_of d end h p crc_good tx ≡ record { answer = Err EmptyMap; state = d }
   pub outside : d.mode ≡ Advertising → crc_good ≡ true → ForBoard d.dev_addr h p → header_bits 0 4 h ≡ 5 → 1 ≤ marks (part 5 p 28) → (Within (settings_in (request_of p)) → ⊥)
-      → packet_of d end h p crc_good tx ≡ record { answer = Refused OutOfRange; state = d }
+      → packet_of d end h p crc_good tx ≡ record { answer = Err OutOfRange; state = d }
   pub unwritten : (Scans d.dev_addr h p crc_good → ⊥) → packet_after d h p crc_good tx ≡ tx
 
 -- All of these, with what they assume. An address has six octets: every `DeviceAddress` of the code has.
@@ -236,7 +236,7 @@ pub record Holds : Type 0 where
   pub list_words : ListWords
   pub calls_by_contracts : (d : State) → CallsByContracts d
   pub transmits : (d : State) (tx : List ℕ) → Transmits d tx
-  pub reply_decodes : (own : DeviceAddress) (s : List ℕ) (n : ℕ) → length own.bytes ≡ 6 → read_area s ≡ area.Accepted n → length s ≤ 31 → ReplyDecodes own s n
+  pub reply_decodes : (own : DeviceAddress) (s : List ℕ) (n : ℕ) → length own.bytes ≡ 6 → read_area s ≡ Ok n → length s ≤ 31 → ReplyDecodes own s n
   pub bare : (own : DeviceAddress) → length own.bytes ≡ 6 → Bare own
   pub bad_start : (d : State) (tx : List ℕ) (time : Instant) (interval : ℕ) (records : List ℕ) → BadStart d time interval records tx
   pub sets_scan_data : (d : State) → SetsScanData d

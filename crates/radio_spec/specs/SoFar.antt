@@ -14,25 +14,24 @@
 --   refused_by own l c            == the number of the row of the table that refuses a call; 0 where none does
 --   then_call own l c             == what the list says after the call; then_calls: after calls
 --   mode_after, scan_data_after     == the mode and the scan data that a list gives at its end
-use Rattle.std.specs.Prelude.{Bool, true, false, cond, not, ◌&&◌, ◌||◌, List, [], ◌∷◌, ℕ, zero, suc, ◌+◌, ◌%◌, eqb, leb, ltb, length}
+use Rattle.std.specs.Prelude.{Bool, true, false, cond, not, ◌&&◌, ◌||◌, List, [], ◌∷◌, ℕ, zero, suc, ◌+◌, ◌%◌, eqb, leb, ltb, length, Result, Ok, Err}
 use Rattle.octets.specs.Bytes.{le}
 use Rattle.octets.specs.Error.{number_of}
 use Rattle.channels.specs.Map.{marks}
 use Rattle.channels.specs.Phy.{first_channel, cycled}
 use Rattle.channels.specs.declared.phy.AdvertisingChannel.{AdvertisingChannel}
 use Rattle.records_spec.specs.Area.{read_area}
-use Rattle.records_spec.specs.declared.area.Area.{Area}
-use Rattle.records_spec.specs.declared.area.Area.TheVariants as area
 use Rattle.addresses.specs.declared.device_address.DeviceAddress.{DeviceAddress}
 use Rattle.addresses.specs.declared.header.Header.{Header}
 use Rattle.addresses.specs.declared.header.PduType.{PduType}
 use Rattle.addresses.specs.declared.header.PduType.TheVariants.{AdvInd, AdvDirectInd, AdvNonconnInd, AdvScanInd, ScanReq, ScanRsp, ConnectReq, Unknown}
 use Rattle.advertising.specs.Pdu.{field_at, ll_data_figure, ll_data_in, request_of, decode_of, well_formed}
 use Rattle.settings.specs.Settings.{is_within, settings_in}
-use Rattle.radio_spec.specs.Calls.{is_advertising, is_connected, is_scan_request, is_for}
+use Rattle.radio_spec.specs.Calls.{is_advertising, is_connected, is_scan_request, addressed_to, asks}
 use Rattle.radio_spec.specs.declared.link.Mode.{Mode}
 use Rattle.radio_spec.specs.declared.link.Mode.TheVariants.{Standby, Advertising, Connected}
 use Rattle.radio_spec.specs.Call.{Call, start, tick, packet, event, stop, set_scan_data}
+use Rattle.octets.specs.declared.error.Error.{Error}
 
 abbrev pub is_connect_request : PduType → Bool
 is_connect_request ConnectReq = true
@@ -45,10 +44,10 @@ is_connect_request ScanRsp = false
 is_connect_request (Unknown n) = false
 
 abbrev pub for_board : DeviceAddress → Header → List ℕ → Bool
-for_board own h p = is_for own (decode_of h p).pdu
+for_board own h p = addressed_to own (decode_of h p)
 
 unfoldable pub requested : (PduType → Bool) → DeviceAddress → Bool → Header → List ℕ → Bool
-requested is own crc_good h p = crc_good && (well_formed h p && (for_board own h p && is (decode_of h p).pdu.ty))
+requested is own crc_good h p = crc_good && (well_formed h p && asks is own (decode_of h p))
 
 abbrev pub asks_to_connect : DeviceAddress → Bool → Header → List ℕ → Bool
 asks_to_connect own crc_good h p = requested is_connect_request own crc_good h p
@@ -101,9 +100,9 @@ abbrev pub first_of : ℕ → ℕ → ℕ
 first_of zero m = m
 first_of (suc n) m = suc n
 
-abbrev pub area_number : Area → ℕ
-area_number (area.Accepted n) = 0
-area_number (area.Refused e) = number_of e
+abbrev pub area_number : Result ℕ Error → ℕ
+area_number (Ok n) = 0
+area_number (Err e) = number_of e
 
 -- bad records; more than 28 octets; a payload of 9 octets and the records' that the transmit buffer has no room for
 unfoldable pub start_number : List ℕ → List ℕ → ℕ

@@ -5,7 +5,7 @@
 --   State               == a device
 --   Step                == what a call gives
 --   in_mode m d, with_adv a d, with_conn c d, with_reply pdu d == the state d in another mode, with another advertisement, connection or reply, and nothing else changed
-use Rattle.std.specs.Prelude.{ℕ}
+use Rattle.std.specs.Prelude.{ℕ, Result}
 use Rattle.octets.specs.declared.time.Instant.{Instant}
 use Rattle.channels.specs.declared.channel_map.ChannelMap.{ChannelMap}
 use Rattle.channels.specs.declared.phy.AdvertisingChannel.{AdvertisingChannel}
@@ -13,6 +13,7 @@ use Rattle.addresses.specs.declared.device_address.DeviceAddress.{DeviceAddress}
 use Rattle.advertising.specs.declared.pdu_buf.PduBuf.{PduBuf}
 use Rattle.radio_spec.specs.declared.link.Answer.{Answer}
 use Rattle.radio_spec.specs.declared.link.Mode.{Mode}
+use Rattle.octets.specs.declared.error.Error.{Error}
 
 -- when the next tick is due, the µs from one tick to the next, what every tick sends, and the channel of the last one
 pub record Advertisement : Type 0 where
@@ -48,5 +49,5 @@ abbrev pub with_reply : PduBuf → State → State
 with_reply pdu d = record { mode = d.mode; dev_addr = d.dev_addr; scan_response = pdu; adv = d.adv; conn = d.conn }
 
 pub record Step : Type 0 where
-  pub answer : Answer
+  pub answer : Result Answer Error
   pub state : State

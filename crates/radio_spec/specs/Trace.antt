@@ -12,7 +12,7 @@
 --   times c k n channels      == how many of the n channels from place k on are c
 --   Strikable, Choice         == packets that may be struck out, and any choice of them
 --   remaining ch xs           == what remains of a list where the chosen are struck out
-use Rattle.std.specs.Prelude.{Bool, false, cond, List, [], ◌∷◌, map, ◌≡◌, ℕ, ◌+◌, eqb, get_or}
+use Rattle.std.specs.Prelude.{Bool, false, cond, List, [], ◌∷◌, map, ◌≡◌, ℕ, ◌+◌, eqb, get_or, Result, Ok, Err}
 use Rattle.octets.specs.declared.time.Instant.{Instant}
 use Rattle.channels.specs.Count.{count}
 use Rattle.channels.specs.Phy.{index_of}
@@ -22,11 +22,12 @@ use Rattle.addresses.specs.declared.header.Header.{Header}
 use Rattle.advertising.specs.Pdu.{well_formed}
 use Rattle.radio_spec.specs.Calls.{fresh}
 use Rattle.radio_spec.specs.declared.link.Answer.{Answer}
-use Rattle.radio_spec.specs.declared.link.Answer.TheVariants.{Refused, Sent, Listen, Respond, FirstEvent, NextEvent, Stopped, ScanDataSet}
+use Rattle.radio_spec.specs.declared.link.Answer.TheVariants.{Sent, Listen, Respond, FirstEvent, NextEvent, Stopped, ScanDataSet}
 use Rattle.radio_spec.specs.State.{State, Step}
 use Rattle.radio_spec.specs.declared.link.Mode.{Mode}
 use Rattle.radio_spec.specs.Call.{Call, start, tick, packet, event, stop, set_scan_data, call_of, octets_of}
 use Rattle.radio_spec.specs.SoFar.{for_board, SoFar, at_first, refused_by, then_call}
+use Rattle.octets.specs.declared.error.Error.{Error}
 
 -- a call in its list: the mode, the channel, the scan data and the number of the table, as the list says, then the call, all that it returned, and its
 -- octets afterwards
@@ -69,27 +70,27 @@ pub data AtEach (P : Entry → List Entry → Type 0) : List Entry → Type 0 wh
 -- Channels used
 
 -- the channel of a tick's answer, and that of an event's; 40, which is no channel, for any other answer
-abbrev pub tick_on : Answer → ℕ
-tick_on (Sent header channel next) = index_of channel
-tick_on (Refused e) = 40
-tick_on (Listen channel) = 40
-tick_on (Respond header channel) = 40
-tick_on (FirstEvent channel at access crc) = 40
-tick_on (NextEvent channel) = 40
-tick_on Stopped = 40
-tick_on ScanDataSet = 40
+abbrev pub tick_on : Result Answer Error → ℕ
+tick_on (Ok (Sent header channel next)) = index_of channel
+tick_on (Err e) = 40
+tick_on (Ok (Listen channel)) = 40
+tick_on (Ok (Respond header channel)) = 40
+tick_on (Ok (FirstEvent channel at access crc)) = 40
+tick_on (Ok (NextEvent channel)) = 40
+tick_on (Ok Stopped) = 40
+tick_on (Ok ScanDataSet) = 40
 
-abbrev pub event_on : Answer → ℕ
-event_on (FirstEvent channel at access crc) = channel.index
-event_on (NextEvent channel) = channel.index
-event_on (Refused e) = 40
-event_on (Sent header channel next) = 40
-event_on (Listen channel) = 40
-event_on (Respond header channel) = 40
-event_on Stopped = 40
-event_on ScanDataSet = 40
+abbrev pub event_on : Result Answer Error → ℕ
+event_on (Ok (FirstEvent channel at access crc)) = channel.index
+event_on (Ok (NextEvent channel)) = channel.index
+event_on (Err e) = 40
+event_on (Ok (Sent header channel next)) = 40
+event_on (Ok (Listen channel)) = 40
+event_on (Ok (Respond header channel)) = 40
+event_on (Ok Stopped) = 40
+event_on (Ok ScanDataSet) = 40
 
-abbrev pub channels_by : (Answer → ℕ) → List Entry → List ℕ
+abbrev pub channels_by : (Result Answer Error → ℕ) → List Entry → List ℕ
 channels_by channel entries = map (λ (e : Entry). channel e.result.answer) entries
 
 -- what an entry is to a run of ticks, of events or of packets: its end, one of the run, or neither
@@ -134,9 +135,9 @@ hear_run ok event = outside
 hear_run ok stop = outside
 hear_run ok (set_scan_data records) = outside
 
-pub data ListensOn (c : AdvertisingChannel) : Answer → Type 0 where
-  keeps : ListensOn c (Listen c)
-  replies : {header : Header} → ListensOn c (Respond header c)
+pub data ListensOn (c : AdvertisingChannel) : Result Answer Error → Type 0 where
+  keeps : ListensOn c (Ok (Listen c))
+  replies : {header : Header} → ListensOn c (Ok (Respond header c))
 
 abbrev pub times : ℕ → ℕ → ℕ → List ℕ → ℕ
 times c k n channels = count (λ j. eqb (get_or channels (k + j) 0) c) n

@@ -1,11 +1,10 @@
 // What a device is in, and what a call answers. The device itself is in `radio`, its state in specs/State.antt.
 use addresses::header::Header;
 use channels::phy::{AdvertisingChannel, DataChannel};
-use octets::error::Error;
 use octets::time::Instant;
 
 // Which of the advertisement and the connection of a device has a meaning, if any.
-#[derive(Clone, Copy)]
+#[derive(Clone, Copy, Debug, PartialEq, Eq)]
 pub enum Mode {
     // The radio is off.
     Standby,
@@ -15,10 +14,9 @@ pub enum Mode {
     Connected,
 }
 
-// What a call answers.
+// What an accepted call answers.
 #[derive(Clone, Copy)]
 pub enum Answer {
-    Refused(Error),
     // Transmit this header and the transmit buffer on the channel, listen there, and tick again at `next_adv`.
     Sent {
         header: Header,

@@ -4,18 +4,18 @@
 --   front area         == the iterator at the front of an area
 --   onward it          == the iterator past the record at its position
 --   rest_place s at     == the place of the part of s from position `at` on
-use Rattle.std.specs.Prelude.{ℕ, ◌+◌, min, List, length}
+use Rattle.std.specs.Prelude.{ℕ, ◌+◌, min, List, length, Result, Ok, Option, Some, None, Err}
 use Rattle.std.specs.Borrow.{Bor}
-use Rattle.records_spec.specs.declared.ad_structure.Read.{Read}
-use Rattle.records_spec.specs.declared.ad_structure.Read.TheVariants.{Record, End}
 use Rattle.records_spec.specs.Record.{record_at}
 use Rattle.record_iter.specs.declared.Records.{Records}
+use Rattle.records_spec.specs.declared.ad_structure.AdStructure.{AdStructure}
+use Rattle.octets.specs.declared.error.Error.{Error}
 
 -- by what was read at `at`
-abbrev pub at_next : ℕ → Read → ℕ
-at_next at (Record a next) = next
-at_next at End = at
-at_next at (Read.Refused e) = at
+abbrev pub at_next : ℕ → Result (Option (AdStructure × ℕ)) Error → ℕ
+at_next at (Ok (Some (a, next))) = next
+at_next at (Ok None) = at
+at_next at (Err e) = at
 
 abbrev pub position_after : List ℕ → ℕ → ℕ
 position_after s at = at_next at (record_at s at)

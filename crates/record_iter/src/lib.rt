@@ -7,9 +7,10 @@ ghost use Rattle.records_spec.specs.Record.{record_at};
 ghost use Rattle.records_spec.specs.Area.{read_area};
 ghost use Rattle.record_iter.specs.Iter.{position_after, rest_place, front, onward};
 
-use records::ad_structure::{Read, read_record};
-use records::area::Area;
+use octets::error::Error;
+use records::ad_structure::{AdStructure, read_record};
 
+// By value, as all state is here: std's `Iterator` would be held behind a `&mut`.
 #[derive(Clone, Copy)]
 pub struct Records<'a> {
     records: &'a [u8],
@@ -21,9 +22,9 @@ fn position_after(s: &[u8], at: usize) -> usize
     ensures { result ≡ position_after s.now at }
 {
     match read_record(s, at) {
-        Read::Record(_, next) => next,
-        Read::End => at,
-        Read::Refused(_) => at,
+        Ok(Some((_, next))) => next,
+        Ok(None) => at,
+        Err(_) => at,
     }
 }
 
@@ -51,7 +52,7 @@ impl<'a> Records<'a> {
     }
 
     // The record at the iterator's position.
-    pub fn next(self) -> Read
+    pub fn next(self) -> Result<Option<(AdStructure, usize)>, Error>
         ensures { result ≡ record_at self.entry.records.now self.entry.at }
     {
         read_record(self.records, self.at)
@@ -77,23 +78,15 @@ impl<'a> Records<'a> {
 }
 
 // Reads a whole area through the iterator, as `read_area` does: its callers hold no iterator.
-pub fn read_through(area: &[u8]) -> Area
+pub fn read_through(area: &[u8]) -> Result<usize, Error>
     ensures { result ≡ read_area area.now }
 {
     let mut records = Records::new(area);
     let mut count = 0;
-    loop {
-        match records.next() {
-            Read::Record(_, _) => {
-                records = records.moved();
-                count += 1;
-            }
-            Read::End => {
-                return Area::Accepted(count);
-            }
-            Read::Refused(e) => {
-                return Area::Refused(e);
-            }
-        }
+    // By a loop: the iterator is a value, which `moved` hands on.
+    while let Some(_) = records.next()? {
+        records = records.moved();
+        count += 1;
     }
+    Ok(count)
 }

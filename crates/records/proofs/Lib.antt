@@ -1,1 +1,4 @@
 pub mod Rewriting
+pub mod Searching
+pub mod Checks
+pub mod Writing

@@ -1,20 +1,54 @@
 // AD structures, here called records, read and written.
-ghost use Rattle.std.specs.Prelude.{◌≡◌, ◌++◌, cond, ◌+◌, ◌≤◌, ◌<◌, ◌^◌, length, get_or, drop};
-ghost use Rattle.octets.specs.Bytes.{written};
-ghost use Rattle.records_spec.specs.Record.{record_of, uuid_list, flags_read, uuids_read, local_name, name_read, pair_kind, pair_read, data_read, kind_read, first, record_read, known_read, record_at};
+ghost use Rattle.std.specs.Prelude.{◌≡◌, ◌+◌, ◌≤◌, ◌<◌, ◌^◌, length, get_or, drop};
+ghost use Rattle.records_spec.specs.Record.{uuid_list, flags_read, uuids_read, local_name, name_read, number_read, data_read, kind_read, first, record_read, known_read, record_at};
 ghost use Rattle.records_spec.specs.Uuids.{uuid16_at};
-ghost use Rattle.records_spec.specs.Write.{IsOutline, lent_outline, lent_check, space_in, and_then, lent_to, lent_after, written_to, written_after};
-ghost use Rattle.records.specs.State.{outline_state};
+ghost use Rattle.records_spec.specs.Write.{IsOutline, list_type, list_check, lent_outline, space_in, lent_to, lent_after, written_to, written_after};
+ghost use Rattle.records.specs.State.{content_check, outline_state};
 
 pub use flags::Flags;
 use octets::bytes::{
-    ByteReader, ByteWriter, Written, has_octets, u16_from_le_bytes, u16_to_le_bytes,
+    ByteReader, ByteWriter, FromBytes, Part, has_octets, u16_from_le_bytes, u16_to_le_bytes,
 };
 use octets::comp_id::CompanyId;
-use octets::error::{Error, Outcome};
-use octets::uuid::{Uuid16, Uuid16Read, UuidKind};
-pub use records_spec::ad_structure::{AdStructure, NextUuid16, Parsed, Read};
+use octets::error::Error;
+use octets::uuid::{Uuid16, UuidKind};
+pub use records_spec::ad_structure::AdStructure;
 use utf8::is_utf8;
+
+// What the data of a record must be.
+#[derive(Clone, Copy)]
+enum Content {
+    Octets,
+    // A list of whole UUIDs.
+    Uuids(UuidKind),
+    // UTF-8.
+    Text,
+}
+
+impl Content {
+    // Refuses data that are not so.
+    fn check(self, data: &[u8]) -> Result<(), Error>
+        ensures { result ≡ content_check self «data».now }
+    {
+        match self {
+            Content::Octets => Ok(()),
+            Content::Uuids(kind) => {
+                if data.len() % kind.size() == 0 {
+                    Ok(())
+                } else {
+                    Err(Error::Eof)
+                }
+            }
+            Content::Text => {
+                if is_utf8(data) {
+                    Ok(())
+                } else {
+                    Err(Error::InvalidValue)
+                }
+            }
+        }
+    }
+}
 
 // What is written of a record.
 #[derive(Clone, Copy)]
@@ -23,12 +57,10 @@ struct Outline {
     // What the record holds itself, least significant octet first, and how many octets of that are written.
     own: u16,
     held: usize,
-    // Where its lent data lie.
+    // Where its lent data lie, and what they must be.
     start: usize,
     len: usize,
-    // These must be UTF-8, or whole units of so many octets.
-    name: bool,
-    unit: usize,
+    content: Content,
 }
 
 fn outline_of(ad: AdStructure) -> Outline
@@ -41,59 +73,36 @@ fn outline_of(ad: AdStructure) -> Outline
             held: 1,
             start: 0,
             len: 0,
-            name: false,
-            unit: 1,
+            content: Content::Octets,
         },
         AdStructure::ServiceUuids16 {
             complete,
             start,
             len,
-        } => {
-            let ty = either(
-                complete,
-                Type::COMPLETE_LIST_OF_16BIT_SERVICE_UUIDS,
-                Type::INCOMPLETE_LIST_OF_16BIT_SERVICE_UUIDS,
-            );
-            lent(ty, start, len, false, 2)
-        }
+        } => list(UuidKind::Uuid16, complete, start, len),
         AdStructure::ServiceUuids32 {
             complete,
             start,
             len,
-        } => {
-            let ty = either(
-                complete,
-                Type::COMPLETE_LIST_OF_32BIT_SERVICE_UUIDS,
-                Type::INCOMPLETE_LIST_OF_32BIT_SERVICE_UUIDS,
-            );
-            lent(ty, start, len, false, 4)
-        }
+        } => list(UuidKind::Uuid32, complete, start, len),
         AdStructure::ServiceUuids128 {
             complete,
             start,
             len,
-        } => {
-            let ty = either(
-                complete,
-                Type::COMPLETE_LIST_OF_128BIT_SERVICE_UUIDS,
-                Type::INCOMPLETE_LIST_OF_128BIT_SERVICE_UUIDS,
-            );
-            lent(ty, start, len, false, 16)
-        }
+        } => list(UuidKind::Uuid128, complete, start, len),
         AdStructure::ServiceData16 { uuid, start, len } => Outline {
             ty: Type::SERVICE_DATA_16BIT_UUID,
             own: uuid,
             held: 2,
             start,
             len,
-            name: false,
-            unit: 1,
+            content: Content::Octets,
         },
         AdStructure::CompleteLocalName { start, len } => {
-            lent(Type::COMPLETE_LOCAL_NAME, start, len, true, 1)
+            lent(Type::COMPLETE_LOCAL_NAME, start, len, Content::Text)
         }
         AdStructure::ShortenedLocalName { start, len } => {
-            lent(Type::SHORTENED_LOCAL_NAME, start, len, true, 1)
+            lent(Type::SHORTENED_LOCAL_NAME, start, len, Content::Text)
         }
         AdStructure::ManufacturerSpecificData {
             company_identifier,
@@ -105,16 +114,15 @@ fn outline_of(ad: AdStructure) -> Outline
             held: 2,
             start,
             len,
-            name: false,
-            unit: 1,
+            content: Content::Octets,
         },
-        AdStructure::Unknown { ty, start, len } => lent(ty, start, len, false, 1),
+        AdStructure::Unknown { ty, start, len } => lent(ty, start, len, Content::Octets),
     }
 }
 
 // The outline of a record that holds nothing itself.
-fn lent(ty: u8, start: usize, len: usize, name: bool, unit: usize) -> Outline
-    ensures { outline_state result ≡ lent_outline ty start len name unit }
+fn lent(ty: u8, start: usize, len: usize, content: Content) -> Outline
+    ensures { outline_state result ≡ lent_outline ty start len (content_check content) }
 {
     Outline {
         ty,
@@ -122,96 +130,72 @@ fn lent(ty: u8, start: usize, len: usize, name: bool, unit: usize) -> Outline
         held: 0,
         start,
         len,
-        name,
-        unit,
+        content,
     }
 }
 
-// The type octet of a complete list, or of an incomplete one.
-fn either(first: bool, a: u8, b: u8) -> u8
-    ensures { result ≡ cond first a b }
+// The outline of a list of UUIDs.
+fn list(kind: UuidKind, complete: bool, start: usize, len: usize) -> Outline
+    ensures { outline_state result ≡ lent_outline (list_type kind complete) start len (list_check kind) }
 {
-    if first { a } else { b }
+    lent(list_type(kind, complete), start, len, Content::Uuids(kind))
+}
+
+// The type octet of a list of UUIDs.
+fn list_type(kind: UuidKind, complete: bool) -> u8
+    ensures { result ≡ list_type kind complete }
+{
+    match (kind, complete) {
+        (UuidKind::Uuid16, false) => Type::INCOMPLETE_LIST_OF_16BIT_SERVICE_UUIDS,
+        (UuidKind::Uuid16, true) => Type::COMPLETE_LIST_OF_16BIT_SERVICE_UUIDS,
+        (UuidKind::Uuid32, false) => Type::INCOMPLETE_LIST_OF_32BIT_SERVICE_UUIDS,
+        (UuidKind::Uuid32, true) => Type::COMPLETE_LIST_OF_32BIT_SERVICE_UUIDS,
+        (UuidKind::Uuid128, false) => Type::INCOMPLETE_LIST_OF_128BIT_SERVICE_UUIDS,
+        (UuidKind::Uuid128, true) => Type::COMPLETE_LIST_OF_128BIT_SERVICE_UUIDS,
+    }
 }
 
 // Whether `len` octets of data may be written at position `at` of `size` octets, with a length and a type before them.
-fn space_for(len: usize, at: usize, size: usize) -> Outcome
+fn space_for(len: usize, at: usize, size: usize) -> Result<(), Error>
     requires { len + 2 < 2 ^ 64 }
     ensures { result ≡ space_in len size at }
 {
-    if size < at {
-        return Outcome::Refused(Error::Eof);
-    }
-    if size - at < len + 2 {
-        return Outcome::Refused(Error::Eof);
+    if size < at || size - at < len + 2 {
+        return Err(Error::Eof);
     }
     if 255 < len + 1 {
-        return Outcome::Refused(Error::RecordLength);
+        return Err(Error::RecordLength);
     }
-    Outcome::Accepted
-}
-
-// Refuses a name that is not UTF-8 and data that are not whole units, then too little space and a record that is too long.
-fn may_write(name: bool, unit: usize, data: &[u8], len: usize, at: usize, size: usize) -> Outcome
-    requires { (0 < unit) × (len + 2 < 2 ^ 64) }
-    ensures { result ≡ and_then (lent_check name unit «data».now) (space_in len size at) }
-{
-    if name {
-        if is_utf8(data) {
-            return space_for(len, at, size);
-        }
-        return Outcome::Refused(Error::InvalidValue);
-    }
-    if data.len() % unit == 0 {
-        return space_for(len, at, size);
-    }
-    Outcome::Refused(Error::Eof)
-}
-
-// Copies src over dst, which is as long.
-fn copy_octets(src: &[u8], dst: &mut [u8])
-    requires { length src.now ≡ length dst.old }
-    ensures { dst.new ≡ src.now }
-{
-    let mut i = 0;
-    while i < src.len() {
-        dst[i] = src[i];
-        i += 1;
-    }
-}
-
-// Writes length, type, a record's own octets and its data at position `at`.
-fn put_raw(len: u8, ty: u8, own: &[u8], data: &[u8], at: usize, out: &mut [u8])
-    requires { (at + 2 + length own.now + length «data».now ≤ length out.old) × (len ≡ 1 + length own.now + length «data».now) }
-    ensures { out.new ≡ written (record_of ty (own.now ++ «data».now)) out.old at }
-{
-    let after_type = at + 2;
-    let mid = after_type + own.len();
-    let end = mid + data.len();
-    out[at] = len;
-    out[at + 1] = ty;
-    copy_octets(own, &mut out[after_type..mid]);
-    copy_octets(data, &mut out[mid..end]);
+    Ok(())
 }
 
 // Writes a record whose lent data are given, where these may be written.
-fn write_lent(outline: Outline, data: &[u8], writer: ByteWriter, out: &mut [u8]) -> Written
-    requires { (outline.held ≤ 2) × (0 < outline.unit) }
+fn write_lent(
+    outline: Outline,
+    data: &[u8],
+    writer: ByteWriter,
+    out: &mut [u8],
+) -> Result<ByteWriter, Error>
+    requires { outline.held ≤ 2 }
     ensures { (result ≡ lent_to (outline_state outline) «data».now out.old writer.at) × (out.new ≡ lent_after (outline_state outline) «data».now out.old writer.at) }
 {
-    let at = writer.at;
-    let held = outline.held;
-    let len = held + data.len();
-    if let Outcome::Refused(e) = may_write(outline.name, outline.unit, data, len, at, out.len()) {
-        return Written::Refused(e);
-    }
+    let len = outline.held + data.len();
+    outline.content.check(data)?;
+    space_for(len, writer.at, out.len())?;
+    let header = [(len + 1) as u8, outline.ty];
     let own = u16_to_le_bytes(outline.own);
-    put_raw((len + 1) as u8, outline.ty, &own[..held], data, at, out);
-    Written::To(ByteWriter { at: at + 2 + len })
+    let after_header = writer.write_slice(out, &header)?;
+    let after_own = after_header.write_slice(out, &own[..outline.held])?;
+    after_own.write_slice(out, data)
 }
 
 // Writes a record whose data lie in s.
-pub fn write_record(ad: AdStructure, s: &[u8], writer: ByteWriter, out: &mut [u8]) -> Written
+pub fn write_record(
+    ad: AdStructure,
+    s: &[u8],
+    writer: ByteWriter,
+    out: &mut [u8],
+) -> Result<ByteWriter, Error>
     ensures { (result ≡ written_to ad s.now out.old writer.at) × (out.new ≡ written_after ad s.now out.old writer.at) }
 {
     let outline = outline_of(ad);
@@ -221,142 +205,164 @@ pub fn write_record(ad: AdStructure, s: &[u8], writer: ByteWriter, out: &mut [u8
         let end = start + len;
         return write_lent(outline, &s[start..end], writer, out);
     }
-    Written::Refused(Error::Eof)
+    Err(Error::Eof)
 }
 
-// Reads the data of Flags.
-fn read_flags(data: &[u8]) -> Parsed
-    ensures { result ≡ flags_read «data».now }
-{
-    if data.len() != 1 {
-        return Parsed::Refused(Error::InvalidLength);
+// The data of a record, and where they start in the octets that the record stands in.
+#[derive(Clone, Copy)]
+struct Data<'a> {
+    octets: &'a [u8],
+    start: usize,
+}
+
+impl<'a> Data<'a> {
+    // Reads Flags.
+    fn read_flags(self) -> Result<AdStructure, Error>
+        ensures { result ≡ flags_read self.entry.octets.now }
+    {
+        if self.octets.len() != 1 {
+            return Err(Error::InvalidLength);
+        }
+        Ok(AdStructure::Flags(Flags::from_bits_truncate(self.octets[0])))
     }
-    Parsed::Structure(AdStructure::Flags(Flags::from_bits_truncate(data[0])))
-}
 
-// Reads the data of a list of UUIDs, which start at `start`.
-fn read_uuids(kind: UuidKind, complete: bool, data: &[u8], start: usize) -> Parsed
-    ensures { result ≡ uuids_read kind complete «data».now start }
-{
-    if data.len() % kind.size() == 0 {
-        return Parsed::Structure(uuid_list(kind, complete, start, data.len()));
+    // Reads a list of UUIDs.
+    fn read_uuids(self, kind: UuidKind, complete: bool) -> Result<AdStructure, Error>
+        ensures { result ≡ uuids_read kind complete self.entry.octets.now self.entry.start }
+    {
+        Content::Uuids(kind).check(self.octets)?;
+        Ok(uuid_list(kind, complete, self.start, self.octets.len()))
     }
-    Parsed::Refused(Error::Eof)
-}
 
-// Reads the data of a name, which start at `start`.
-fn read_name(complete: bool, data: &[u8], start: usize) -> Parsed
-    ensures { result ≡ name_read complete «data».now start }
-{
-    if is_utf8(data) {
-        return Parsed::Structure(local_name(complete, start, data.len()));
+    // Reads a name.
+    fn read_name(self, complete: bool) -> Result<AdStructure, Error>
+        ensures { result ≡ name_read complete self.entry.octets.now self.entry.start }
+    {
+        Content::Text.check(self.octets)?;
+        Ok(local_name(complete, self.start, self.octets.len()))
     }
-    Parsed::Refused(Error::InvalidValue)
-}
 
-// Reads service data or manufacturer specific data, which start at `start`: a UUID or a company identifier, then the rest.
-fn read_pair(service: bool, data: &[u8], start: usize) -> Parsed
-    requires { start + length «data».now < 2 ^ 64 }
-    ensures { result ≡ pair_read (pair_kind service) «data».now start }
-{
-    if data.len() < 2 {
-        return Parsed::Refused(Error::Eof);
+    // Reads a number of two octets, and where the rest lies.
+    fn read_number(self) -> Result<(u16, Part), Error>
+        requires { self.start + length self.octets.now < 2 ^ 64 }
+        ensures { result ≡ number_read self.entry.octets.now self.entry.start }
+    {
+        if self.octets.len() < 2 {
+            return Err(Error::Eof);
+        }
+        let rest = Part {
+            start: self.start + 2,
+            len: self.octets.len() - 2,
+        };
+        Ok((u16_from_le_bytes(self.octets[0], self.octets[1]), rest))
     }
-    let number = u16_from_le_bytes(data[0], data[1]);
-    Parsed::Structure(pair(service, number, start + 2, data.len() - 2))
-}
 
-// Reads the data of a record of type `ty`, which start at `start`: of Flags and of lists of 16-bit UUIDs, as rubble does.
-fn read_data(ty: u8, data: &[u8], start: usize) -> Parsed
-    ensures { result ≡ data_read ty «data».now start }
-{
-    match ty {
-        Type::FLAGS => read_flags(data),
-        Type::INCOMPLETE_LIST_OF_16BIT_SERVICE_UUIDS => {
-            read_uuids(UuidKind::Uuid16, false, data, start)
+    // Reads data of type `ty`: of Flags and of lists of 16-bit UUIDs, as rubble does.
+    fn read(self, ty: u8) -> Result<AdStructure, Error>
+        ensures { result ≡ data_read ty self.entry.octets.now self.entry.start }
+    {
+        match ty {
+            Type::FLAGS => self.read_flags(),
+            Type::INCOMPLETE_LIST_OF_16BIT_SERVICE_UUIDS => {
+                self.read_uuids(UuidKind::Uuid16, false)
+            }
+            Type::COMPLETE_LIST_OF_16BIT_SERVICE_UUIDS => self.read_uuids(UuidKind::Uuid16, true),
+            _ => Ok(AdStructure::Unknown {
+                ty,
+                start: self.start,
+                len: self.octets.len(),
+            }),
         }
-        Type::COMPLETE_LIST_OF_16BIT_SERVICE_UUIDS => {
-            read_uuids(UuidKind::Uuid16, true, data, start)
-        }
-        _ => Parsed::Structure(AdStructure::Unknown {
-            ty,
-            start,
-            len: data.len(),
-        }),
     }
-}
 
-// Reads the data of a record of type `ty`, which start at `start`, for every type that has a kind of its own.
-fn read_kind(ty: u8, data: &[u8], start: usize) -> Parsed
-    requires { start + length «data».now < 2 ^ 64 }
-    ensures { result ≡ kind_read ty «data».now start }
-{
-    match ty {
-        Type::INCOMPLETE_LIST_OF_32BIT_SERVICE_UUIDS => {
-            read_uuids(UuidKind::Uuid32, false, data, start)
+    // Reads data of type `ty`, for every type that has a kind of its own.
+    fn read_kind(self, ty: u8) -> Result<AdStructure, Error>
+        requires { self.start + length self.octets.now < 2 ^ 64 }
+        ensures { result ≡ kind_read ty self.entry.octets.now self.entry.start }
+    {
+        match ty {
+            Type::INCOMPLETE_LIST_OF_32BIT_SERVICE_UUIDS => {
+                self.read_uuids(UuidKind::Uuid32, false)
+            }
+            Type::COMPLETE_LIST_OF_32BIT_SERVICE_UUIDS => self.read_uuids(UuidKind::Uuid32, true),
+            Type::INCOMPLETE_LIST_OF_128BIT_SERVICE_UUIDS => {
+                self.read_uuids(UuidKind::Uuid128, false)
+            }
+            Type::COMPLETE_LIST_OF_128BIT_SERVICE_UUIDS => self.read_uuids(UuidKind::Uuid128, true),
+            Type::SHORTENED_LOCAL_NAME => self.read_name(false),
+            Type::COMPLETE_LOCAL_NAME => self.read_name(true),
+            Type::SERVICE_DATA_16BIT_UUID => {
+                let (uuid, rest) = self.read_number()?;
+                Ok(AdStructure::ServiceData16 {
+                    uuid,
+                    start: rest.start,
+                    len: rest.len,
+                })
+            }
+            Type::MANUFACTURER_SPECIFIC_DATA => {
+                let (number, rest) = self.read_number()?;
+                Ok(AdStructure::ManufacturerSpecificData {
+                    company_identifier: CompanyId::from_raw(number),
+                    start: rest.start,
+                    len: rest.len,
+                })
+            }
+            _ => self.read(ty),
         }
-        Type::COMPLETE_LIST_OF_32BIT_SERVICE_UUIDS => {
-            read_uuids(UuidKind::Uuid32, true, data, start)
-        }
-        Type::INCOMPLETE_LIST_OF_128BIT_SERVICE_UUIDS => {
-            read_uuids(UuidKind::Uuid128, false, data, start)
-        }
-        Type::COMPLETE_LIST_OF_128BIT_SERVICE_UUIDS => {
-            read_uuids(UuidKind::Uuid128, true, data, start)
-        }
-        Type::SHORTENED_LOCAL_NAME => read_name(false, data, start),
-        Type::COMPLETE_LOCAL_NAME => read_name(true, data, start),
-        Type::SERVICE_DATA_16BIT_UUID => read_pair(true, data, start),
-        Type::MANUFACTURER_SPECIFIC_DATA => read_pair(false, data, start),
-        _ => read_data(ty, data, start),
     }
 }
 
 // Reads the record at position `at`, whose length octet is `len`.
-fn read_sized(s: &[u8], at: usize, len: usize) -> Read
+fn read_sized(s: &[u8], at: usize, len: usize) -> Result<Option<(AdStructure, usize)>, Error>
     requires { (at < length s.now) × (len ≡ get_or s.now at 0) }
     ensures { result ≡ record_read (first (drop at s.now)) at }
 {
     if len == 0 {
-        return Read::Refused(Error::InvalidLength);
+        return Err(Error::InvalidLength);
     }
     if s.len() - at - 1 < len {
-        return Read::Refused(Error::Eof);
+        return Err(Error::Eof);
     }
     let start = at + 2;
     let next = at + 1 + len;
-    match read_data(s[at + 1], &s[start..next], start) {
-        Parsed::Structure(ad) => Read::Record(ad, next),
-        Parsed::Refused(e) => Read::Refused(e),
-    }
+    let data = Data {
+        octets: &s[start..next],
+        start,
+    };
+    let ad = data.read(s[at + 1])?;
+    Ok(Some((ad, next)))
 }
 
 // Reads the record at position `at`. A position past the end is refused.
-pub fn read_record(s: &[u8], at: usize) -> Read
+pub fn read_record(s: &[u8], at: usize) -> Result<Option<(AdStructure, usize)>, Error>
     ensures { result ≡ record_at s.now at }
 {
     if at < s.len() {
         return read_sized(s, at, s[at] as usize);
     }
     if at == s.len() {
-        return Read::End;
+        return Ok(None);
     }
-    Read::Refused(Error::Eof)
+    Err(Error::Eof)
 }
 
 // Reads on from a record of s that was left as type and data: a list, a name, service data or manufacturer specific data.
-pub fn read_known(ad: AdStructure, s: &[u8]) -> Parsed
+pub fn read_known(ad: AdStructure, s: &[u8]) -> Result<AdStructure, Error>
     ensures { result ≡ known_read ad s.now }
 {
     match ad {
         AdStructure::Unknown { ty, start, len } => {
             if has_octets(s, start, len) {
                 let end = start + len;
-                return read_kind(ty, &s[start..end], start);
+                let data = Data {
+                    octets: &s[start..end],
+                    start,
+                };
+                return data.read_kind(ty);
             }
-            Parsed::Refused(Error::Eof)
+            Err(Error::Eof)
         }
-        _ => Parsed::Structure(ad),
+        _ => Ok(ad),
     }
 }
 
@@ -394,35 +400,15 @@ fn local_name(complete: bool, start: usize, len: usize) -> AdStructure
     }
 }
 
-// Service data or manufacturer specific data, of a UUID or a company identifier.
-fn pair(service: bool, number: u16, start: usize, len: usize) -> AdStructure
-    ensures { result ≡ pair_kind service number start len }
-{
-    if service {
-        return AdStructure::ServiceData16 {
-            uuid: number,
-            start,
-            len,
-        };
-    }
-    AdStructure::ManufacturerSpecificData {
-        company_identifier: CompanyId::from_raw(number),
-        start,
-        len,
-    }
-}
-
 // The UUID at position `at` of a list's data, in the place of rubble's iterator.
-pub fn next_uuid16(data: &[u8], at: usize) -> NextUuid16
+pub fn next_uuid16(data: &[u8], at: usize) -> Result<Option<(Uuid16, usize)>, Error>
     ensures { result ≡ uuid16_at «data».now at }
 {
     if data.len() == at {
-        return NextUuid16::End;
+        return Ok(None);
     }
-    match Uuid16::from_bytes(ByteReader { at }, data) {
-        Uuid16Read::Value(uuid, next) => NextUuid16::Uuid(uuid, next.at),
-        Uuid16Read::Refused(e) => NextUuid16::Refused(e),
-    }
+    let (uuid, next) = Uuid16::from_bytes(ByteReader { at }, data)?;
+    Ok(Some((uuid, next.at)))
 }
 
 // The type octets that are read or written here (Assigned Numbers, 2.3).

@@ -1,98 +1,106 @@
 // Areas of records, read and rewritten.
-ghost use Rattle.std.specs.Prelude.{◌≡◌, ◌++◌, ◌≤◌, length, drop};
+ghost use Rattle.std.specs.Prelude.{◌≡◌, ◌++◌, ◌≤◌, ℕ, Bool, List, length, drop, Ok};
 ghost use Rattle.records_spec.specs.Area.{AcceptedFrom, front_of, read_area, rewritten, rewritten_to, rewritten_after};
 ghost use Rattle.records_spec.specs.HubReading.{is_zeros, read_padded};
+ghost use Rattle.records_spec.specs.Search.{Answers, searched};
 
-use crate::ad_structure::{Read, read_record, write_record};
-use octets::bytes::{ByteWriter, Written};
+use crate::ad_structure::{read_record, write_record};
+use octets::bytes::{ByteWriter, Part};
 use octets::error::Error;
-pub use records_spec::area::{Area, Found, Front, PaddedArea};
+pub use records_spec::area::BadRecord;
 
 // Reads an area up to its first bad record: what both readings share.
-pub fn read_front(s: &[u8]) -> Front
+pub fn read_front(s: &[u8]) -> Result<usize, BadRecord>
     ensures { result ≡ front_of s.now }
 {
     let mut at = 0;
     let mut count = 0;
+    // By a loop: the answer has what stopped it and where.
     loop {
         match read_record(s, at) {
-            Read::Record(_, next) => {
+            Ok(Some((_, next))) => {
                 at = next;
                 count += 1;
             }
-            Read::End => {
-                return Front::Whole(count);
+            Ok(None) => {
+                return Ok(count);
             }
-            Read::Refused(e) => {
-                return Front::Bad(count, at, e);
+            Err(error) => {
+                return Err(BadRecord { count, at, error });
             }
         }
     }
 }
 
 // Reads a whole area.
-pub fn read_area(s: &[u8]) -> Area
+pub fn read_area(s: &[u8]) -> Result<usize, Error>
     ensures { result ≡ read_area s.now }
 {
-    match read_front(s) {
-        Front::Whole(count) => Area::Accepted(count),
-        Front::Bad(_, _, e) => Area::Refused(e),
-    }
+    read_front(s).map_err(|bad| bad.error)
 }
 
 // Reads a whole area as the hub does.
-pub fn read_padded_area(s: &[u8]) -> PaddedArea
+pub fn read_padded_area(s: &[u8]) -> Result<(usize, usize), Error>
     ensures { result ≡ read_padded s.now }
 {
     match read_front(s) {
-        Front::Whole(count) => PaddedArea::Accepted(count, s.len()),
-        Front::Bad(count, at, e) => {
-            if is_zeros(s, at) {
-                return PaddedArea::Accepted(count, at);
+        Ok(count) => Ok((count, s.len())),
+        Err(bad) => {
+            if is_zeros(&s[bad.at..]) {
+                return Ok((bad.count, bad.at));
             }
             // A zero length before another octet is refused as the record that it is: 2.
-            PaddedArea::Refused(e)
+            Err(bad.error)
         }
     }
 }
 
-// Whether all octets from position `from` on are zero.
-fn is_zeros(s: &[u8], from: usize) -> bool
-    ensures { result ≡ is_zeros (drop from s.now) }
+fn is_zeros(octets: &[u8]) -> bool
+    ensures { result ≡ is_zeros octets.now }
 {
-    let mut at = from;
+    octets.iter().all(|&octet| octet == 0)
+}
+
+// Where the first record of an area without padding that passes a test has its data. The test is asked of the record's octets, its length and its type first.
+pub fn find_record<F: Fn(&[u8]) -> bool>(s: &[u8], test: F) -> Option<Part>
+    requires { F.IsAlwaysCallable test }
+    ensures { (passes : List ℕ → Bool) → Answers (F.post test) passes → result ≡ searched passes s.now }
+{
+    // By a loop with a place: each record's length says where the next begins.
+    let mut at = 0;
     while at < s.len() {
-        if s[at] != 0 {
-            return false;
+        let end = s.len().min(at + 1 + s[at] as usize);
+        if test(&s[at..end]) {
+            return Some(Part {
+                start: at + 2,
+                len: (end - at).saturating_sub(2),
+            });
         }
-        at += 1;
+        at = end;
     }
-    true
+    None
 }
 
 // Reads the records of an accepted area, and writes each at the place where it stands, to `out`.
-fn write_records(s: &[u8], out: &mut [u8])
+fn write_records(s: &[u8], out: &mut [u8]) -> Result<ByteWriter, Error>
     requires { AcceptedFrom s.now 0 × (length s.now ≤ length out.old) }
-    ensures { out.new ≡ rewritten s.now ++ drop (length s.now) out.old }
+    ensures { (result ≡ Ok (record { at = length s.now })) × (out.new ≡ rewritten s.now ++ drop (length s.now) out.old) }
 {
-    let mut at = 0;
-    while let Read::Record(ad, next) = read_record(s, at) {
-        write_record(ad, s, ByteWriter { at }, out);
-        at = next;
+    let mut writer = ByteWriter::new();
+    // By a loop: each record says where the next begins.
+    while let Some((ad, _)) = read_record(s, writer.at)? {
+        writer = write_record(ad, s, writer, out)?;
     }
+    Ok(writer)
 }
 
 // Reads a whole area, and writes its records again at the front of `out`.
-pub fn rewrite_area(s: &[u8], out: &mut [u8]) -> Written
+pub fn rewrite_area(s: &[u8], out: &mut [u8]) -> Result<ByteWriter, Error>
     ensures { (result ≡ rewritten_to s.now out.old) × (out.new ≡ rewritten_after s.now out.old) }
 {
-    if let Area::Refused(e) = read_area(s) {
-        return Written::Refused(e);
+    read_area(s)?;
+    if out.len() < s.len() {
+        return Err(Error::Eof);
     }
-    let n = s.len();
-    if out.len() < n {
-        return Written::Refused(Error::Eof);
-    }
-    write_records(s, out);
-    Written::To(ByteWriter { at: n })
+    write_records(s, out)
 }

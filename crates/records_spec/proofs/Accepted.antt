@@ -15,28 +15,24 @@ use Rattle.octets.specs.declared.error.Error.{Error}
 use Rattle.octets.specs.declared.error.Error.TheVariants.{Eof, InvalidLength}
 use Rattle.octets.specs.declared.uuid.UuidKind.TheVariants.{Uuid16}
 use Rattle.records_spec.specs.declared.ad_structure.AdStructure.TheVariants as ad
-use Rattle.records_spec.specs.declared.ad_structure.Parsed.{Parsed}
-use Rattle.records_spec.specs.declared.ad_structure.Parsed.TheVariants.{Structure}
-use Rattle.records_spec.specs.declared.ad_structure.Read.{Read}
-use Rattle.records_spec.specs.declared.ad_structure.Read.TheVariants.{Record, End}
-use Rattle.records_spec.specs.declared.area.Area.{Area}
-use Rattle.records_spec.specs.declared.area.Area.TheVariants.{Accepted}
 use Rattle.records_spec.specs.Record.{flags_read, uuids_read, data_read, up_to, record_read, first}
 use Rattle.flags.specs.Flags.{named}
 use Rattle.records_spec.specs.Area.{cut, records, reads, with_first, area_of, read_area}
 use Rattle.records_spec.specs.Accepted.{GoodRecord, IsList, Good, Bad, zero_length, too_few, wrong_flags, odd_list, Verdict, Decided}
 use Rattle.records_spec.proofs.Cuts.{cut_skip, counting, counting_none}
+use Rattle.std.specs.Prelude.{Result, Ok, Option, Some, None, Err}
+use Rattle.records_spec.specs.declared.ad_structure.AdStructure.{AdStructure}
 
 -- what a record's answer says of it, where `rest` follows its length octet n
-abbrev pub Class : ℕ → List ℕ → Read → Type 0
-Class n rest (Record a next) = Good n (take n rest)
-Class n rest End = ⊥
-Class n rest (Read.Refused e) = Bad (n ∷ rest) e
+abbrev pub Class : ℕ → List ℕ → Result (Option (AdStructure × ℕ)) Error → Type 0
+Class n rest (Ok (Some (a, next))) = Good n (take n rest)
+Class n rest (Ok None) = ⊥
+Class n rest (Err e) = Bad (n ∷ rest) e
 
 -- the same, of the answer of its data
-abbrev DataClass : ℕ → List ℕ → Parsed → Type 0
-DataClass n rest (Structure a) = Good n (take n rest)
-DataClass n rest (Parsed.Refused e) = Bad (n ∷ rest) e
+abbrev DataClass : ℕ → List ℕ → Result AdStructure Error → Type 0
+DataClass n rest (Ok a) = Good n (take n rest)
+DataClass n rest (Err e) = Bad (n ∷ rest) e
 
 module _ (n : ℕ) (rest : List ℕ) (some : 0 < n) (there : n ≤ length rest) where
   whole : length (take n rest) ≡ n
@@ -53,7 +49,7 @@ module _ (n : ℕ) (rest : List ℕ) (some : 0 < n) (there : n ≤ length rest) 
   flags_class is = go (eqb (length (drop 1 (take n rest))) 1) refl
     where
       go : (one : Bool) → eqb (length (drop 1 (take n rest))) 1 ≡ one
-          → DataClass n rest (cond one (Structure (ad.Flags (record { bits = named (get_or (drop 1 (take n rest)) 0 0) }))) (Parsed.Refused InvalidLength))
+          → DataClass n rest (cond one (Ok (ad.Flags (record { bits = named (get_or (drop 1 (take n rest)) 0 0) }))) (Err InvalidLength))
       go true e =
           let two : n ≡ 2 = omega (arith, eqb-true (length (drop 1 (take n rest))) 1 e, size, some) in
           record { whole = whole; some = some; flags = λ t. two; list = ⊎_elim (λ t. absurd (omega (arith, same_type))) (λ t. absurd (omega (arith, same_type))) }
@@ -68,7 +64,7 @@ module _ (n : ℕ) (rest : List ℕ) (some : 0 < n) (there : n ≤ length rest) 
       not_flags (inr three) one = omega (arith, same_type)
 
       go : (pairs : Bool) → eqb (length (drop 1 (take n rest)) % 2) 0 ≡ pairs
-          → DataClass n rest (cond pairs (Structure (ad.ServiceUuids16 complete start (length (drop 1 (take n rest))))) (Parsed.Refused Eof))
+          → DataClass n rest (cond pairs (Ok (ad.ServiceUuids16 complete start (length (drop 1 (take n rest))))) (Err Eof))
       go true e =
           let odd : n % 2 ≡ 1 = omega (arith, eqb-true (length (drop 1 (take n rest)) % 2) 0 e, size, some) in
           record { whole = whole; some = some; flags = λ t. absurd (not_flags is t); list = λ t. odd }
@@ -87,7 +83,7 @@ module _ (n : ℕ) (rest : List ℕ) (some : 0 < n) (there : n ≤ length rest) 
       d = drop 1 (take n rest)
 
       go : (f i c : Bool) → eqb ty 1 ≡ f → eqb ty 2 ≡ i → eqb ty 3 ≡ c
-          → DataClass n rest (cond f (flags_read d) (cond i (uuids_read Uuid16 false d start) (cond c (uuids_read Uuid16 true d start) (Structure (ad.Unknown ty start (length d))))))
+          → DataClass n rest (cond f (flags_read d) (cond i (uuids_read Uuid16 false d start) (cond c (uuids_read Uuid16 true d start) (Ok (ad.Unknown ty start (length d))))))
       go true i c e₁ e₂ e₃ = flags_class (eqb-true ty 1 e₁)
       go false true c e₁ e₂ e₃ = list_class false start (inl (eqb-true ty 2 e₂))
       go false false true e₁ e₂ e₃ = list_class true start (inr (eqb-true ty 3 e₃))
@@ -106,12 +102,12 @@ class n rest at = go (eqb n 0) (ltb (length (take n rest)) n) refl refl
     next : ℕ
     next = at + length (n ∷ take n rest)
 
-    upwards : (p : Parsed) → DataClass n rest p → Class n rest (up_to next p)
-    upwards (Structure a) c = c
-    upwards (Parsed.Refused e) c = c
+    upwards : (p : Result AdStructure Error) → DataClass n rest p → Class n rest (up_to next p)
+    upwards (Ok a) c = c
+    upwards (Err e) c = c
 
     go : (none few : Bool) → eqb n 0 ≡ none → ltb (length (take n rest)) n ≡ few
-        → Class n rest (cond none (Read.Refused InvalidLength) (cond few (Read.Refused Eof) (up_to next (data_read (get_or (take n rest) 0 0) (drop 1 (take n rest)) (at + 2)))))
+        → Class n rest (cond none (Err InvalidLength) (cond few (Err Eof) (up_to next (data_read (get_or (take n rest) 0 0) (drop 1 (take n rest)) (at + 2)))))
     go true few z f = rw (eqb-true n 0 z) zero_length
     go false true z f =
         let some : n ≡ 0 → ⊥ = eqb-false n 0 z in
@@ -121,16 +117,16 @@ class n rest at = go (eqb n 0) (ltb (length (take n rest)) n) refl refl
         upwards (data_read (get_or (take n rest) 0 0) (drop 1 (take n rest)) (at + 2)) (data_class n rest (omega arith) (omega (arith, length-take n rest, ltb-false (length (take n rest)) n f)) (at + 2))
 
 -- an area whose first record is so, before an area that is so
-verdict_before : (n : ℕ) (rest : List ℕ) (x : Read) (area : Area) → Class n rest x → Verdict (drop n rest) area → Verdict (n ∷ rest) (with_first x area)
+verdict_before : (n : ℕ) (rest : List ℕ) (x : Result (Option (AdStructure × ℕ)) Error) (area : Result ℕ Error) → Class n rest x → Verdict (drop n rest) area → Verdict (n ∷ rest) (with_first x area)
 unfolding with_first flatten
-verdict_before n rest (Record a next) (Accepted m) good t =
+verdict_before n rest (Ok (Some (a, next))) (Ok m) good t =
     record {
       pieces = (n ∷ take n rest) ∷ t.pieces;
       tile = ap (λ (l : List ℕ). n ∷ l) (ap (λ (l : List ℕ). take n rest ++ l) t.tile ∙ take-append-drop n rest);
       good = (good, t.good);
       count = omega (arith, t.count);
     }
-verdict_before n rest (Record a next) (Area.Refused e) good f =
+verdict_before n rest (Ok (Some (a, next))) (Err e) good f =
     record {
       pieces = (n ∷ take n rest) ∷ f.pieces;
       rest = f.rest;
@@ -138,8 +134,8 @@ verdict_before n rest (Record a next) (Area.Refused e) good f =
       good = (good, f.good);
       bad = f.bad;
     }
-verdict_before n rest End area none v = absurd none
-verdict_before n rest (Read.Refused e) area bad v = record { pieces = []; rest = n ∷ rest; tile = refl; good = tt; bad = bad }
+verdict_before n rest (Ok None) area none v = absurd none
+verdict_before n rest (Err e) area bad v = record { pieces = []; rest = n ∷ rest; tile = refl; good = tt; bad = bad }
 
 verdict_of : (l : List ℕ) (skip at : ℕ) → Verdict (drop skip l) (area_of (reads (cut l skip) at))
 unfolding cut first reads area_of flatten
@@ -157,17 +153,17 @@ exclusive n rest g (odd_list some there (inl is) even) = omega (arith, g.list (i
 exclusive n rest g (odd_list some there (inr is) even) = omega (arith, g.list (inr (same_type n rest some there ∙ is)))
 
 -- a good record adds one to the area after it
-good_before : (n : ℕ) (rest : List ℕ) (x : Read) (area : Area) → Class n rest x → Good n (take n rest) → with_first x area ≡ counting 1 area
+good_before : (n : ℕ) (rest : List ℕ) (x : Result (Option (AdStructure × ℕ)) Error) (area : Result ℕ Error) → Class n rest x → Good n (take n rest) → with_first x area ≡ counting 1 area
 unfolding with_first counting
-good_before n rest (Record a next) (Accepted m) c g = ap Accepted (omega arith)
-good_before n rest (Record a next) (Area.Refused e) c g = refl
-good_before n rest End area c g = absurd c
-good_before n rest (Read.Refused e) area c g = absurd (exclusive n rest g c)
+good_before n rest (Ok (Some (a, next))) (Ok m) c g = ap Ok (omega arith)
+good_before n rest (Ok (Some (a, next))) (Err e) c g = refl
+good_before n rest (Ok None) area c g = absurd c
+good_before n rest (Err e) area c g = absurd (exclusive n rest g c)
 
-counting_more : (k : ℕ) (area : Area) → counting 1 (counting k area) ≡ counting (suc k) area
+counting_more : (k : ℕ) (area : Result ℕ Error) → counting 1 (counting k area) ≡ counting (suc k) area
 unfolding counting
-counting_more k (Accepted m) = ap Accepted (omega arith)
-counting_more k (Area.Refused e) = refl
+counting_more k (Ok m) = ap Ok (omega arith)
+counting_more k (Err e) = refl
 
 -- good records add their number to the area after them
 behind : (rs : List (List ℕ)) (rest : List ℕ) (at : ℕ) → All GoodRecord rs
@@ -189,7 +185,7 @@ behind ((n ∷ body) ∷ rs) rest at g =
     rw (append_assoc body (flatten rs) rest, take_at body more n long, cut_skip (body ++ more) n, drop_at body more n long, good_before n body (record_read (n ∷ body) at) (area_of (reads (records more) next)) read good, later, end) (counting_more (length rs) _)
 
 -- a bad record is refused so
-bad_read : (n : ℕ) (rest : List ℕ) (at : ℕ) {e : Error} → Bad (n ∷ rest) e → record_read (n ∷ take n rest) at ≡ Read.Refused e
+bad_read : (n : ℕ) (rest : List ℕ) (at : ℕ) {e : Error} → Bad (n ∷ rest) e → record_read (n ∷ take n rest) at ≡ Err e
 unfolding record_read data_read flags_read uuids_read up_to
 bad_read n rest at zero_length = refl
 bad_read n rest at (too_few some few) = simp (ne_eqb n 0 (omega arith), lt-ltb (length (take n rest)) n (rw length-take (omega arith)))
@@ -200,7 +196,7 @@ bad_read n rest at (odd_list some there is even) = go is
     odd : eqb (length (drop 1 (take n rest)) % 2) 0 ≡ false
     odd = ne_eqb (length (drop 1 (take n rest)) % 2) 0 (rw (size n rest some there) (omega arith))
 
-    go : IsList (get_or rest 0 0) → record_read (n ∷ take n rest) at ≡ Read.Refused Eof
+    go : IsList (get_or rest 0 0) → record_read (n ∷ take n rest) at ≡ Err Eof
     go (inl is) = simp (ne_eqb n 0 (omega arith), whole n rest some there, le-ltb n n (omega arith), same_type n rest some there, is, odd)
     go (inr is) = simp (ne_eqb n 0 (omega arith), whole n rest some there, le-ltb n n (omega arith), same_type n rest some there, is, odd)
 
@@ -215,7 +211,7 @@ begun (too_few some few) = tt
 begun (wrong_flags some there is other) = tt
 begun (odd_list some there is even) = tt
 
-bad_area : (rest : List ℕ) (at : ℕ) {e : Error} → Bad rest e → area_of (reads (records rest) at) ≡ Area.Refused e
+bad_area : (rest : List ℕ) (at : ℕ) {e : Error} → Bad rest e → area_of (reads (records rest) at) ≡ Err e
 unfolding cut first reads area_of with_first
 bad_area [] at bad = absurd (begun bad)
 bad_area (n ∷ rest) at bad = rw (bad_read n rest at bad)
@@ -226,6 +222,6 @@ decided s =
     record {
       verdict = verdict_of s 0 0;
       accepted = λ t. let none : length t.pieces + 0 ≡ length t.pieces = omega arith in
-          rw (← t.tile, ← t.count, ← append-nil (flatten t.pieces)) (behind t.pieces [] 0 t.good ∙ ap Accepted none);
+          rw (← t.tile, ← t.count, ← append-nil (flatten t.pieces)) (behind t.pieces [] 0 t.good ∙ ap Ok none);
       refused = λ f. rw (← f.tile) (behind f.pieces f.rest 0 f.good ∙ ap (counting (length f.pieces)) (bad_area f.rest _ f.bad));
     }

@@ -16,17 +16,14 @@ use Rattle.octets.specs.Bytes.{part}
 use Rattle.octets.proofs.Places.{enough, front, drop_take}
 use Rattle.records_spec.specs.declared.ad_structure.AdStructure.{AdStructure}
 use Rattle.records_spec.specs.declared.ad_structure.AdStructure.TheVariants as ad
-use Rattle.records_spec.specs.declared.ad_structure.Parsed.{Parsed}
-use Rattle.records_spec.specs.declared.ad_structure.Parsed.TheVariants.{Structure}
-use Rattle.records_spec.specs.declared.ad_structure.Read.{Read}
-use Rattle.records_spec.specs.declared.ad_structure.Read.TheVariants.{Record, End}
-use Rattle.octets.specs.declared.error.Outcome.TheVariants as outcome
 use Rattle.records_spec.specs.Record.{record_of, flags_read, whole_uuids, uuid_list, uuids_read, data_read, up_to, record_read, first}
 use Rattle.flags.specs.Flags.{named}
 use Rattle.records_spec.specs.Write.{list_type, record_type, record_start, record_len, record_check, data_of, may_write, record_octets}
 use Rattle.records_spec.specs.Area.{clean}
 use Rattle.records_spec.proofs.Lists.{take_length_take}
 use Rattle.records_spec.proofs.Cuts.{here, Step, stepped}
+use Rattle.std.specs.Prelude.{Result, Ok, Option, Some, None, Err}
+use Rattle.octets.specs.declared.error.Error.{Error}
 
 pub named_twice : (x : ℕ) → named (named x) ≡ named x
 unfolding named
@@ -55,12 +52,12 @@ clean_data_length ty d = go (eqb ty 1)
 pub record Means (s : List ℕ) (ty : ℕ) (d : List ℕ) (start : ℕ) (a : AdStructure) : Type 0 where
   pub type : record_type a ≡ ty
   pub inside : record_start a + record_len a ≤ length s
-  pub fine : record_check a (part (record_len a) s (record_start a)) ≡ outcome.Accepted
+  pub fine : record_check a (part (record_len a) s (record_start a)) ≡ Ok tt
   pub octets : data_of a s ≡ clean_data ty d
 
-abbrev pub Meant : List ℕ → ℕ → List ℕ → ℕ → Parsed → Type 0
-Meant s ty d start (Structure a) = Means s ty d start a
-Meant s ty d start (Parsed.Refused e) = Unit {0}
+abbrev pub Meant : List ℕ → ℕ → List ℕ → ℕ → Result AdStructure Error → Type 0
+Meant s ty d start (Ok a) = Means s ty d start a
+Meant s ty d start (Err e) = Unit {0}
 
 one_octet : (d : List ℕ) → length d ≡ 1 → named (named (get_or d 0 0)) ∷ [] ≡ set d 0 (named (get_or d 0 0))
 one_octet [] one = absurd (omega arith)
@@ -72,7 +69,7 @@ module _ (s : List ℕ) (ty : ℕ) (d : List ℕ) (start : ℕ) (room : start + 
   unfolding flags_read data_of
   flags_meant is = go (eqb (length d) 1) refl
     where
-      go : (one : Bool) → eqb (length d) 1 ≡ one → Meant s ty d start (cond one (Structure (ad.Flags (record { bits = named (get_or d 0 0) }))) (Parsed.Refused InvalidLength))
+      go : (one : Bool) → eqb (length d) 1 ≡ one → Meant s ty d start (cond one (Ok (ad.Flags (record { bits = named (get_or d 0 0) }))) (Err InvalidLength))
       go true e = record { type = sym is; inside = omega arith; fine = refl; octets = rw is (one_octet d (eqb-true (length d) 1 e)) }
       go false e = tt
 
@@ -88,7 +85,7 @@ module _ (s : List ℕ) (ty : ℕ) (d : List ℕ) (start : ℕ) (room : start + 
   unfolding uuids_read data_of
   uuids_meant k complete is other = go (whole_uuids k d) k is refl
     where
-      go : (whole : Bool) (k : UuidKind) → list_type k complete ≡ ty → whole_uuids k d ≡ whole → Meant s ty d start (cond whole (Structure (uuid_list k complete start (length d))) (Parsed.Refused Eof))
+      go : (whole : Bool) (k : UuidKind) → list_type k complete ≡ ty → whole_uuids k d ≡ whole → Meant s ty d start (cond whole (Ok (uuid_list k complete start (length d))) (Err Eof))
       go true Uuid16 is e = record { type = is; inside = room; fine = rw (lies, e); octets = lies ∙ lent other }
       go true Uuid32 is e = record { type = is; inside = room; fine = rw (lies, e); octets = lies ∙ lent other }
       go true Uuid128 is e = record { type = is; inside = room; fine = rw (lies, e); octets = lies ∙ lent other }
@@ -99,17 +96,17 @@ module _ (s : List ℕ) (ty : ℕ) (d : List ℕ) (start : ℕ) (room : start + 
   meant = go (eqb ty 1) (eqb ty 2) (eqb ty 3) refl refl refl
     where
       go : (f i c : Bool) → eqb ty 1 ≡ f → eqb ty 2 ≡ i → eqb ty 3 ≡ c
-          → Meant s ty d start (cond f (flags_read d) (cond i (uuids_read Uuid16 false d start) (cond c (uuids_read Uuid16 true d start) (Structure (ad.Unknown ty start (length d))))))
+          → Meant s ty d start (cond f (flags_read d) (cond i (uuids_read Uuid16 false d start) (cond c (uuids_read Uuid16 true d start) (Ok (ad.Unknown ty start (length d))))))
       go true i c e₁ e₂ e₃ = flags_meant (eqb-true ty 1 e₁)
       go false true c e₁ e₂ e₃ = uuids_meant Uuid16 false (sym (eqb-true ty 2 e₂)) (eqb-false ty 1 e₁)
       go false false true e₁ e₂ e₃ = uuids_meant Uuid16 true (sym (eqb-true ty 3 e₃)) (eqb-false ty 1 e₁)
       go false false false e₁ e₂ e₃ = record { type = refl; inside = room; fine = refl; octets = lies ∙ lent (eqb-false ty 1 e₁) }
 
 -- a record of n octets at position `at` of s, as reading finds it
-abbrev Meaning : List ℕ → ℕ → ℕ → List ℕ → Read → Type 0
-Meaning s at n body (Record a next) = (length body ≡ n) × (0 < n) × Means s (get_or body 0 0) (drop 1 body) (at + 2) a
-Meaning s at n body End = Unit {0}
-Meaning s at n body (Read.Refused e) = Unit {0}
+abbrev Meaning : List ℕ → ℕ → ℕ → List ℕ → Result (Option (AdStructure × ℕ)) Error → Type 0
+Meaning s at n body (Ok (Some (a, next))) = (length body ≡ n) × (0 < n) × Means s (get_or body 0 0) (drop 1 body) (at + 2) a
+Meaning s at n body (Ok None) = Unit {0}
+Meaning s at n body (Err e) = Unit {0}
 
 meaning : (s : List ℕ) (at n : ℕ) (body : List ℕ) → body ≡ take n (drop (at + 1) s) → at + 1 ≤ length s → Meaning s at n body (record_read (n ∷ body) at)
 unfolding record_read up_to
@@ -127,16 +124,16 @@ meaning s at n body is h = go (eqb n 0) (ltb (length body) n) (data_read (get_or
     lies : part (length (drop 1 body)) s (at + 2) ≡ drop 1 body
     lies = rw d_is (take_length_take (n - 1) (drop (at + 2) s))
 
-    go : (none short : Bool) (p : Parsed) → eqb n 0 ≡ none → ltb (length body) n ≡ short → (0 < length body → Meant s (get_or body 0 0) (drop 1 body) (at + 2) p)
-        → Meaning s at n body (cond none (Read.Refused InvalidLength) (cond short (Read.Refused Eof) (up_to (at + length (n ∷ body)) p)))
+    go : (none short : Bool) (p : Result AdStructure Error) → eqb n 0 ≡ none → ltb (length body) n ≡ short → (0 < length body → Meant s (get_or body 0 0) (drop 1 body) (at + 2) p)
+        → Meaning s at n body (cond none (Err InvalidLength) (cond short (Err Eof) (up_to (at + length (n ∷ body)) p)))
     go true short p z f m = tt
     go false true p z f m = tt
-    go false false (Structure a) z f m =
+    go false false (Ok a) z f m =
         let long : n ≤ length body = ltb-false (length body) n f in
         let some : n ≡ 0 → ⊥ = eqb-false n 0 z in
         let most : length body ≤ n = rw (is, length-take) (omega arith) in
         (omega arith, omega arith, m (omega arith))
-    go false false (Parsed.Refused e) z f m = tt
+    go false false (Err e) z f m = tt
 
 head_tail : (l : List ℕ) → 0 < length l → l ≡ get_or l 0 0 ∷ drop 1 l
 head_tail [] some = absurd (omega arith)
@@ -144,10 +141,10 @@ head_tail (x ∷ l) some = refl
 
 -- so it may be written again where there is space, and its octets are the same
 pub record Again (s out : List ℕ) (at : ℕ) (a : AdStructure) : Type 0 where
-  pub may : may_write a s out at ≡ outcome.Accepted
+  pub may : may_write a s out at ≡ Ok tt
   pub octets : record_octets a s ≡ clean (first (drop at s))
 
-pub written_again : (s out : List ℕ) (at : ℕ) {a : AdStructure} {next : ℕ} → here s at ≡ Record a next → get_or s at 0 < 256 → next ≤ length out → Again s out at a
+pub written_again : (s out : List ℕ) (at : ℕ) {a : AdStructure} {next : ℕ} → here s at ≡ Ok (Some (a, next)) → get_or s at 0 < 256 → next ≤ length out → Again s out at a
 unfolding here first record_octets may_write record_of
 written_again s out at {a} {next} e octet h =
     let step : Step s at next = stepped s at e in
@@ -155,7 +152,7 @@ written_again s out at {a} {next} e octet h =
     let n = get_or s at 0 in
     let body = take n (drop (at + 1) s) in
     let octets-at : first (drop at s) ≡ n ∷ body = rw (front s at inside) in
-    let read : record_read (n ∷ body) at ≡ Record a next = rw octets-at at e in
+    let read : record_read (n ∷ body) at ≡ (Ok (Some (a, next))) = rw octets-at at e in
     let m : (length body ≡ n) × (0 < n) × Means s (get_or body 0 0) (drop 1 body) (at + 2) a = subst (Meaning s at n body) read (meaning s at n body refl (omega arith)) in
     let means = m.2 in
     let size : suc (length (data_of a s)) ≡ n = rw (means.octets, clean_data_length (get_or body 0 0) (drop 1 body), length-drop) (omega (arith, m.0, m.1)) in

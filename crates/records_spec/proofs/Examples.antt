@@ -3,7 +3,7 @@
 use mathlib.Core.Path.{refl}
 use mathlib.Core.List.{flatten}
 use Rattle.utf8.specs.Utf8.{row_in, utf8_after}
-use Rattle.records_spec.specs.Record.{record_of, flags_read, uuids_read, name_read, pair_read, data_read, kind_read, up_to, record_read, first, record_at, lent_read, known_read}
+use Rattle.records_spec.specs.Record.{record_of, flags_read, uuids_read, name_read, number_read, data_read, kind_read, up_to, record_read, first, record_at, lent_read, known_read}
 use Rattle.flags.specs.Flags.{named}
 use Rattle.records_spec.specs.Uuids.{uuid16_at}
 use Rattle.records_spec.specs.Write.{data_of, may_write, record_octets, written_to, written_after}
@@ -26,7 +26,7 @@ codes =
     }
 
 pub examples : Examples
-unfolding row_in utf8_after record_of named flags_read uuids_read name_read pair_read data_read kind_read up_to record_read first record_at lent_read known_read uuid16_at data_of may_write record_octets written_to written_after cut reads with_first area_of read_area clean rewritten may_rewrite rewritten_to rewritten_after flatten
+unfolding row_in utf8_after record_of named flags_read uuids_read name_read number_read data_read kind_read up_to record_read first record_at lent_read known_read uuid16_at data_of may_write record_octets written_to written_after cut reads with_first area_of read_area clean rewritten may_rewrite rewritten_to rewritten_after flatten
 examples =
     record {
       flags = refl;

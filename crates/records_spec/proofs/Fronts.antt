@@ -9,14 +9,12 @@ use Rattle.octets.specs.Lists.{All}
 use Rattle.octets.proofs.Lists.{all_append}
 use Rattle.octets.specs.declared.error.Error.{Error}
 use Rattle.records_spec.specs.declared.ad_structure.AdStructure.{AdStructure}
-use Rattle.records_spec.specs.declared.ad_structure.Read.{Read}
-use Rattle.records_spec.specs.declared.ad_structure.Read.TheVariants.{Record, End}
 use Rattle.records_spec.specs.Record.{record_read, first}
 use Rattle.records_spec.specs.Area.{cut, records, front_at, front_from, front_of}
-use Rattle.records_spec.specs.declared.area.Front.TheVariants as front
 use Rattle.records_spec.specs.Accepted.{GoodRecord, Good, Tiling, Bad, FirstBad, FrontOf, Fronted}
 use Rattle.records_spec.proofs.Accepted.{Class, class}
 use Rattle.records_spec.proofs.Cuts.{cut_skip, here, Step, stepped, ended}
+use Rattle.std.specs.Prelude.{Result, Ok, Err, Option, Some, None}
 
 pub flatten_append : (rs ts : List (List ℕ)) → flatten (rs ++ ts) ≡ flatten rs ++ flatten ts
 unfolding flatten
@@ -43,7 +41,7 @@ good_parts ((n ∷ body) ∷ ps) r qs all =
     ((all.0, later.0), later.1)
 
 -- a record that is read after good records is one more
-pub one_more : (s : List ℕ) (at : ℕ) {count : ℕ} {a : AdStructure} {next : ℕ} → here s at ≡ Record a next → Tiling (take at s) count → Tiling (take next s) (count + 1)
+pub one_more : (s : List ℕ) (at : ℕ) {count : ℕ} {a : AdStructure} {next : ℕ} → here s at ≡ Ok (Some (a, next)) → Tiling (take at s) count → Tiling (take next s) (count + 1)
 unfolding here record_read first flatten
 one_more s at {count} {a} {next} e t = go (drop at s) refl
   where
@@ -57,7 +55,7 @@ one_more s at {count} {a} {next} e t = go (drop at s) refl
         ap (λ (l : List ℕ). take at s ++ l) step.octets ∙ sym (take-add at (next - at) s) ∙ ap (λ (k : ℕ). take k s) far
 
     go : (l : List ℕ) → drop at s ≡ l → Tiling (take next s) (count + 1)
-    go [] is = absurd (let none : End ≡ Record a next = ap (λ (l : List ℕ). record_read (first l) at) (sym is) ∙ e in let z : ◌≡◌ {A = ℕ} 0 1 = cc in omega arith)
+    go [] is = absurd (let none : (Ok None) ≡ (Ok (Some (a, next))) = ap (λ (l : List ℕ). record_read (first l) at) (sym is) ∙ e in let z : ◌≡◌ {A = ℕ} 0 1 = cc in omega arith)
     go (n ∷ rest) is =
         let good : Good n (take n rest) = subst (Class n rest) (ap (λ (l : List ℕ). record_read (first l) at) (sym is) ∙ e) (class n rest at) in
         record {
@@ -73,18 +71,18 @@ unfolding flatten
 none_yet s = record { pieces = []; tile = refl; good = tt; count = refl }
 
 -- where nothing follows, the records are the whole area
-pub all_of_it : (s : List ℕ) (at : ℕ) {count : ℕ} → here s at ≡ End → Tiling (take at s) count → Tiling s count
+pub all_of_it : (s : List ℕ) (at : ℕ) {count : ℕ} → here s at ≡ Ok None → Tiling (take at s) count → Tiling s count
 all_of_it s at {count} e t =
     let past : length s - at ≡ 0 = sym (length-drop at s) ∙ ap length (ended s at e) in
     subst (λ (l : List ℕ). Tiling l count) (take_all at s (omega arith)) t
 
 -- a record that is refused is bad
-pub bad_at : (s : List ℕ) (at : ℕ) {e : Error} → here s at ≡ Read.Refused e → Bad (drop at s) e
+pub bad_at : (s : List ℕ) (at : ℕ) {e : Error} → here s at ≡ Err e → Bad (drop at s) e
 unfolding here record_read first
 bad_at s at {e} is = go (drop at s) refl
   where
     go : (l : List ℕ) → drop at s ≡ l → Bad l e
-    go [] none = absurd (let no : End ≡ Read.Refused e = ap (λ (l : List ℕ). record_read (first l) at) (sym none) ∙ is in let z : ◌≡◌ {A = ℕ} 0 1 = cc in omega arith)
+    go [] none = absurd (let no : (Ok None) ≡ Err e = ap (λ (l : List ℕ). record_read (first l) at) (sym none) ∙ is in let z : ◌≡◌ {A = ℕ} 0 1 = cc in omega arith)
     go (n ∷ rest) some = subst (Class n rest) (ap (λ (l : List ℕ). record_read (first l) at) (sym some) ∙ is) (class n rest at)
 
 pub first_bad : (s : List ℕ) (at : ℕ) {count : ℕ} {e : Error} → Tiling (take at s) count → Bad (drop at s) e → FirstBad s e
@@ -93,30 +91,30 @@ first_bad s at t bad =
 
 -- ---- what an area begins with, at a position, by the answer there
 module _ (s : List ℕ) (at count : ℕ) where
-  pub front_more : {a : AdStructure} {next : ℕ} → here s at ≡ Record a next → front_from (records (drop at s)) count at ≡ front_from (records (drop next s)) (count + 1) next
+  pub front_more : {a : AdStructure} {next : ℕ} → here s at ≡ Ok (Some (a, next)) → front_from (records (drop at s)) count at ≡ front_from (records (drop next s)) (count + 1) next
   unfolding here front_from front_at
   front_more {a} {next} e =
       let step : Step s at next = stepped s at e in
       simp (step.cuts, e, step.ends)
 
-  pub front_end : here s at ≡ End → front_from (records (drop at s)) count at ≡ front.Whole count
+  pub front_end : here s at ≡ Ok None → front_from (records (drop at s)) count at ≡ Ok count
   unfolding front_from cut
   front_end e = rw (ended s at e)
 
-  pub front_bad : {e : Error} → here s at ≡ Read.Refused e → front_from (records (drop at s)) count at ≡ front.Bad count at e
+  pub front_bad : {e : Error} → here s at ≡ Err e → front_from (records (drop at s)) count at ≡ Err (record { count = count; at = at; error = e })
   unfolding here record_read front_from front_at cut first
   front_bad {e} = go (drop at s)
     where
-      go : (l : List ℕ) → record_read (first l) at ≡ Read.Refused e → front_from (records l) count at ≡ front.Bad count at e
+      go : (l : List ℕ) → record_read (first l) at ≡ Err e → front_from (records l) count at ≡ Err (record { count = count; at = at; error = e })
       go [] is = cc
       go (x ∷ rest) is = rw is
 
   -- by the answer at `at`, from what is told after a record there
-  from_here : (r : Read) → here s at ≡ r → Tiling (take at s) count → ((a : AdStructure) (next : ℕ) → here s at ≡ Record a next → FrontOf s (front_from (records (drop next s)) (count + 1) next))
+  from_here : (r : Result (Option (AdStructure × ℕ)) Error) → here s at ≡ r → Tiling (take at s) count → ((a : AdStructure) (next : ℕ) → here s at ≡ Ok (Some (a, next)) → FrontOf s (front_from (records (drop next s)) (count + 1) next))
       → FrontOf s (front_from (records (drop at s)) count at)
-  from_here (Record a next) e t later = subst (FrontOf s) (sym (front_more e)) (later a next e)
-  from_here End e t later = subst (FrontOf s) (sym (front_end e)) (all_of_it s at e t)
-  from_here (Read.Refused k) e t later = subst (FrontOf s) (sym (front_bad e)) (t, bad_at s at e)
+  from_here (Ok (Some (a, next))) e t later = subst (FrontOf s) (sym (front_more e)) (later a next e)
+  from_here (Ok None) e t later = subst (FrontOf s) (sym (front_end e)) (all_of_it s at e t)
+  from_here (Err k) e t later = subst (FrontOf s) (sym (front_bad e)) (t, bad_at s at e)
 
 told_from : (fuel : ℕ) (s : List ℕ) (at count : ℕ) → length s - at ≤ fuel → Tiling (take at s) count → FrontOf s (front_from (records (drop at s)) count at)
 told_from zero s at count few t =

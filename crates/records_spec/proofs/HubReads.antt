@@ -12,9 +12,6 @@ use borrow.Author.Tests.{eqb-true, eqb-false, ne_eqb}
 use Rattle.octets.specs.Lists.{All}
 use Rattle.octets.specs.declared.error.Error.{Error}
 use Rattle.octets.specs.declared.error.Error.TheVariants.{InvalidLength}
-use Rattle.records_spec.specs.declared.area.Area.{Area}
-use Rattle.records_spec.specs.declared.area.Area.TheVariants as area
-use Rattle.records_spec.specs.declared.area.PaddedArea.TheVariants as padded
 use Rattle.records_spec.specs.Record.{flags_read, uuids_read, data_read, up_to, record_read, first}
 use Rattle.flags.specs.Flags.{named}
 use Rattle.records_spec.specs.Area.{cut, reads, with_first, area_of, read_area}
@@ -24,9 +21,10 @@ use Rattle.records_spec.specs.HubReads.{Padding, Fault, bad_record, not_zero, Pa
 use Rattle.records_spec.proofs.Accepted.{decided}
 use Rattle.records_spec.proofs.Cuts.{cut_skip}
 use Rattle.records_spec.proofs.Restored.{rewriting}
+use Rattle.std.specs.Prelude.{Result, Ok, Err}
 
 -- strictly accepted records are pieces, and the other way
-pub tiling_of : (s : List ℕ) {m : ℕ} → read_area s ≡ area.Accepted m → Tiling s m
+pub tiling_of : (s : List ℕ) {m : ℕ} → read_area s ≡ Ok m → Tiling s m
 tiling_of s is = subst (Verdict s) is (decided s).verdict
 
 -- the octets before a zero length, after good records
@@ -101,29 +99,29 @@ still_bad n rest some (odd_list more there is even) =
 
 -- what is read of good records: alone, before a zero length, and before a bad record of another length
 module _ (front : List ℕ) {m : ℕ} (t : Tiling front m) where
-  strict : read_area front ≡ area.Accepted m
+  strict : read_area front ≡ Ok m
   strict = (decided front).accepted t
 
   unpadded_front : (l : List ℕ) → unpadded (front ++ l) ≡ front ++ unpadded l
   unpadded_front l = subst (λ (k : List ℕ). unpadded (k ++ l) ≡ k ++ unpadded l) t.tile (unpadded_behind t.pieces l t.good)
 
-  pub read_whole : read_padded front ≡ padded.Accepted m (length front)
+  pub read_whole : read_padded front ≡ Ok (m, length front)
   unfolding read_padded ended_by is_zeros
   read_whole =
       let all : unpadded front ≡ front = ap unpadded (sym (append-nil front)) ∙ unpadded_front [] ∙ ap (λ (l : List ℕ). front ++ l) unpadded_nil ∙ append-nil front in
       rw (all, strict, drop_of_length-le front {i = length front} (omega arith))
 
-  pub read_ended : (rest : List ℕ) → read_padded (front ++ (0 ∷ rest)) ≡ cond (is_zeros rest) (padded.Accepted m (length front)) (padded.Refused InvalidLength)
+  pub read_ended : (rest : List ℕ) → read_padded (front ++ (0 ∷ rest)) ≡ cond (is_zeros rest) (Ok (m, length front)) (Err InvalidLength)
   unfolding read_padded ended_by is_zeros
   read_ended rest =
       let before : unpadded (front ++ (0 ∷ rest)) ≡ front = unpadded_front (0 ∷ rest) ∙ ap (λ (l : List ℕ). front ++ l) (unpadded_zero rest) ∙ append-nil front in
       rw (before, strict, drop_at front (0 ∷ rest) (length front) refl) (go (is_zeros rest))
     where
-      go : (z : Bool) → ended_by (area.Accepted m) (length front) z ≡ cond z (padded.Accepted m (length front)) (padded.Refused InvalidLength)
+      go : (z : Bool) → ended_by (Ok m) (length front) z ≡ cond z (Ok (m, length front)) (Err InvalidLength)
       go true = refl
       go false = refl
 
-  pub read_bad : (n : ℕ) (rest : List ℕ) {e : Error} → 0 < n → Bad (n ∷ rest) e → read_padded (front ++ (n ∷ rest)) ≡ padded.Refused e
+  pub read_bad : (n : ℕ) (rest : List ℕ) {e : Error} → 0 < n → Bad (n ∷ rest) e → read_padded (front ++ (n ∷ rest)) ≡ Err e
   unfolding read_padded ended_by
   read_bad n rest {e} some bad =
       let more : List ℕ = take n rest ++ unpadded (drop n rest) in
@@ -147,12 +145,12 @@ cases s = go (read_area s) (decided s).verdict
     behind front m _ _ is t (wrong_flags {n} {rest} some there type other) = bad front m n rest _ is t some (wrong_flags some there type other)
     behind front m _ _ is t (odd_list {n} {rest} some there type even) = bad front m n rest _ is t some (odd_list some there type even)
 
-    go : (a : Area) → Verdict s a → Cases s
-    go (area.Accepted m) t = whole m t
-    go (area.Refused e) f = behind (flatten f.pieces) (length f.pieces) f.rest e (sym f.tile) (record { pieces = f.pieces; tile = refl; good = f.good; count = refl }) f.bad
+    go : (a : Result ℕ Error) → Verdict s a → Cases s
+    go (Ok m) t = whole m t
+    go (Err e) f = behind (flatten f.pieces) (length f.pieces) f.rest e (sym f.tile) (record { pieces = f.pieces; tile = refl; good = f.good; count = refl }) f.bad
 
 -- what is read by the octets from the first bad record on
-pub read_behind : (s : List ℕ) (at : ℕ) {m : ℕ} {e : Error} → Tiling (take at s) m → Bad (drop at s) e → read_padded s ≡ cond (is_zeros (drop at s)) (padded.Accepted m at) (padded.Refused e)
+pub read_behind : (s : List ℕ) (at : ℕ) {m : ℕ} {e : Error} → Tiling (take at s) m → Bad (drop at s) e → read_padded s ≡ cond (is_zeros (drop at s)) (Ok (m, at)) (Err e)
 unfolding is_zeros
 read_behind s at {m} {e} t b = go (drop at s) e refl b
   where
@@ -164,19 +162,19 @@ read_behind s at {m} {e} t b = go (drop at s) e refl b
     cuts l is = sym (take-append-drop at s) ∙ ap (λ (k : List ℕ). take at s ++ k) is
 
     other : (n : ℕ) (rest : List ℕ) (e : Error) → drop at s ≡ n ∷ rest → 0 < n → Bad (n ∷ rest) e
-        → read_padded s ≡ cond (is_zeros (n ∷ rest)) (padded.Accepted m at) (padded.Refused e)
+        → read_padded s ≡ cond (is_zeros (n ∷ rest)) (Ok (m, at)) (Err e)
     other n rest e is some b = rw (ne_eqb n 0 (omega arith)) (ap read_padded (cuts (n ∷ rest) is) ∙ read_bad (take at s) t n rest some b)
 
-    go : (l : List ℕ) (e : Error) → drop at s ≡ l → Bad l e → read_padded s ≡ cond (is_zeros l) (padded.Accepted m at) (padded.Refused e)
+    go : (l : List ℕ) (e : Error) → drop at s ≡ l → Bad l e → read_padded s ≡ cond (is_zeros l) (Ok (m, at)) (Err e)
     go _ _ is (zero_length {rest}) =
         ap read_padded (cuts (0 ∷ rest) is) ∙ read_ended (take at s) t rest
-        ∙ ap (λ (k : ℕ). cond (is_zeros rest) (padded.Accepted m k) (padded.Refused InvalidLength)) (size 0 rest is)
+        ∙ ap (λ (k : ℕ). cond (is_zeros rest) (Ok (m, k)) (Err InvalidLength)) (size 0 rest is)
     go _ _ is (too_few {n} {rest} some few) = other n rest _ is some (too_few some few)
     go _ _ is (wrong_flags {n} {rest} some there type else) = other n rest _ is some (wrong_flags some there type else)
     go _ _ is (odd_list {n} {rest} some there type even) = other n rest _ is some (odd_list some there type even)
 
 -- the first bad record of an area that begins so
-refused_by_law : (s front : List ℕ) {m : ℕ} (l : List ℕ) {e : Error} → s ≡ front ++ l → Tiling front m → Bad l e → read_area s ≡ area.Refused e
+refused_by_law : (s front : List ℕ) {m : ℕ} (l : List ℕ) {e : Error} → s ≡ front ++ l → Tiling front m → Bad l e → read_area s ≡ Err e
 refused_by_law s front l is t b =
     (decided s).refused (record { pieces = t.pieces; rest = l; tile = ap (λ (k : List ℕ). k ++ l) t.tile ∙ sym is; good = t.good; bad = b })
 
@@ -184,7 +182,7 @@ pub hub_reads : (s : List ℕ) → HubReads s
 hub_reads s = record { found = found (cases s); accepted = accepted; refused = refused }
   where
     zeros_behind : (front rest : List ℕ) (m : ℕ) → s ≡ front ++ (0 ∷ rest) → Tiling front m → (z : Bool) → Split rest z
-        → PaddedVerdict s (cond z (padded.Accepted m (length front)) (padded.Refused InvalidLength))
+        → PaddedVerdict s (cond z (Ok (m, length front)) (Err InvalidLength))
     zeros_behind front rest m is t true (alone n zeros) =
         record { front = front; zeros = suc n; made_up = is ∙ ap (λ (l : List ℕ). front ++ (0 ∷ l)) zeros; strict = strict front t; size = refl }
     zeros_behind front rest m is t false (another n x more zeros some) =
@@ -195,19 +193,19 @@ hub_reads s = record { found = found (cases s); accepted = accepted; refused = r
     found (ended front rest m is t) = subst (PaddedVerdict s) (sym (ap read_padded is ∙ read_ended front t rest)) (zeros_behind front rest m is t (is_zeros rest) (split rest))
     found (bad front m n rest e is t some b) = subst (PaddedVerdict s) (sym (ap read_padded is ∙ read_bad front t n rest some b)) (bad_record front m n rest is (strict front t) some b)
 
-    with_zeros : (front : List ℕ) (m k : ℕ) → s ≡ front ++ replicate k 0 → Tiling front m → read_padded s ≡ padded.Accepted m (length front)
+    with_zeros : (front : List ℕ) (m k : ℕ) → s ≡ front ++ replicate k 0 → Tiling front m → read_padded s ≡ Ok (m, length front)
     with_zeros front m zero is t = ap read_padded (is ∙ append-nil front) ∙ read_whole front t
     with_zeros front m (suc k) is t =
-        ap read_padded is ∙ read_ended front t (replicate k 0) ∙ ap (λ (z : Bool). cond z (padded.Accepted m (length front)) (padded.Refused InvalidLength)) (zeros_are k)
+        ap read_padded is ∙ read_ended front t (replicate k 0) ∙ ap (λ (z : Bool). cond z (Ok (m, length front)) (Err InvalidLength)) (zeros_are k)
 
-    accepted : {m taken : ℕ} → Padding s m taken → read_padded s ≡ padded.Accepted m taken
-    accepted {m} p = with_zeros p.front m p.zeros p.made_up (tiling_of p.front p.strict) ∙ ap (padded.Accepted m) p.size
+    accepted : {m taken : ℕ} → Padding s m taken → read_padded s ≡ Ok (m, taken)
+    accepted {m} p = with_zeros p.front m p.zeros p.made_up (tiling_of p.front p.strict) ∙ ap (λ (k : ℕ). Ok (m, k)) p.size
 
-    refused : {e : Error} → Fault s e → read_padded s ≡ padded.Refused e
+    refused : {e : Error} → Fault s e → read_padded s ≡ Err e
     refused (bad_record front m n rest is good some b) = ap read_padded is ∙ read_bad front (tiling_of front good) n rest some b
     refused (not_zero front m k x rest is good some) =
         ap read_padded is ∙ read_ended front (tiling_of front good) (replicate k 0 ++ (x ∷ rest))
-        ∙ ap (λ (z : Bool). cond z (padded.Accepted m (length front)) (padded.Refused InvalidLength)) (not_zeros k x rest some)
+        ∙ ap (λ (z : Bool). cond z (Ok (m, length front)) (Err InvalidLength)) (not_zeros k x rest some)
 
 pub differs : (s : List ℕ) → Differs s
 differs s =
@@ -225,37 +223,37 @@ differs s =
     agree none (ended front rest m is t) = absurd (none (record { front = front; rest = rest; number = m; made_up = is; strict = strict front t }))
     agree none (bad front m n rest e is t some b) = rw (refused_by_law s front (n ∷ rest) is t b) (ap read_padded is ∙ read_bad front t n rest some b)
 
-    at_zero : (z : ZeroLength s) (b : Bool) → is_zeros z.rest ≡ b → read_padded s ≡ cond b (padded.Accepted z.number (length z.front)) (padded.Refused InvalidLength)
+    at_zero : (z : ZeroLength s) (b : Bool) → is_zeros z.rest ≡ b → read_padded s ≡ cond b (Ok (z.number, length z.front)) (Err InvalidLength)
     at_zero z b is =
         ap read_padded z.made_up ∙ read_ended z.front (tiling_of z.front z.strict) z.rest
-        ∙ ap (λ (b : Bool). cond b (padded.Accepted z.number (length z.front)) (padded.Refused InvalidLength)) is
+        ∙ ap (λ (b : Bool). cond b (Ok (z.number, length z.front)) (Err InvalidLength)) is
 
     unended : (l : List ℕ) → ((k : ℕ) → l ≡ replicate k 0 → ⊥) → (b : Bool) → Split l b → b ≡ false
     unended l fails true (alone k is) = absurd (fails k is)
     unended l fails false (another k x rest is some) = refl
 
-    refuses : (e : Error) → read_padded s ≡ padded.Refused e → Cases s → read_area s ≡ area.Refused e
+    refuses : (e : Error) → read_padded s ≡ Err e → Cases s → read_area s ≡ Err e
     refuses e is (whole m t) = absurd (let both = sym (read_whole s t) ∙ is in let z : ◌≡◌ {A = ℕ} 0 1 = cc in omega arith)
     refuses e is (ended front rest m at t) = go (is_zeros rest) (sym (ap read_padded at ∙ read_ended front t rest) ∙ is)
       where
-        go : (z : Bool) → cond z (padded.Accepted m (length front)) (padded.Refused InvalidLength) ≡ padded.Refused e → read_area s ≡ area.Refused e
+        go : (z : Bool) → cond {A = Result (ℕ × ℕ) Error} z (Ok (m, length front)) (Err InvalidLength) ≡ Err e → read_area s ≡ Err e
         go true both = absurd (let z : ◌≡◌ {A = ℕ} 0 1 = cc in omega arith)
-        go false both = refused_by_law s front (0 ∷ rest) at t zero_length ∙ ap area.Refused cc
+        go false both = refused_by_law s front (0 ∷ rest) at t zero_length ∙ ap Err cc
     refuses e is (bad front m n rest k at t some b) =
-        let both : padded.Refused k ≡ padded.Refused e = sym (ap read_padded at ∙ read_bad front t n rest some b) ∙ is in
-        refused_by_law s front (n ∷ rest) at t b ∙ ap area.Refused cc
+        let both : (Err k) ≡ (Err e) = sym (ap read_padded at ∙ read_bad front t n rest some b) ∙ is in
+        refused_by_law s front (n ∷ rest) at t b ∙ ap Err cc
 
 pub without_size : WithoutSize
 unfolding area_in
-without_size (area.Accepted n) size = refl
-without_size (area.Refused e) size = refl
+without_size (Ok n) size = refl
+without_size (Err e) size = refl
 
 all_zero : (k : ℕ) → unpadded (replicate k 0) ≡ []
 all_zero zero = unpadded_nil
 all_zero (suc k) = unpadded_zero (replicate k 0)
 
 -- an area that is accepted so
-module _ (s : List ℕ) (m taken : ℕ) (is : read_padded s ≡ padded.Accepted m taken) where
+module _ (s : List ℕ) (m taken : ℕ) (is : read_padded s ≡ Ok (m, taken)) where
   padding : Padding s m taken
   padding = subst (PaddedVerdict s) is (hub_reads s).found
 
@@ -280,7 +278,7 @@ module _ (s : List ℕ) (m taken : ℕ) (is : read_padded s ≡ padded.Accepted 
   pub took : (out : List ℕ) → Took s out m taken is
   unfolding front
   took out =
-      let strictly : read_area (take taken s) ≡ area.Accepted m = ap read_area front_is ∙ padding.strict in
+      let strictly : read_area (take taken s) ≡ (Ok m) = ap read_area front_is ∙ padding.strict in
       let size : length (take taken s) ≡ taken = ap length front_is ∙ padding.size in
       record {
         inside = omega (arith, long);

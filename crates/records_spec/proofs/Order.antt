@@ -16,14 +16,14 @@ use Rattle.octets.proofs.Laws.{parts, written_keeps}
 use Rattle.octets.proofs.Places.{enough, too_few}
 use Rattle.records_spec.specs.declared.ad_structure.AdStructure.{AdStructure}
 use Rattle.records_spec.specs.declared.ad_structure.AdStructure.TheVariants as ad
-use Rattle.octets.specs.declared.error.Outcome.TheVariants as outcome
 use Rattle.records_spec.specs.Record.{record_of}
 use Rattle.records_spec.specs.Write.{record_start, record_len, record_check, data_of, may_write, record_octets, written_to, written_after}
 use Rattle.records_spec.specs.Order.{IsName, uuid_octets, data_octets, Lends, lent_octets, Sound, NotWritten, Put, Ordered}
 use Rattle.records_spec.proofs.LaidOut.{lies, standing}
+use Rattle.std.specs.Prelude.{Ok, Err}
 
 -- the check of each kind
-fine : (a : AdStructure) (s : List ℕ) → Sound a s → record_check a (lent_octets a s) ≡ outcome.Accepted
+fine : (a : AdStructure) (s : List ℕ) → Sound a s → record_check a (lent_octets a s) ≡ Ok tt
 fine (ad.Flags f) s ok = refl
 fine (ad.ServiceUuids16 complete start len) s ok = rw ((parts s).as_long len start ok.lends, ok.list)
 fine (ad.ServiceUuids32 complete start len) s ok = rw ((parts s).as_long len start ok.lends, ok.list)
@@ -34,7 +34,7 @@ fine (ad.ShortenedLocalName start len) s ok = rw (ok.name tt)
 fine (ad.ManufacturerSpecificData company start len) s ok = refl
 fine (ad.Unknown ty start len) s ok = refl
 
-name_refused : (a : AdStructure) (s : List ℕ) → IsName a → is_utf8 (lent_octets a s) ≡ false → record_check a (lent_octets a s) ≡ outcome.Refused InvalidValue
+name_refused : (a : AdStructure) (s : List ℕ) → IsName a → is_utf8 (lent_octets a s) ≡ false → record_check a (lent_octets a s) ≡ Err InvalidValue
 name_refused (ad.Flags f) s is bad = absurd is
 name_refused (ad.ServiceUuids16 complete start len) s is bad = absurd is
 name_refused (ad.ServiceUuids32 complete start len) s is bad = absurd is
@@ -45,7 +45,7 @@ name_refused (ad.ShortenedLocalName start len) s is bad = rw bad
 name_refused (ad.ManufacturerSpecificData company start len) s is bad = absurd is
 name_refused (ad.Unknown ty start len) s is bad = absurd is
 
-list_refused : (a : AdStructure) (s : List ℕ) → Lends a s → (record_len a % uuid_octets a ≡ 0 → ⊥) → record_check a (lent_octets a s) ≡ outcome.Refused Eof
+list_refused : (a : AdStructure) (s : List ℕ) → Lends a s → (record_len a % uuid_octets a ≡ 0 → ⊥) → record_check a (lent_octets a s) ≡ Err Eof
 list_refused (ad.Flags f) s lends odd = absurd (odd refl)
 list_refused (ad.ServiceUuids16 complete start len) s lends odd = rw ((parts s).as_long len start lends, ne_eqb (len % 2) 0 odd)
 list_refused (ad.ServiceUuids32 complete start len) s lends odd = rw ((parts s).as_long len start lends, ne_eqb (len % 4) 0 odd)
@@ -75,7 +75,7 @@ behind_octet l out i m same past =
     ap (λ (j : ℕ). get_or l j 0) (sym is) ∙ sym (get_or-drop m l (i - m) 0) ∙ ap (λ (l : List ℕ). get_or l (i - m) 0) same ∙ get_or-drop m out (i - m) 0 ∙ ap (λ (j : ℕ). get_or out j 0) is
 
 module _ (a : AdStructure) (s out : List ℕ) (at : ℕ) where
-  not_written : {e : Error} → may_write a s out at ≡ outcome.Refused e → NotWritten a s out at e
+  not_written : {e : Error} → may_write a s out at ≡ Err e → NotWritten a s out at e
   unfolding written_to written_after
   not_written is = record { answers = rw is; kept = rw is }
 
@@ -84,15 +84,15 @@ module _ (a : AdStructure) (s out : List ℕ) (at : ℕ) where
     long : length (data_of a s) ≡ data_octets a
     long = size a s ok.lends
 
-    few : length out < at + 2 + data_octets a → may_write a s out at ≡ outcome.Refused Eof
+    few : length out < at + 2 + data_octets a → may_write a s out at ≡ Err Eof
     unfolding may_write
     few h = rw (enough (record_len a) s (record_start a) ok.lends, fine a s ok, lt-leb (at + (length (data_of a s) + 2)) (length out) (omega (arith, long)))
 
-    over : at + 2 + data_octets a ≤ length out → 255 < 1 + data_octets a → may_write a s out at ≡ outcome.Refused RecordLength
+    over : at + 2 + data_octets a ≤ length out → 255 < 1 + data_octets a → may_write a s out at ≡ Err RecordLength
     unfolding may_write
     over h l = rw (enough (record_len a) s (record_start a) ok.lends, fine a s ok, le-leb (at + (length (data_of a s) + 2)) (length out) (omega (arith, long)), lt-ltb 255 (length (data_of a s) + 1) (omega (arith, long)))
 
-    may : at + 2 + data_octets a ≤ length out → 1 + data_octets a ≤ 255 → may_write a s out at ≡ outcome.Accepted
+    may : at + 2 + data_octets a ≤ length out → 1 + data_octets a ≤ 255 → may_write a s out at ≡ Ok tt
     unfolding may_write
     may h l = rw (enough (record_len a) s (record_start a) ok.lends, fine a s ok, le-leb (at + (length (data_of a s) + 2)) (length out) (omega (arith, long)), le-ltb 255 (length (data_of a s) + 1) (omega (arith, long)))
 

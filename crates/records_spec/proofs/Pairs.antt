@@ -1,4 +1,4 @@
--- Data that begin with a number of two octets: `pair_is`.
+-- Data that begin with a number of two octets: `number_is`.
 -- Assumes nothing.
 use mathlib.Core.Path.{◌≡◌}
 use mathlib.Core.List.{List, [], ◌∷◌}
@@ -7,11 +7,9 @@ use lib.ListN.{length, get_or}
 use borrow.Author.Tests.{le-ltb}
 use Rattle.octets.specs.Bytes.{le}
 use Rattle.octets.proofs.Places.{part_octets}
-use Rattle.records_spec.specs.declared.ad_structure.AdStructure.{AdStructure}
-use Rattle.records_spec.specs.declared.ad_structure.Parsed.TheVariants.{Structure}
-use Rattle.records_spec.specs.Record.{pair_read}
+use Rattle.records_spec.specs.Record.{number_read}
+use Rattle.std.specs.Prelude.{Ok}
 
-pub pair_is : (kind : ℕ → ℕ → ℕ → AdStructure) (d : List ℕ) (start : ℕ) {v : ℕ} → 2 ≤ length d → v ≡ le (get_or d 0 0 ∷ get_or d 1 0 ∷ [])
-    → Structure (kind v (start + 2) (length d - 2)) ≡ pair_read kind d start
-unfolding pair_read
-pair_is kind d start two is = rw (le-ltb (length d) 2 two, part_octets 1 d 0 two, is)
+pub number_is : (d : List ℕ) (start : ℕ) {v : ℕ} → 2 ≤ length d → v ≡ le (get_or d 0 0 ∷ get_or d 1 0 ∷ []) → Ok (v, record { start = start + 2; len = length d - 2 }) ≡ number_read d start
+unfolding number_read
+number_is d start two is = rw (le-ltb (length d) 2 two, part_octets 1 d 0 two, is)

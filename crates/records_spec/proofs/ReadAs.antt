@@ -15,14 +15,11 @@ use Rattle.octets.proofs.Laws.{parts}
 use Rattle.octets.proofs.Places.{enough, too_few, front, part_octets, drop_take}
 use Rattle.records_spec.specs.declared.ad_structure.AdStructure.{AdStructure}
 use Rattle.records_spec.specs.declared.ad_structure.AdStructure.TheVariants as ad
-use Rattle.records_spec.specs.declared.ad_structure.Parsed.{Parsed}
-use Rattle.records_spec.specs.declared.ad_structure.Parsed.TheVariants.{Structure}
-use Rattle.records_spec.specs.declared.ad_structure.Read.{Read}
-use Rattle.records_spec.specs.declared.ad_structure.Read.TheVariants.{End}
-use Rattle.records_spec.specs.Record.{flags_read, uuids_read, name_read, pair_read, data_read, kind_read, up_to, record_read, first, record_at, lent_read, known_read}
+use Rattle.records_spec.specs.Record.{flags_read, uuids_read, name_read, number_read, data_read, kind_read, up_to, record_read, first, record_at, lent_read, known_read}
 use Rattle.flags.specs.Flags.{named}
 use Rattle.records_spec.specs.Layout.{ListKind, incomplete16, complete16, incomplete32, complete32, incomplete128, complete128, NameKind, shortened_name, complete_name, NumberKind, service_data, company_data}
 use Rattle.records_spec.specs.ReadAs.{WholeRecord, ReadAs, OfNoKind, read_further, ReadOnAs}
+use Rattle.std.specs.Prelude.{Ok, None, Err}
 
 -- the first octet of a part, and the number that two of them are
 part_first : (n : ℕ) (s : List ℕ) (start : ℕ) → 0 < n → get_or (part n s start) 0 0 ≡ get_or s start 0
@@ -36,11 +33,11 @@ module _ (s : List ℕ) (at : ℕ) where
   unfolding record_at first
   begun inside = rw (le-ltb (length s) at (omega arith), front s at inside)
 
-  nothing : at ≡ length s → record_at s at ≡ End
+  nothing : at ≡ length s → record_at s at ≡ Ok None
   unfolding record_at first record_read
   nothing is = rw (le-ltb (length s) at (omega arith), drop_of_length-le s {i = at} (omega arith))
 
-  beyond : length s < at → record_at s at ≡ Read.Refused Eof
+  beyond : length s < at → record_at s at ≡ Err Eof
   unfolding record_at
   beyond h = rw (lt-ltb (length s) at h)
 
@@ -88,7 +85,7 @@ module _ (s : List ℕ) (start len : ℕ) (inside : start + len ≤ length s) wh
   unfolding known_read lent_read
   on ty = rw (enough len s start inside)
 
-  list_on : (ty size : ℕ) (kind : ℕ → ℕ → AdStructure) → ListKind ty size kind → len % size ≡ 0 → read_further s ty start len ≡ Structure (kind start len)
+  list_on : (ty size : ℕ) (kind : ℕ → ℕ → AdStructure) → ListKind ty size kind → len % size ≡ 0 → read_further s ty start len ≡ Ok (kind start len)
   unfolding kind_read data_read uuids_read
   list_on ty size kind incomplete16 whole = on 0x02 ∙ rw (long, whole)
   list_on ty size kind complete16 whole = on 0x03 ∙ rw (long, whole)
@@ -97,7 +94,7 @@ module _ (s : List ℕ) (start len : ℕ) (inside : start + len ≤ length s) wh
   list_on ty size kind incomplete128 whole = on 0x06 ∙ rw (long, whole)
   list_on ty size kind complete128 whole = on 0x07 ∙ rw (long, whole)
 
-  broken_on : (ty size : ℕ) (kind : ℕ → ℕ → AdStructure) → ListKind ty size kind → (len % size ≡ 0 → ⊥) → read_further s ty start len ≡ Parsed.Refused Eof
+  broken_on : (ty size : ℕ) (kind : ℕ → ℕ → AdStructure) → ListKind ty size kind → (len % size ≡ 0 → ⊥) → read_further s ty start len ≡ Err Eof
   unfolding kind_read data_read uuids_read
   broken_on ty size kind incomplete16 half = on 0x02 ∙ rw (long, ne_eqb (len % 2) 0 half)
   broken_on ty size kind complete16 half = on 0x03 ∙ rw (long, ne_eqb (len % 2) 0 half)
@@ -106,12 +103,12 @@ module _ (s : List ℕ) (start len : ℕ) (inside : start + len ≤ length s) wh
   broken_on ty size kind incomplete128 half = on 0x06 ∙ rw (long, ne_eqb (len % 16) 0 half)
   broken_on ty size kind complete128 half = on 0x07 ∙ rw (long, ne_eqb (len % 16) 0 half)
 
-  name_on : (ty : ℕ) (kind : ℕ → ℕ → AdStructure) → NameKind ty kind → is_utf8 (part len s start) ≡ true → read_further s ty start len ≡ Structure (kind start len)
+  name_on : (ty : ℕ) (kind : ℕ → ℕ → AdStructure) → NameKind ty kind → is_utf8 (part len s start) ≡ true → read_further s ty start len ≡ Ok (kind start len)
   unfolding kind_read name_read
   name_on ty kind shortened_name good = on 0x08 ∙ rw (good, long)
   name_on ty kind complete_name good = on 0x09 ∙ rw (good, long)
 
-  bad_on : (ty : ℕ) (kind : ℕ → ℕ → AdStructure) → NameKind ty kind → is_utf8 (part len s start) ≡ false → read_further s ty start len ≡ Parsed.Refused InvalidValue
+  bad_on : (ty : ℕ) (kind : ℕ → ℕ → AdStructure) → NameKind ty kind → is_utf8 (part len s start) ≡ false → read_further s ty start len ≡ Err InvalidValue
   unfolding kind_read name_read
   bad_on ty kind shortened_name bad = on 0x08 ∙ rw bad
   bad_on ty kind complete_name bad = on 0x09 ∙ rw bad
@@ -121,17 +118,17 @@ module _ (s : List ℕ) (start len : ℕ) (inside : start + len ≤ length s) wh
       let all : start + 0 ≡ start = omega arith in
       rw ((parts s).of_part 2 len start 0 two, all, part_octets 1 s start (omega arith)) (omega arith)
 
-  number_on : (ty : ℕ) (kind : ℕ → ℕ → ℕ → AdStructure) → NumberKind ty kind → 2 ≤ len → read_further s ty start len ≡ Structure (kind (get_or s start 0 + 256 * get_or s (start + 1) 0) (start + 2) (len - 2))
-  unfolding kind_read pair_read
+  number_on : (ty : ℕ) (kind : ℕ → ℕ → ℕ → AdStructure) → NumberKind ty kind → 2 ≤ len → read_further s ty start len ≡ Ok (kind (get_or s start 0 + 256 * get_or s (start + 1) 0) (start + 2) (len - 2))
+  unfolding kind_read number_read
   number_on ty kind service_data two = on 0x16 ∙ rw (long, le-ltb len 2 two, pair two)
   number_on ty kind company_data two = on 0xFF ∙ rw (long, le-ltb len 2 two, pair two)
 
-  short_on : (ty : ℕ) (kind : ℕ → ℕ → ℕ → AdStructure) → NumberKind ty kind → len < 2 → read_further s ty start len ≡ Parsed.Refused Eof
-  unfolding kind_read pair_read
+  short_on : (ty : ℕ) (kind : ℕ → ℕ → ℕ → AdStructure) → NumberKind ty kind → len < 2 → read_further s ty start len ≡ Err Eof
+  unfolding kind_read number_read
   short_on ty kind service_data few = on 0x16 ∙ rw (long, lt-ltb len 2 few)
   short_on ty kind company_data few = on 0xFF ∙ rw (long, lt-ltb len 2 few)
 
-  other_on : (ty : ℕ) → OfNoKind ty → read_further s ty start len ≡ Structure (ad.Unknown ty start len)
+  other_on : (ty : ℕ) → OfNoKind ty → read_further s ty start len ≡ Ok (ad.Unknown ty start len)
   unfolding kind_read data_read
   other_on ty none =
       let list : (t size : ℕ) (kind : ℕ → ℕ → AdStructure) → ListKind t size kind → ty ≡ t → ⊥ = λ t size kind is e. none.not_list size kind (rw e is) in

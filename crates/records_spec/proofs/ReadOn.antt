@@ -19,21 +19,19 @@ use Rattle.octets.proofs.Numbers.{field}
 use Rattle.octets.proofs.Places.{enough, part_octets, drop_take}
 use Rattle.records_spec.specs.declared.ad_structure.AdStructure.{AdStructure}
 use Rattle.records_spec.specs.declared.ad_structure.AdStructure.TheVariants as ad
-use Rattle.records_spec.specs.declared.ad_structure.Parsed.{Parsed}
-use Rattle.records_spec.specs.declared.ad_structure.Parsed.TheVariants.{Structure}
-use Rattle.octets.specs.declared.error.Outcome.TheVariants as outcome
-use Rattle.records_spec.specs.Record.{record_of, uuids_read, local_name, name_read, pair_kind, pair_read, data_read, kind_read, lent_read, known_read}
+use Rattle.records_spec.specs.Record.{record_of, uuids_read, local_name, name_read, pair_kind, of_kind, pair_read, number_read, data_read, kind_read, lent_read, known_read}
 use Rattle.records_spec.specs.Write.{record_start, record_len, data_of, may_write, record_octets, written_to, written_after}
 use Rattle.records_spec.specs.Area.{clean}
 use Rattle.records_spec.specs.RoundTrip.{ReadOnAgain, ReadOnAndRewritten}
 use Rattle.records_spec.proofs.Again.{clean_data_law, clean_data_length, Means, Meant, lent, uuids_meant, meant}
+use Rattle.std.specs.Prelude.{Ok, Err}
 
 module _ (s : List ℕ) (ty : ℕ) (d : List ℕ) (start : ℕ) (room : start + length d ≤ length s) (lies : part (length d) s start ≡ d) where
   name_meant : (complete : Bool) → cond complete 9 8 ≡ ty → (ty ≡ 1 → ⊥) → Meant s ty d start (name_read complete d start)
   unfolding name_read data_of
   name_meant complete is other = go (is_utf8 d) complete is refl
     where
-      go : (good complete : Bool) → cond complete 9 8 ≡ ty → is_utf8 d ≡ good → Meant s ty d start (cond good (Structure (local_name complete start (length d))) (Parsed.Refused InvalidValue))
+      go : (good complete : Bool) → cond complete 9 8 ≡ ty → is_utf8 d ≡ good → Meant s ty d start (cond good (Ok (local_name complete start (length d))) (Err InvalidValue))
       go true true is e = record { type = is; inside = room; fine = rw (lies, e); octets = lies ∙ lent s ty d start room lies other }
       go true false is e = record { type = is; inside = room; fine = rw (lies, e); octets = lies ∙ lent s ty d start room lies other }
       go false complete is e = tt
@@ -48,11 +46,11 @@ module _ (s : List ℕ) (ty : ℕ) (d : List ℕ) (start : ℕ) (room : start + 
       ap (λ (l : List ℕ). l ++ part (length d - 2) s (start + 2)) number ∙ ap (λ (l : List ℕ). take 2 d ++ l) rest ∙ take-append-drop 2 d
 
   pair_meant : (service : Bool) → cond service 0x16 0xFF ≡ ty → (ty ≡ 1 → ⊥) → (2 ≤ length d → (get_or d 0 0 < 256) × (get_or d 1 0 < 256)) → Meant s ty d start (pair_read (pair_kind service) d start)
-  unfolding pair_read data_of
+  unfolding number_read data_of
   pair_meant service is other octets = go (ltb (length d) 2) service is refl
     where
       go : (short service : Bool) → cond service 0x16 0xFF ≡ ty → ltb (length d) 2 ≡ short
-          → Meant s ty d start (cond short (Parsed.Refused Eof) (Structure (pair_kind service (le (part 2 d 0)) (start + 2) (length d - 2))))
+          → Meant s ty d start (of_kind (pair_kind service) (cond short (Err Eof) (Ok (le (part 2 d 0), record { start = start + 2; len = length d - 2 }))))
       go true service is e = tt
       go false true is e =
           let two : 2 ≤ length d = ltb-false (length d) 2 e in
@@ -82,7 +80,7 @@ module _ (s : List ℕ) (ty start len : ℕ) (b : AdStructure) (inside : start +
   size : length (data_of b s) ≡ len
   size = rw (m.octets, clean_data_length ty (part len s start)) ((parts s).as_long len start inside)
 
-  may : (out : List ℕ) (at : ℕ) → at + 2 + len ≤ length out → len < 255 → may_write b s out at ≡ outcome.Accepted
+  may : (out : List ℕ) (at : ℕ) → at + 2 + len ≤ length out → len < 255 → may_write b s out at ≡ Ok tt
   unfolding may_write
   may out at room short =
       simp (enough (record_len b) s (record_start b) m.inside, m.fine, enough (length (data_of b s) + 2) out at (omega (arith, size)), le-ltb 255 (length (data_of b s) + 1) (omega (arith, size)))
@@ -101,7 +99,7 @@ module _ (s : List ℕ) (ty start len : ℕ) (b : AdStructure) (inside : start +
       let ends : at + length (record_octets b s) ≡ at + 2 + len = omega (arith, octets_long) in
       record { answers = rw (may out at room short, ends); writes = rw (may out at room short, octets_are) }
 
-again : (s : List ℕ) → Octets s → (ty start len : ℕ) (b : AdStructure) → known_read (ad.Unknown ty start len) s ≡ Structure b → (out : List ℕ) (at : ℕ) → at + 2 + len ≤ length out → len < 255
+again : (s : List ℕ) → Octets s → (ty start len : ℕ) (b : AdStructure) → known_read (ad.Unknown ty start len) s ≡ Ok b → (out : List ℕ) (at : ℕ) → at + 2 + len ≤ length out → len < 255
     → ReadOnAgain ty start len s out at b
 unfolding known_read lent_read
 again s octets ty start len b = go (has len s start) refl
@@ -109,7 +107,7 @@ again s octets ty start len b = go (has len s start) refl
     d : List ℕ
     d = part len s start
 
-    go : (there : Bool) → has len s start ≡ there → cond there (kind_read ty d start) (Parsed.Refused Eof) ≡ Structure b → (out : List ℕ) (at : ℕ) → at + 2 + len ≤ length out → len < 255
+    go : (there : Bool) → has len s start ≡ there → cond there (kind_read ty d start) (Err Eof) ≡ Ok b → (out : List ℕ) (at : ℕ) → at + 2 + len ≤ length out → len < 255
         → ReadOnAgain ty start len s out at b
     go false t e out at room short = absurd (let z : ◌≡◌ {A = ℕ} 0 1 = cc in omega arith)
     go true t e out at room short =
@@ -121,7 +119,7 @@ again s octets ty start len b = go (has len s start) refl
         let means : Meant s ty d start (kind_read ty d start) = kind_meant s ty d start (omega arith) lies (λ two. (octet 0 (omega arith), octet 1 (omega arith))) in
         written_so s ty start len b inside (subst (Meant s ty d start) e means) out at room short
 
-same : (s : List ℕ) (a : AdStructure) → ((ty start len : ℕ) → a ≡ ad.Unknown ty start len → ⊥) → known_read a s ≡ Structure a
+same : (s : List ℕ) (a : AdStructure) → ((ty start len : ℕ) → a ≡ ad.Unknown ty start len → ⊥) → known_read a s ≡ Ok a
 unfolding known_read
 same s (ad.Flags f) other = refl
 same s (ad.ServiceUuids16 complete start len) other = refl

@@ -8,19 +8,18 @@ use native.Mathlib.Decide.{dec_le}
 use lib.ListN.{length, get_or, take, drop, length-append, length-drop, get_or-append}
 use lib.Seq.{get_or-take, get_or-drop, get_or-append-add, drop-drop, drop_at, take_at}
 use borrow.Author.Tests.{lt-ltb, le-ltb}
-use Rattle.octets.specs.declared.bytes.Written.TheVariants.{To}
-use Rattle.records_spec.specs.declared.ad_structure.Read.{Read}
-use Rattle.records_spec.specs.declared.ad_structure.Read.TheVariants.{Record, End}
-use Rattle.records_spec.specs.declared.area.Area.TheVariants.{Accepted}
 use Rattle.records_spec.specs.Record.{record_read, first, record_at}
 use Rattle.records_spec.specs.Area.{cut, records, AcceptedFrom, read_area, clean, rewritten, may_rewrite, rewritten_to, rewritten_after}
 use Rattle.records_spec.specs.Accepted.{Good}
 use Rattle.records_spec.specs.RoundTrip.{Begins, at_the_front, behind_one, FlagsOctet, ReadAt, Restores, Rewriting}
 use Rattle.octets.proofs.Places.{front}
-use Rattle.records_spec.proofs.Cuts.{here, at_here, Step, stepped, ended, counting, area_refused, accepted_more}
+use Rattle.records_spec.proofs.Cuts.{here, at_here, Step, stepped, ended, accepted_more, accepted_reads}
 use Rattle.records_spec.proofs.Accepted.{Class, class}
 use Rattle.records_spec.proofs.Rewritten.{clean_length, rewritten_step, rewritten_length}
 use Rattle.records_spec.proofs.RoundTrip.{reads_clean, cleans, round_trip}
+use Rattle.std.specs.Prelude.{Result, Ok, Option, Some, None, Err}
+use Rattle.records_spec.specs.declared.ad_structure.AdStructure.{AdStructure}
+use Rattle.octets.specs.declared.error.Error.{Error}
 
 -- the position after the record at p
 abbrev pub next : List ℕ → ℕ → ℕ
@@ -34,7 +33,7 @@ pub record WholeTo (s : List ℕ) (p : ℕ) : Type 0 where
   pub onward : AcceptedFrom s (next s p)
 
 pub whole_at : (s : List ℕ) (p : ℕ) → AcceptedFrom s p → p < length s → WholeTo s p
-unfolding here first counting
+unfolding here first
 whole_at s p from inside = go (here s p) refl
   where
     n : ℕ
@@ -43,18 +42,16 @@ whole_at s p from inside = go (here s p) refl
     octets : first (drop p s) ≡ n ∷ take n (drop (p + 1) s)
     octets = rw (front s p inside)
 
-    go : (r : Read) → here s p ≡ r → WholeTo s p
-    go (Record a q) e =
+    go : (r : Result (Option (AdStructure × ℕ)) Error) → here s p ≡ r → WholeTo s p
+    go (Ok (Some (a, q))) e =
         let good : Good n (take n (drop (p + 1) s)) = subst (Class n (drop (p + 1) s)) (ap (λ (l : List ℕ). record_read l p) (sym octets) ∙ e) (class n (drop (p + 1) s) p) in
         let step : Step s p q = stepped s p e in
         let ends : p + length (first (drop p s)) ≡ q = step.ends in
         let size : length (first (drop p s)) ≡ suc (length (take n (drop (p + 1) s))) = ap length octets in
         let is : q ≡ p + 1 + n = omega (arith, good.whole) in
-        record { good = good; step = subst (Step s p) is step; read = record { structure = a; reads = at_here s p (omega arith) ∙ e ∙ ap (Record a) is }; onward = subst (AcceptedFrom s) is (accepted_more s p e from) }
-    go End e = let none : length s - p ≡ 0 = sym (length-drop p s) ∙ ap length (ended s p e) in absurd (omega arith)
-    go (Read.Refused k) e =
-        let refused = area_refused s p 0 e in
-        let z : ◌≡◌ {A = ℕ} 0 1 = cc (refused, ap (counting 0) from.accepted) in absurd (omega arith)
+        record { good = good; step = subst (Step s p) is step; read = record { structure = a; reads = at_here s p (omega arith) ∙ e ∙ ap (λ (k : ℕ). Ok (Some (a, k))) is }; onward = subst (AcceptedFrom s) is (accepted_more s p e from) }
+    go (Ok None) e = let none : length s - p ≡ 0 = sym (length-drop p s) ∙ ap length (ended s p e) in absurd (omega arith)
+    go (Err k) e = absurd (accepted_reads s p e from)
 
 -- where a record begins, the octets after are those that rewriting from there on writes
 record Placed (s : List ℕ) (p : ℕ) : Type 0 where
@@ -156,12 +153,12 @@ module _ (s : List ℕ) (from : AcceptedFrom s 0) where
       ap (λ (k : ℕ). get_or (rewritten s) k 0) is ∙ in_written s p w j within ∙ (cleans (first (drop p s))).kept j no-flags ∙ in_area s p w j within ∙ ap (λ (k : ℕ). get_or s k 0) (sym is)
 
 -- what is written of an accepted area where there is room
-module _ (s out : List ℕ) {n : ℕ} (is : read_area s ≡ Accepted n) (room : length s ≤ length out) where
+module _ (s out : List ℕ) {n : ℕ} (is : read_area s ≡ Ok n) (room : length s ≤ length out) where
   after_is : rewritten_after s out ≡ rewritten s ++ drop (length s) out
   unfolding rewritten_after may_rewrite
   after_is = let none : 0 + length s ≡ length s = omega arith in rw (is, le-ltb (length out) (length s) room, rewritten_length s, none)
 
-  to_is : rewritten_to s out ≡ To (record { at = length s })
+  to_is : rewritten_to s out ≡ Ok (record { at = length s })
   unfolding rewritten_to may_rewrite
   to_is = let none : 0 + length s ≡ length s = omega arith in rw (is, le-ltb (length out) (length s) room, rewritten_length s, none)
 

@@ -13,8 +13,6 @@ use borrow.Author.Tests.{ltb-false, eqb-true}
 use Rattle.octets.specs.Lists.{All}
 use Rattle.octets.specs.declared.error.Error.TheVariants.{Eof}
 use Rattle.records_spec.specs.declared.ad_structure.AdStructure.{AdStructure}
-use Rattle.records_spec.specs.declared.ad_structure.Read.{Read}
-use Rattle.records_spec.specs.declared.ad_structure.Read.TheVariants.{Record}
 use Rattle.records_spec.specs.Record.{flags_read, data_read, record_read, first, record_at}
 use Rattle.flags.specs.Flags.{named}
 use Rattle.records_spec.specs.Write.{written_to, written_after}
@@ -25,6 +23,7 @@ use Rattle.records_spec.proofs.Cuts.{cut_skip, here, at_here, Step, stepped}
 use Rattle.records_spec.proofs.Again.{named_twice, written_again}
 use Rattle.records_spec.proofs.Rewritten.{clean_length, tile, rewritten_length}
 use Rattle.octets.proofs.Places.{cond_same}
+use Rattle.std.specs.Prelude.{Ok, Some, Err}
 
 -- a record reads the same when it is written again
 pub reads_clean : (r : List ℕ) (at : ℕ) → record_read (clean r) at ≡ record_read r at
@@ -129,18 +128,18 @@ round_trip s =
     }
 
 -- a position at which a record is read does not lie past the end
-not_past : (s : List ℕ) (at : ℕ) {a : AdStructure} {next : ℕ} → record_at s at ≡ Record a next → at ≤ length s
+not_past : (s : List ℕ) (at : ℕ) {a : AdStructure} {next : ℕ} → record_at s at ≡ Ok (Some (a, next)) → at ≤ length s
 unfolding record_at
 not_past s at {a} {next} = go (ltb (length s) at) refl
   where
-    go : (past : Bool) → ltb (length s) at ≡ past → cond past (Read.Refused Eof) (record_read (first (drop at s)) at) ≡ Record a next → at ≤ length s
+    go : (past : Bool) → ltb (length s) at ≡ past → cond past (Err Eof) (record_read (first (drop at s)) at) ≡ Ok (Some (a, next)) → at ≤ length s
     go true is e = absurd (let z : ◌≡◌ {A = ℕ} 0 1 = cc in omega arith)
     go false is e = ltb-false (length s) at is
 
 pub read_and_rewritten : ReadAndRewritten
 unfolding written_to written_after
 read_and_rewritten s out at a next octets e room =
-    let found : here s at ≡ Record a next = sym (at_here s at (not_past s at e)) ∙ e in
+    let found : here s at ≡ (Ok (Some (a, next))) = sym (at_here s at (not_past s at e)) ∙ e in
     let step : Step s at next = stepped s at found in
     let again = written_again s out at found (octet_at s at octets (omega (arith, step.later, step.inside))) room in
     let ends : at + length (clean (first (drop at s))) ≡ next = rw clean_length step.ends in

@@ -13,9 +13,9 @@ use Rattle.records_spec.specs.Area.{cut, records}
 use Rattle.records_spec.specs.HubReads.{Padding, PaddedVerdict}
 use Rattle.records_spec.specs.HubReading.{unpadded}
 use Rattle.records_spec.specs.Record.{first}
-use Rattle.records_spec.specs.Search.{first_where, searched, IsRead, Stands, First, None, Told, Decides, Searching}
-use Rattle.records_spec.specs.declared.area.Found.{Found}
-use Rattle.records_spec.specs.declared.area.Found.TheVariants.{At, Nothing}
+use Rattle.records_spec.specs.Search.{first_where, searched, IsRead, Stands, First, Nowhere, Told, Decides, Searching}
+use Rattle.std.specs.Prelude.{Option, Some, None}
+use Rattle.octets.specs.declared.bytes.Part.{Part}
 use Rattle.records_spec.proofs.Accepted.{decided}
 use Rattle.records_spec.proofs.Cuts.{Step}
 use Rattle.records_spec.proofs.Fronts.{flatten_append, records_behind, good_parts}
@@ -23,33 +23,33 @@ use Rattle.records_spec.proofs.HubReads.{tiling_of, hub_reads, before}
 
 -- a record passes the test, or the search goes on after it
 pub goes_on : (test : List ℕ → Bool) (s : List ℕ) (at : ℕ) {next : ℕ} → Step s at next
-    → first_where test (records (drop at s)) at ≡ cond (test (part (next - at) s at)) (At (at + 2) (next - at - 2)) (first_where test (records (drop next s)) next)
+    → first_where test (records (drop at s)) at ≡ cond (test (part (next - at) s at)) (Some (record { start = at + 2; len = next - at - 2 })) (first_where test (records (drop next s)) next)
 unfolding first_where
 goes_on test s at {next} step =
     let long : length (first (drop at s)) ≡ next - at = omega (arith, step.ends) in
     rw (step.cuts, step.ends, long, step.octets)
 
 -- after the last record there is none
-pub at_end : (test : List ℕ → Bool) (s : List ℕ) (at : ℕ) → drop at s ≡ [] → first_where test (records (drop at s)) at ≡ Nothing
+pub at_end : (test : List ℕ → Bool) (s : List ℕ) (at : ℕ) → drop at s ≡ [] → first_where test (records (drop at s)) at ≡ None
 unfolding first_where cut
 at_end test s at none = rw none
 
 -- ---- the search
-data Finds (test : List ℕ → Bool) (rs : List (List ℕ)) (at : ℕ) : Found → Type 0 where
+data Finds (test : List ℕ → Bool) (rs : List (List ℕ)) (at : ℕ) : Option Part → Type 0 where
   there : {start len : ℕ} (ps : List (List ℕ)) (r : List ℕ) (qs : List (List ℕ)) → rs ≡ ps ++ (r ∷ qs) → test r ≡ true → start ≡ at + length (flatten ps) + 2 → len ≡ length r - 2
-      → Finds test rs at (At start len)
-  nowhere : Finds test rs at Nothing
+      → Finds test rs at (Some (record { start = start; len = len }))
+  nowhere : Finds test rs at None
 
 search_of : (test : List ℕ → Bool) (rs : List (List ℕ)) (at : ℕ) → Finds test rs at (first_where test rs at)
 unfolding first_where flatten
 search_of test [] at = nowhere
 search_of test (r ∷ rs) at = go (test r) refl (first_where test rs (at + length r)) (search_of test rs (at + length r))
   where
-    go : (b : Bool) → test r ≡ b → (f : Found) → Finds test rs (at + length r) f → Finds test (r ∷ rs) at (cond b (At (at + 2) (length r - 2)) f)
+    go : (b : Bool) → test r ≡ b → (f : Option Part) → Finds test rs (at + length r) f → Finds test (r ∷ rs) at (cond b (Some (record { start = at + 2; len = length r - 2 })) f)
     go true e f o = there {start = at + 2} {len = length r - 2} [] r rs refl e (omega arith) refl
-    go false e (At start len) (there ps x qs is passes begins long) =
-        there {start = start} {len = len} (r ∷ ps) x qs (ap (λ (l : List (List ℕ)). r ∷ l) is) passes (omega (arith, length-append r (flatten ps))) long
-    go false e Nothing nowhere = nowhere
+    go false e (Some f) (there ps x qs is passes begins long) =
+        there {start = f.start} {len = f.len} (r ∷ ps) x qs (ap (λ (l : List (List ℕ)). r ∷ l) is) passes (omega (arith, length-append r (flatten ps))) long
+    go false e None nowhere = nowhere
 
 -- zero lengths begin no record that is found
 abbrev NoLength : List ℕ → Type 0
@@ -67,9 +67,9 @@ among_zeros (z ∷ zs) [] r qs all is = ap (λ (l : List ℕ). get_or l 0 0) (sy
 among_zeros (z ∷ zs) (p ∷ ps) r qs all is = among_zeros zs ps r qs all.1 (tail-eq_of_cons-eq is)
 
 -- a record that passes is found, or one before it
-abbrev FoundBy : ℕ → Found → Type 0
-FoundBy last (At start len) = start ≤ last
-FoundBy last Nothing = ⊥
+abbrev FoundBy : ℕ → Option Part → Type 0
+FoundBy last (Some f) = f.start ≤ last
+FoundBy last None = ⊥
 
 found_by : (test : List ℕ → Bool) (at : ℕ) (rs zs ps : List (List ℕ)) (r : List ℕ) (qs : List (List ℕ)) → All NoLength zs → 0 < get_or r 0 0 → test r ≡ true → rs ++ zs ≡ ps ++ (r ∷ qs)
     → FoundBy (at + length (flatten ps) + 2) (first_where test rs at)
@@ -83,11 +83,11 @@ found_by test at (x ∷ rs) zs (p ∷ ps) r qs zeros some name is = go (test x) 
     size : length p ≡ length x
     size = ap length (sym (head-eq_of_cons-eq is))
 
-    later : (f : Found) → FoundBy (at + length x + length (flatten ps) + 2) f → FoundBy (at + length (p ++ flatten ps) + 2) f
-    later (At start len) h = omega (arith, length-append p (flatten ps), size)
-    later Nothing h = h
+    later : (f : Option Part) → FoundBy (at + length x + length (flatten ps) + 2) f → FoundBy (at + length (p ++ flatten ps) + 2) f
+    later (Some f) h = omega (arith, length-append p (flatten ps), size)
+    later None h = h
 
-    go : (b : Bool) (f : Found) → FoundBy (at + length x + length (flatten ps) + 2) f → FoundBy (at + length (p ++ flatten ps) + 2) (cond b (At (at + 2) (length x - 2)) f)
+    go : (b : Bool) (f : Option Part) → FoundBy (at + length x + length (flatten ps) + 2) f → FoundBy (at + length (p ++ flatten ps) + 2) (cond b (Some (record { start = at + 2; len = length x - 2 })) f)
     go true f h = omega arith
     go false f h = later f h
 
@@ -113,7 +113,7 @@ module _ (s : List ℕ) (x : IsRead s) where
 
   module _ {test : List ℕ → Bool} {P : ℕ → List ℕ → Type 0} (decides : Decides test P) where
     -- what is found is a record that stands there
-    stands : {start len : ℕ} → Finds test tiling.pieces 0 (At start len) → Stands P s start len
+    stands : {start len : ℕ} → Finds test tiling.pieces 0 (Some (record { start = start; len = len })) → Stands P s start len
     unfolding flatten
     stands {start} {len} (there ps r qs is passes begins long) = go r is passes long (good_parts ps r qs (subst (All GoodRecord) is tiling.good))
       where
@@ -167,9 +167,9 @@ module _ (s : List ℕ) (x : IsRead s) where
     unfolding searched
     told = go (first_where test (records (unpadded s)) 0) (subst (λ (rs : List (List ℕ)). Finds test tiling.pieces 0 (first_where test rs 0)) (sym cut_front) (search_of test tiling.pieces 0)) standing
       where
-        go : (f : Found) → Finds test tiling.pieces 0 f → ((start len : ℕ) → Stands P s start len → FoundBy start f) → Told P s f
-        go (At start len) o by = record { stands = stands o; earliest = by }
-        go Nothing o by = by
+        go : (f : Option Part) → Finds test tiling.pieces 0 f → ((start len : ℕ) → Stands P s start len → FoundBy start f) → Told P s f
+        go (Some f) o by = record { stands = stands o; earliest = by }
+        go None o by = by
 
     -- the length octet tells how many octets of data there are
     counted : (start len : ℕ) → Stands P s start len → get_or s (start - 2) 0 ≡ suc len
@@ -179,22 +179,22 @@ module _ (s : List ℕ) (x : IsRead s) where
         ∙ get_or-append-add n.before (suc (length n.octets) ∷ n.type ∷ (n.octets ++ n.behind)) 0 0 ∙ ap suc (sym n.long)
 
     -- and no other place is told
-    first_is : (start len : ℕ) → First P s start len → searched test (unpadded s) ≡ At start len
+    first_is : (start len : ℕ) → First P s start len → searched test (unpadded s) ≡ Some (record { start = start; len = len })
     first_is start len given = go (searched test (unpadded s)) told
       where
-        go : (f : Found) → Told P s f → f ≡ At start len
-        go (At start' len') told =
-            let same : start' ≡ start = omega (arith, told.earliest start len given.stands, given.earliest start' len' told.stands) in
-            let size : suc len' ≡ suc len = sym (counted start' len' told.stands) ∙ ap (λ (k : ℕ). get_or s (k - 2) 0) same ∙ counted start len given.stands in
-            ap₂ At same (omega arith)
-        go Nothing told = absurd (told start len given.stands)
+        go : (f : Option Part) → Told P s f → f ≡ Some (record { start = start; len = len })
+        go (Some found) told =
+            let same : found.start ≡ start = omega (arith, told.earliest start len given.stands, given.earliest found.start found.len told.stands) in
+            let size : suc found.len ≡ suc len = sym (counted found.start found.len told.stands) ∙ ap (λ (k : ℕ). get_or s (k - 2) 0) same ∙ counted start len given.stands in
+            ap₂ (λ (a b : ℕ). Some (record { start = a; len = b })) same (omega arith)
+        go None told = absurd (told start len given.stands)
 
-    none_is : None P s → searched test (unpadded s) ≡ Nothing
+    none_is : Nowhere P s → searched test (unpadded s) ≡ None
     none_is none = go (searched test (unpadded s)) told
       where
-        go : (f : Found) → Told P s f → f ≡ Nothing
-        go (At start len) told = absurd (none start len told.stands)
-        go Nothing told = refl
+        go : (f : Option Part) → Told P s f → f ≡ None
+        go (Some f) told = absurd (none f.start f.len told.stands)
+        go None told = refl
 
     pub searching : Searching test P s
     searching = record { told = told; first = first_is; none = none_is }

@@ -9,14 +9,13 @@ use lib.ListN.{length, get_or, drop, drop_of_length-le}
 use lib.Dec.{eqb}
 use borrow.Author.Tests.{eqb-true, eqb-false, leb-true, leb-false}
 use Rattle.octets.specs.declared.error.Error.TheVariants.{Eof}
-use Rattle.octets.specs.declared.bytes.U16Read.TheVariants as u16read
 use Rattle.octets.specs.Bytes.{has, part, le}
 use Rattle.octets.specs.declared.uuid.UuidKind.{UuidKind}
 use Rattle.octets.specs.declared.uuid.UuidKind.TheVariants.{Uuid16, Uuid32, Uuid128}
 use Rattle.octets.specs.Uuid.{uuid_size, uuid16_from}
 use Rattle.octets.proofs.Places.{front, part_octets}
-use Rattle.records_spec.specs.declared.ad_structure.NextUuid16.TheVariants as next16
 use Rattle.records_spec.specs.Uuids.{next16_from, uuid16_at, uuids, NextUuid, OneByOne}
+use Rattle.std.specs.Prelude.{Ok, Err, None}
 
 pub uuid_size_positive : (k : UuidKind) → 0 < uuid_size k
 uuid_size_positive Uuid16 = omega arith
@@ -40,7 +39,7 @@ unfolding uuid16_at
 one_by_one d at = go (eqb (length d) at) (has 2 d at) refl refl
   where
     go : (end two : Bool) → eqb (length d) at ≡ end → has 2 d at ≡ two
-        → NextUuid d at (cond end next16.End (next16_from (uuid16_from (cond two (u16read.Value (le (part 2 d at)) (record { at = at + 2 })) (u16read.Refused Eof)))))
+        → NextUuid d at (cond end (Ok None) (next16_from (uuid16_from (cond two (Ok (le (part 2 d at), record { at = at + 2 })) (Err Eof)))))
     go true two e t = (sym (eqb-true (length d) at e), none_left d at (eqb-true (length d) at e))
     go false true e t = let two : at + 2 ≤ length d = leb-true (at + 2) (length d) t in (number d at two, two, first_uuid d at two, refl)
     go false false e t = (refl, leb-false (at + 2) (length d) t, λ end. eqb-false (length d) at e (sym end))

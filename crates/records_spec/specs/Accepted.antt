@@ -11,15 +11,12 @@
 --   Decided s    (Accepted.decided)  s is accepted exactly if it is tiled, and refused exactly as its first bad record is
 --   FrontOf s f  == f tells the good records that s begins with, and the first bad one after them, if there is one
 --   Fronted s    (Fronts.fronted)    `front_of` tells so
-use Rattle.std.specs.Prelude.{◌≡◌, ◌⊎◌, ℕ, ◌≤◌, ◌<◌, ◌%◌, length, get_or, take, drop}
+use Rattle.std.specs.Prelude.{◌≡◌, ◌⊎◌, ℕ, ◌≤◌, ◌<◌, ◌%◌, length, get_or, take, drop, Result, Ok, Err}
 use mathlib.Core.List.{List, [], ◌∷◌, ◌++◌, flatten}
 use Rattle.octets.specs.Lists.{All}
 use Rattle.octets.specs.declared.error.Error.{Error}
 use Rattle.octets.specs.declared.error.Error.TheVariants.{Eof, InvalidLength}
-use Rattle.records_spec.specs.declared.area.Area.{Area}
-use Rattle.records_spec.specs.declared.area.Area.TheVariants.{Accepted}
-use Rattle.records_spec.specs.declared.area.Front.{Front}
-use Rattle.records_spec.specs.declared.area.Front.TheVariants as front
+use Rattle.records_spec.specs.declared.area.BadRecord.{BadRecord}
 use Rattle.records_spec.specs.Area.{read_area, front_of}
 use Rattle.records_spec.specs.Types.{flags_type, incomplete16_type, complete16_type}
 
@@ -56,18 +53,18 @@ pub record FirstBad (s : List ℕ) (e : Error) : Type 0 where
   pub good : All GoodRecord pieces
   pub bad : Bad rest e
 
-abbrev pub Verdict : List ℕ → Area → Type 0
-Verdict s (Accepted m) = Tiling s m
-Verdict s (Area.Refused e) = FirstBad s e
+abbrev pub Verdict : List ℕ → Result ℕ Error → Type 0
+Verdict s (Ok m) = Tiling s m
+Verdict s (Err e) = FirstBad s e
 
 pub record Decided (s : List ℕ) : Type 0 where
   pub verdict : Verdict s (read_area s)
-  pub accepted : {m : ℕ} → Tiling s m → read_area s ≡ Accepted m
-  pub refused : {e : Error} → FirstBad s e → read_area s ≡ Area.Refused e
+  pub accepted : {m : ℕ} → Tiling s m → read_area s ≡ Ok m
+  pub refused : {e : Error} → FirstBad s e → read_area s ≡ Err e
 
-abbrev pub FrontOf : List ℕ → Front → Type 0
-FrontOf s (front.Whole m) = Tiling s m
-FrontOf s (front.Bad m at e) = Tiling (take at s) m × Bad (drop at s) e
+abbrev pub FrontOf : List ℕ → Result ℕ BadRecord → Type 0
+FrontOf s (Ok m) = Tiling s m
+FrontOf s (Err bad) = Tiling (take bad.at s) bad.count × Bad (drop bad.at s) bad.error
 
 pub record Fronted (s : List ℕ) : Type 0 where
   pub told : FrontOf s (front_of s)

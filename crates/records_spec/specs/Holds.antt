@@ -1,5 +1,5 @@
 -- Holds (Holding.holds): all laws of this crate, with what they assume.
-use Rattle.std.specs.Prelude.{Bool, List, ◌≡◌, ℕ, ◌+◌, ◌≤◌, length}
+use Rattle.std.specs.Prelude.{Bool, List, ◌≡◌, ℕ, ◌+◌, ◌≤◌, length, Ok}
 use Rattle.octets.specs.Bytes.{written}
 use Rattle.records_spec.specs.Accepted.{Decided, Fronted}
 use Rattle.records_spec.specs.Examples.{RecordCodes, Examples}
@@ -15,7 +15,6 @@ use Rattle.records_spec.specs.Search.{IsRead, Decides, Searching}
 use Rattle.records_spec.specs.Uuids.{OneByOne}
 use Rattle.records_spec.specs.Write.{record_octets}
 use Rattle.records_spec.specs.declared.ad_structure.AdStructure.{AdStructure}
-use Rattle.records_spec.specs.declared.area.PaddedArea.TheVariants as padded
 
 pub record Holds : Type 1 where
   pub decided : (s : List ℕ) → Decided s
@@ -23,7 +22,7 @@ pub record Holds : Type 1 where
   pub hub_reads : (s : List ℕ) → HubReads s
   pub differs : (s : List ℕ) → Differs s
   pub without_size : WithoutSize
-  pub took : (s : List ℕ) (m taken : ℕ) (is : read_padded s ≡ padded.Accepted m taken) (out : List ℕ) → Took s out m taken is
+  pub took : (s : List ℕ) (m taken : ℕ) (is : read_padded s ≡ Ok (m, taken)) (out : List ℕ) → Took s out m taken is
   pub rows : PaddedRows
   pub ordered : (a : AdStructure) (s out : List ℕ) (at : ℕ) → Ordered a s out at
   pub standing : (a : AdStructure) (ty start len : ℕ) (own s out : List ℕ) (at : ℕ) → Layout a ty own start len → Lends a s → at + 2 + data_octets a ≤ length out

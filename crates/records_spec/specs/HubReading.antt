@@ -6,14 +6,11 @@
 --   ended_by a taken zeros == the answer for records that are read as a and took `taken` octets, where zeros alone follow them, or not
 --   read_padded s          == the number of records and the octets that they took, or the refusal of the first fault
 --   area_in a              == the same without the octets taken
-use Rattle.std.specs.Prelude.{Bool, true, false, cond, ◌&&◌, ℕ, eqb, length, get_or, drop}
+use Rattle.std.specs.Prelude.{Bool, true, false, cond, ◌&&◌, ℕ, eqb, length, get_or, drop, Result, Ok, Err}
 use mathlib.Core.List.{List, [], ◌∷◌, flatten}
 use Rattle.octets.specs.declared.error.Error.TheVariants.{InvalidLength}
-use Rattle.records_spec.specs.declared.area.Area.{Area}
-use Rattle.records_spec.specs.declared.area.Area.TheVariants as area
-use Rattle.records_spec.specs.declared.area.PaddedArea.{PaddedArea}
-use Rattle.records_spec.specs.declared.area.PaddedArea.TheVariants as padded
 use Rattle.records_spec.specs.Area.{records, read_area}
+use Rattle.octets.specs.declared.error.Error.{Error}
 
 unfoldable pub before_zero : List (List ℕ) → List (List ℕ)
 before_zero [] = []
@@ -27,15 +24,15 @@ is_zeros [] = true
 is_zeros (x ∷ l) = eqb x 0 && is_zeros l
 
 -- records that are read so and took `taken` octets, where after them there are zeros alone, or not
-unfoldable pub ended_by : Area → ℕ → Bool → PaddedArea
-ended_by (area.Accepted n) taken true = padded.Accepted n taken
-ended_by (area.Accepted n) taken false = padded.Refused InvalidLength
-ended_by (area.Refused e) taken zeros = padded.Refused e
+unfoldable pub ended_by : Result ℕ Error → ℕ → Bool → Result (ℕ × ℕ) Error
+ended_by (Ok n) taken true = Ok (n, taken)
+ended_by (Ok n) taken false = Err InvalidLength
+ended_by (Err e) taken zeros = Err e
 
 -- the records before the padding are read strictly; "A nonzero octet after that point is 2."
-unfoldable pub read_padded : List ℕ → PaddedArea
+unfoldable pub read_padded : List ℕ → Result (ℕ × ℕ) Error
 read_padded s = ended_by (read_area (unpadded s)) (length (unpadded s)) (is_zeros (drop (length (unpadded s)) s))
 
-unfoldable pub area_in : PaddedArea → Area
-area_in (padded.Accepted n taken) = area.Accepted n
-area_in (padded.Refused e) = area.Refused e
+unfoldable pub area_in : Result (ℕ × ℕ) Error → Result ℕ Error
+area_in (Ok (n, taken)) = Ok n
+area_in (Err e) = Err e

@@ -8,11 +8,9 @@
 --   Sound a s          == they lie in s, and are UTF-8 where a is a name, whole UUIDs where it is a list
 --   NotWritten a s out at e, Put a s out at == a refused write, and one that is not
 --   Ordered a s out at (Order.ordered)  each case, the first first
-use Rattle.std.specs.Prelude.{◌≡◌, true, false, List, ℕ, ◌+◌, ◌%◌, ◌<◌, ◌≤◌, length, get_or}
+use Rattle.std.specs.Prelude.{◌≡◌, true, false, List, ℕ, ◌+◌, ◌%◌, ◌<◌, ◌≤◌, length, get_or, Ok, Err}
 use Rattle.octets.specs.declared.error.Error.{Error}
 use Rattle.octets.specs.declared.error.Error.TheVariants.{Eof, InvalidValue, RecordLength}
-use Rattle.octets.specs.declared.bytes.Written.{Written}
-use Rattle.octets.specs.declared.bytes.Written.TheVariants.{To}
 use Rattle.octets.specs.Bytes.{part}
 use Rattle.utf8.specs.Utf8.{is_utf8}
 use Rattle.records_spec.specs.declared.ad_structure.AdStructure.{AdStructure}
@@ -65,12 +63,12 @@ pub record Sound (a : AdStructure) (s : List ℕ) : Type 0 where
   pub list : record_len a % uuid_octets a ≡ 0
 
 pub record NotWritten (a : AdStructure) (s out : List ℕ) (at : ℕ) (e : Error) : Type 0 where
-  pub answers : written_to a s out at ≡ Written.Refused e
+  pub answers : written_to a s out at ≡ Err e
   pub kept : written_after a s out at ≡ out
 
 -- length and type are an octet each; the record stands there octet by octet, and all octets before and after it are kept
 pub record Put (a : AdStructure) (s out : List ℕ) (at : ℕ) : Type 0 where
-  pub answers : written_to a s out at ≡ To (record { at = at + 2 + data_octets a })
+  pub answers : written_to a s out at ≡ Ok (record { at = at + 2 + data_octets a })
   pub as_long : length (written_after a s out at) ≡ length out
   pub octets : {ty start len : ℕ} {own : List ℕ} → Layout a ty own start len → LaidOut ty own start len s at (written_after a s out at)
   pub before : (i : ℕ) → i < at → get_or (written_after a s out at) i 0 ≡ get_or out i 0

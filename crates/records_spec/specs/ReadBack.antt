@@ -6,15 +6,11 @@
 --   FoundAgain a s out at == what reading finds
 --   WrittenAndReadBack    (ReadBack.written_and_read_back)  it finds this of every record that is written
 --   NotAsItself           (ReadBack.not_as_itself)          type 01 without data is written, and reading it is refused
-use Rattle.std.specs.Prelude.{◌≡◌, List, [], ◌∷◌, ℕ, ◌+◌, ◌<◌, ◌^◌, length}
+use Rattle.std.specs.Prelude.{◌≡◌, List, [], ◌∷◌, ℕ, ◌+◌, ◌<◌, ◌^◌, length, Ok, Some, Err}
 use Rattle.octets.specs.declared.error.Error.TheVariants.{InvalidLength}
 use Rattle.octets.specs.Bytes.{part}
 use Rattle.records_spec.specs.declared.ad_structure.AdStructure.{AdStructure}
 use Rattle.records_spec.specs.declared.ad_structure.AdStructure.TheVariants.{Flags, ServiceUuids16, ServiceUuids32, ServiceUuids128, ServiceData16, CompleteLocalName, ShortenedLocalName, ManufacturerSpecificData, Unknown}
-use Rattle.records_spec.specs.declared.ad_structure.Parsed.TheVariants.{Structure}
-use Rattle.records_spec.specs.declared.ad_structure.Read.{Read}
-use Rattle.records_spec.specs.declared.ad_structure.Read.TheVariants.{Record}
-use Rattle.octets.specs.declared.error.Outcome.TheVariants as outcome
 use Rattle.records_spec.specs.Record.{data_read, up_to, record_at, known_read}
 use Rattle.flags.specs.Flags.{named}
 use Rattle.records_spec.specs.Write.{record_type, record_own, data_of, may_write, record_octets, written_after}
@@ -63,16 +59,16 @@ pub record FoundAgain (a : AdStructure) (s out : List ℕ) (at : ℕ) : Type 0 w
   -- its data stand after its type
   pub there : part (length (data_of a s)) (written_after a s out at) (at + 2) ≡ data_of a s
   -- it is read as itself
-  pub itself : AsItself a → record_at (written_after a s out at) at ≡ Record (moved_to (at + 2) a) (at + length (record_octets a s))
+  pub itself : AsItself a → record_at (written_after a s out at) at ≡ Ok (Some (moved_to (at + 2) a, at + length (record_octets a s)))
   -- it is left as type and data, and read on as itself
   pub known : OfKnownType a
-      → (record_at (written_after a s out at) at ≡ Record (left_as a s (at + 2)) (at + length (record_octets a s)))
-      × (known_read (left_as a s (at + 2)) (written_after a s out at) ≡ Structure (moved_to (at + 2 + length (record_own a)) a))
+      → (record_at (written_after a s out at) at ≡ Ok (Some (left_as a s (at + 2), at + length (record_octets a s))))
+      × (known_read (left_as a s (at + 2)) (written_after a s out at) ≡ Ok (moved_to (at + 2 + length (record_own a)) a))
 
 abbrev pub WrittenAndReadBack : Type 0
-WrittenAndReadBack = (a : AdStructure) (s out : List ℕ) (at : ℕ) → may_write a s out at ≡ outcome.Accepted → FoundAgain a s out at
+WrittenAndReadBack = (a : AdStructure) (s out : List ℕ) (at : ℕ) → may_write a s out at ≡ Ok tt → FoundAgain a s out at
 
 -- type and data of type 01, 02 or 03 are read as Flags or as a list, or refused: the smallest such write is of type 01 without data
 pub record NotAsItself : Type 0 where
   pub writes : written_after (Unknown 0x01 0 0) [] (0 ∷ 0 ∷ []) 0 ≡ 0x01 ∷ 0x01 ∷ []
-  pub refuses : record_at (0x01 ∷ 0x01 ∷ []) 0 ≡ Read.Refused InvalidLength
+  pub refuses : record_at (0x01 ∷ 0x01 ∷ []) 0 ≡ Err InvalidLength

@@ -12,23 +12,17 @@
 --   Restores s out                      == rewriting the area s to `out` restores its octets, save the bits of Flags that have no name
 --   Unwritten s out e                   == rewriting s to `out` is refused with e, and leaves `out`
 --   Rewriting s out                     (Restored.rewriting)            an accepted area with room is restored so, and what is refused
-use Rattle.std.specs.Prelude.{◌≡◌, ℕ, ◌+◌, ◌%◌, ◌<◌, ◌≤◌, length, get_or, take, drop}
+use Rattle.std.specs.Prelude.{◌≡◌, ℕ, ◌+◌, ◌%◌, ◌<◌, ◌≤◌, length, get_or, take, drop, Ok, Some, Err}
 use mathlib.Core.List.{List, map, flatten}
 use Rattle.octets.specs.Lists.{All}
 use Rattle.octets.specs.declared.error.Error.{Error}
 use Rattle.octets.specs.declared.error.Error.TheVariants.{Eof}
-use Rattle.octets.specs.declared.bytes.Written.{Written}
-use Rattle.octets.specs.declared.bytes.Written.TheVariants.{To}
 use Rattle.octets.specs.Bytes.{part, written}
 use Rattle.octets.specs.Laws.{Octets}
 use Rattle.records_spec.specs.declared.ad_structure.AdStructure.{AdStructure}
 use Rattle.records_spec.specs.declared.ad_structure.AdStructure.TheVariants.{Unknown}
-use Rattle.records_spec.specs.declared.ad_structure.Parsed.TheVariants.{Structure}
-use Rattle.records_spec.specs.declared.ad_structure.Read.TheVariants.{Record}
 use Rattle.records_spec.specs.Record.{record_of, first, record_at, known_read}
 use Rattle.records_spec.specs.Write.{written_to, written_after}
-use Rattle.records_spec.specs.declared.area.Area.{Area}
-use Rattle.records_spec.specs.declared.area.Area.TheVariants.{Accepted}
 use Rattle.records_spec.specs.Area.{records, reads, read_area, clean, rewritten, rewritten_to, rewritten_after}
 
 -- octets 0 and 1 of a record are its length and its type, and the octet of Flags is octet 2
@@ -56,22 +50,22 @@ abbrev pub octets_at : List ℕ → ℕ → List ℕ
 octets_at s at = first (drop at s)
 
 pub record WrittenAgain (s out : List ℕ) (at : ℕ) (a : AdStructure) (next : ℕ) : Type 0 where
-  pub answers : written_to a s out at ≡ To (record { at = next })
+  pub answers : written_to a s out at ≡ Ok (record { at = next })
   pub writes : written_after a s out at ≡ written (clean (octets_at s at)) out at
 
 -- as `rewrite_area` does with each record
 abbrev pub ReadAndRewritten : Type 0
-ReadAndRewritten = (s out : List ℕ) (at : ℕ) (a : AdStructure) (next : ℕ) → Octets s → record_at s at ≡ Record a next → next ≤ length out → WrittenAgain s out at a next
+ReadAndRewritten = (s out : List ℕ) (at : ℕ) (a : AdStructure) (next : ℕ) → Octets s → record_at s at ≡ Ok (Some (a, next)) → next ≤ length out → WrittenAgain s out at a next
 
 pub record ReadOnAgain (ty start len : ℕ) (s out : List ℕ) (at : ℕ) (b : AdStructure) : Type 0 where
-  pub answers : written_to b s out at ≡ To (record { at = at + 2 + len })
+  pub answers : written_to b s out at ≡ Ok (record { at = at + 2 + len })
   pub writes : written_after b s out at ≡ written (clean (record_of ty (part len s start))) out at
 
 -- with `read_known`; a record that was not left as type and data stays as it is
 pub record ReadOnAndRewritten (s : List ℕ) : Type 0 where
-  pub again : Octets s → (ty start len : ℕ) (b : AdStructure) → known_read (Unknown ty start len) s ≡ Structure b → (out : List ℕ) (at : ℕ) → at + 2 + len ≤ length out → len < 255
+  pub again : Octets s → (ty start len : ℕ) (b : AdStructure) → known_read (Unknown ty start len) s ≡ Ok b → (out : List ℕ) (at : ℕ) → at + 2 + len ≤ length out → len < 255
       → ReadOnAgain ty start len s out at b
-  pub same : (a : AdStructure) → ((ty start len : ℕ) → a ≡ Unknown ty start len → ⊥) → known_read a s ≡ Structure a
+  pub same : (a : AdStructure) → ((ty start len : ℕ) → a ≡ Unknown ty start len → ⊥) → known_read a s ≡ Ok a
 
 -- records lie one after the other: the length octet of a record counts the octets after it
 pub data Begins (s : List ℕ) : ℕ → Type 0 where
@@ -87,11 +81,11 @@ pub record FlagsOctet (s : List ℕ) (i : ℕ) : Type 0 where
 -- a record is read there, up to where the next one begins
 pub record ReadAt (s : List ℕ) (p : ℕ) : Type 0 where
   pub structure : AdStructure
-  pub reads : record_at s p ≡ Record structure (p + 1 + get_or s p 0)
+  pub reads : record_at s p ≡ Ok (Some (structure, p + 1 + get_or s p 0))
 
 -- "Records read and rewritten restore their octets, save undefined Flags bits."
 pub record Restores (s out : List ℕ) : Type 0 where
-  pub answers : rewritten_to s out ≡ To (record { at = length s })
+  pub answers : rewritten_to s out ≡ Ok (record { at = length s })
   pub as_long : length (rewritten_after s out) ≡ length out
   -- octet i of the buffer is octet i of the area
   pub restored : (i : ℕ) → i < length s → (FlagsOctet s i → ⊥) → get_or (rewritten_after s out) i 0 ≡ get_or s i 0
@@ -106,11 +100,11 @@ pub record Restores (s out : List ℕ) : Type 0 where
 
 -- a refused rewriting leaves `out`
 pub record Unwritten (s out : List ℕ) (e : Error) : Type 0 where
-  pub answers : rewritten_to s out ≡ Written.Refused e
+  pub answers : rewritten_to s out ≡ Err e
   pub kept : rewritten_after s out ≡ out
 
 -- a bad area is refused as reading it is, whatever the room; then too little room with 1
 pub record Rewriting (s out : List ℕ) : Type 0 where
-  pub restores : (n : ℕ) → read_area s ≡ Accepted n → length s ≤ length out → Restores s out
-  pub bad : (e : Error) → read_area s ≡ Area.Refused e → Unwritten s out e
-  pub no_room : (n : ℕ) → read_area s ≡ Accepted n → length out < length s → Unwritten s out Eof
+  pub restores : (n : ℕ) → read_area s ≡ Ok n → length s ≤ length out → Restores s out
+  pub bad : (e : Error) → read_area s ≡ Err e → Unwritten s out e
+  pub no_room : (n : ℕ) → read_area s ≡ Ok n → length out < length s → Unwritten s out Eof

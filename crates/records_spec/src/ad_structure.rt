@@ -52,29 +52,3 @@ pub enum AdStructure {
         len: usize,
     },
 }
-
-// What reading a record's data finds.
-#[derive(Clone, Copy)]
-pub enum Parsed {
-    Structure(AdStructure),
-    Refused(Error),
-}
-
-// What reading at a position finds.
-#[derive(Clone, Copy)]
-pub enum Read {
-    // A record, and the position after it.
-    Record(AdStructure, usize),
-    // Nothing is left.
-    End,
-    Refused(Error),
-}
-
-// The next UUID of a list, and the position after it.
-#[derive(Clone, Copy)]
-pub enum NextUuid16 {
-    Uuid(Uuid16, usize),
-    // The list ends here.
-    End,
-    Refused(Error),
-}

@@ -1,204 +1,157 @@
-// A line of the input, read character by character: a letter, and octets in hexadecimal.
-ghost use Rattle.std.specs.Prelude.{◌≤◌};
+// A line of the input, read a character at a time: a letter, and octets in hexadecimal.
+use arrayvec::ArrayVec;
+use std::mem;
+use thiserror::Error;
+
+// The most octets that a line has, and that a request is lent.
+pub(crate) const MOST: usize = 320;
+
+pub(crate) type Octets = ArrayVec<u8, MOST>;
 
 // Why a line is no request: what is met first.
-#[derive(Clone, Copy)]
+#[derive(Clone, Copy, Debug, Error)]
 pub(crate) enum Fault {
-    // A letter that names no request.
+    #[error("no such request")]
     NoRequest,
-    // A letter, and something else than a space after it.
+    // Something else than a space stands there.
+    #[error("no space behind its letter")]
     NoSpace,
-    // Something that is no digit, where an octet stands.
+    // Something else than a digit or a space stands there.
+    #[error("an octet that is no number")]
     NoNumber,
-    // A digit with none after it.
+    #[error("an octet of one digit")]
     OneDigit,
-    // A carriage return.
+    #[error("a carriage return")]
     Return,
-    // More octets than the request holds.
+    #[error("too many octets")]
     TooMany,
-    // Fewer octets than the request needs.
+    #[error("too few octets")]
     TooFew,
 }
 
-// How far a line is read.
+impl Fault {
+    // What is at fault where `c` does not belong.
+    pub(crate) fn at(c: u8, fault: Fault) -> Fault {
+        if c == b'\r' { Fault::Return } else { fault }
+    }
+}
+
+fn digit(c: u8) -> Result<u8, Fault> {
+    match char::from(c).to_digit(16) {
+        Some(digit) => Ok(digit as u8),
+        None => Err(Fault::at(c, Fault::NoNumber)),
+    }
+}
+
+// What a line goes on with.
 #[derive(Clone, Copy)]
-pub(crate) enum Line {
-    // Nothing is.
-    Start,
-    Remark,
-    // Its letter.
-    Letter(u8),
-    // A letter, and so many octets.
-    Octets(u8, usize),
-    // A letter, so many octets, and a digit of the next.
-    Half(u8, usize, u8),
-    Broken(Fault),
+enum Next {
+    Letter,
+    Space,
+    Octet,
+    // The second digit of an octet, after this one.
+    Digit(u8),
 }
 
-// What a whole line asks.
+// A line as far as it is read: up to its first fault.
+#[derive(Drop)]
+pub(crate) struct Line {
+    letter: Option<u8>,
+    octets: Octets,
+    next: Next,
+    fault: Option<Fault>,
+}
+
+impl Line {
+    pub(crate) fn new() -> Line {
+        Line {
+            letter: None,
+            octets: Octets::new(),
+            next: Next::Letter,
+            fault: None,
+        }
+    }
+
+    // Reads one character more. What follows a fault is passed over.
+    pub(crate) fn push(&mut self, c: u8) {
+        if self.fault.is_none() {
+            if let Err(fault) = self.read(c) {
+                self.fault = Some(fault);
+            }
+        }
+    }
+
+    fn read(&mut self, c: u8) -> Result<(), Fault> {
+        self.next = match self.next {
+            Next::Letter => {
+                self.letter = Some(c);
+                Next::Space
+            }
+            Next::Space if c == b' ' => Next::Octet,
+            Next::Space => return Err(Fault::at(c, Fault::NoSpace)),
+            Next::Octet if c == b' ' => Next::Octet,
+            Next::Octet => Next::Digit(digit(c)?),
+            Next::Digit(_) if c == b' ' => return Err(Fault::OneDigit),
+            Next::Digit(high) => {
+                let octet = (high << 4) | digit(c)?;
+                self.octets.try_push(octet).map_err(|_| Fault::TooMany)?;
+                Next::Octet
+            }
+        };
+        Ok(())
+    }
+
+    pub(crate) fn has_begun(&self) -> bool {
+        self.letter.is_some()
+    }
+
+    // The letter, and what follows it. An empty line has neither.
+    pub(crate) fn parts(&self) -> Option<(u8, Fields<'_>)> {
+        let fault = match self.next {
+            Next::Digit(_) => self.fault.or(Some(Fault::OneDigit)),
+            _ => self.fault,
+        };
+        let octets = &self.octets;
+        Some((self.letter?, Fields { octets, fault }))
+    }
+}
+
+// What a request is made of: the octets of a line that are still to be taken, and the fault after them, if there is one.
 #[derive(Clone, Copy)]
-pub(crate) enum Asked {
-    // It is empty.
-    Nothing,
-    // A letter, and so many octets. A remark has none.
-    Request(u8, usize),
-    Wrong(Fault),
+pub(crate) struct Fields<'a> {
+    octets: &'a [u8],
+    fault: Option<Fault>,
 }
 
-fn is_request(letter: u8) -> bool {
-    match letter {
-        b'a'..=b'e' => true,
-        b'g'..=b'i' => true,
-        b'k'..=b'n' => true,
-        b'p'..=b't' => true,
-        b'w'..=b'z' => true,
-        _ => false,
+impl<'a> Fields<'a> {
+    pub(crate) fn array<const N: usize>(&mut self) -> Result<[u8; N], Fault> {
+        let missing = self.fault.unwrap_or(Fault::TooFew);
+        let (array, rest) = self.octets.split_first_chunk::<N>().ok_or(missing)?;
+        self.octets = rest;
+        Ok(*array)
     }
-}
 
-// How many octets a request has at least.
-fn least(letter: u8) -> usize {
-    match letter {
-        b'i' | b'l' | b'r' | b't' | b'z' => 1,
-        b'c' => 3,
-        b'w' => 4,
-        b'g' | b'm' => 5,
-        b'h' | b'n' => 7,
-        b'b' | b'k' | b'p' => 8,
-        b's' => 9,
-        b'q' => 22,
-        _ => 0,
+    pub(crate) fn octet(&mut self) -> Result<u8, Fault> {
+        let [octet] = self.array::<1>()?;
+        Ok(octet)
     }
-}
 
-// And at most, where there is room for them.
-fn most(letter: u8) -> usize {
-    match letter {
-        b'e' | b'x' => 0,
-        b'i' | b't' => 1,
-        b'g' | b'm' => 5,
-        b'h' | b'n' => 7,
-        b'q' => 22,
-        _ => usize::MAX,
+    pub(crate) fn flag(&mut self) -> Result<bool, Fault> {
+        Ok(self.octet()? == 1)
     }
-}
 
-// The value of a digit, of either case, or 16.
-fn digit(c: u8) -> u8
-    ensures { result ≤ 16 }
-{
-    if c < 48 {
-        return 16;
+    pub(crate) fn rest(&mut self) -> Result<&'a [u8], Fault> {
+        match self.fault {
+            Some(fault) => Err(fault),
+            None => Ok(mem::replace(&mut self.octets, &[])),
+        }
     }
-    if c < 58 {
-        return c - 48;
-    }
-    if c < 65 {
-        return 16;
-    }
-    if c < 71 {
-        return c - 55;
-    }
-    if c < 97 {
-        return 16;
-    }
-    if c < 103 {
-        return c - 87;
-    }
-    16
-}
 
-// A line in which `c` is a fault: that, or a carriage return.
-fn broken(c: u8, fault: Fault) -> Line {
-    if c == 13 {
-        return Line::Broken(Fault::Return);
-    }
-    Line::Broken(fault)
-}
-
-fn first(c: u8) -> Line {
-    if c == b'#' {
-        return Line::Remark;
-    }
-    if is_request(c) {
-        return Line::Letter(c);
-    }
-    broken(c, Fault::NoRequest)
-}
-
-fn behind_letter(letter: u8, c: u8) -> Line {
-    if c == b' ' {
-        return Line::Octets(letter, 0);
-    }
-    broken(c, Fault::NoSpace)
-}
-
-fn behind_octets(letter: u8, n: usize, c: u8) -> Line {
-    if c == b' ' {
-        return Line::Octets(letter, n);
-    }
-    let high = digit(c);
-    if high < 16 {
-        return Line::Half(letter, n, high);
-    }
-    broken(c, Fault::NoNumber)
-}
-
-// The second digit of an octet, which is kept.
-fn behind_digit(letter: u8, n: usize, high: u8, c: u8, octets: &mut [u8; 320]) -> Line {
-    if c == b' ' {
-        return Line::Broken(Fault::OneDigit);
-    }
-    let low = digit(c);
-    if 15 < low {
-        return broken(c, Fault::NoNumber);
-    }
-    if most(letter) <= n {
-        return Line::Broken(Fault::TooMany);
-    }
-    if 320 <= n {
-        return Line::Broken(Fault::TooMany);
-    }
-    octets[n] = high % 16 * 16 + low;
-    Line::Octets(letter, n + 1)
-}
-
-// A line, a character later.
-fn after(line: Line, c: u8, octets: &mut [u8; 320]) -> Line {
-    match line {
-        Line::Start => first(c),
-        Line::Remark => Line::Remark,
-        Line::Letter(letter) => behind_letter(letter, c),
-        Line::Octets(letter, n) => behind_octets(letter, n, c),
-        Line::Half(letter, n, high) => behind_digit(letter, n, high, c, octets),
-        Line::Broken(fault) => Line::Broken(fault),
-    }
-}
-
-// A line, some characters later.
-pub(crate) fn read_on(line: Line, s: &[u8], octets: &mut [u8; 320]) -> Line {
-    let mut so_far = line;
-    for i in 0..s.len() {
-        so_far = after(so_far, s[i], octets);
-    }
-    so_far
-}
-
-fn whole(letter: u8, n: usize) -> Asked {
-    if n < least(letter) {
-        return Asked::Wrong(Fault::TooFew);
-    }
-    Asked::Request(letter, n)
-}
-
-// What a line asks that ends here.
-pub(crate) fn ended(line: Line) -> Asked {
-    match line {
-        Line::Start => Asked::Nothing,
-        Line::Remark => Asked::Request(b'#', 0),
-        Line::Letter(letter) => whole(letter, 0),
-        Line::Octets(letter, n) => whole(letter, n),
-        Line::Half(_, _, _) => Asked::Wrong(Fault::OneDigit),
-        Line::Broken(fault) => Asked::Wrong(fault),
+    // That nothing is left.
+    pub(crate) fn end(self) -> Result<(), Fault> {
+        if !self.octets.is_empty() {
+            return Err(Fault::TooMany);
+        }
+        self.fault.map_or(Ok(()), Err)
     }
 }

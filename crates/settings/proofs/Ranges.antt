@@ -1,5 +1,5 @@
 -- The ranges of a connection's settings, and what is taken, by octets: `tests`, `in_time`, `settles`, `alone`, `limits`. Assumes nothing.
-use mathlib.Core.Bool.{Bool, true, false, cond, false≢true}
+use mathlib.Core.Bool.{Bool, true, false, cond}
 use mathlib.Core.List.{List, [], ◌∷◌}
 use mathlib.Core.Path.{◌≡◌, refl, sym, ap}
 use Prim.Native.Nat.{ℕ, ◌+◌, ◌-◌, ◌*◌, ◌/◌, ◌%◌, ◌≤◌}
@@ -18,11 +18,10 @@ use Rattle.octets.specs.declared.error.Error.TheVariants.{OutOfRange}
 use Rattle.advertising.proofs.Figures.{field_is}
 use Rattle.advertising.specs.Laws.{Figure}
 use Rattle.advertising.specs.Pdu.{ll_data_figure, ll_data_of, ll_data_in}
-use Rattle.octets.specs.Error.{is_accepted}
-use Rattle.settings.specs.Settings.{Ranges, Times, between, in_ranges, Tests, InTime, Within, least_settings, settings_in, refused_settings, is_within, judged, settings_as, taken_of, Taking, Settles, Alone, RangeLimits}
+use Rattle.settings.specs.Ranges.{Ranges, Times, between, in_ranges, Tests, InTime}
+use Rattle.settings.specs.Settings.{Settings, Within, settings_in, is_within, judged, settings_as, taken_of, Taking, Settles, Alone, RangeLimits}
 use Rattle.advertising.specs.declared.pdu.ConnectRequestData.{ConnectRequestData}
-use Rattle.octets.specs.declared.error.Outcome.TheVariants.{Accepted}
-use Rattle.settings.specs.declared.ConnectionSettings.{ConnectionSettings}
+use Rattle.std.specs.Prelude.{Ok, Err, is_err}
 
 pub between_true : (low x high : ℕ) → between low x high ≡ true → (low ≤ x) × (x ≤ high)
 between_true low x high e =
@@ -117,24 +116,6 @@ in_time hop channels interval latency timeout winSize winOffset = (to, from)
           win_offset_most = omega (arith, t.win_offset_most);
         }
 
--- the settings beside a refusal
-pub least_kept : Within least_settings
-least_kept =
-    record {
-      hop_least = omega arith;
-      hop_most = omega arith;
-      two_channels = omega arith;
-      interval_least = omega arith;
-      interval_most = omega arith;
-      latency_most = omega arith;
-      timeout_least = omega arith;
-      timeout_most = omega arith;
-      timeout_above = omega arith;
-      win_size_least = omega arith;
-      win_size_most = omega arith;
-      win_offset_most = omega arith;
-    }
-
 -- the settings as the code has them, of what a request l says
 pub are_in : (l : ConnectRequestData) {hop interval latency timeout winSize winOffset : ℕ} {chm : ChannelMap} → hop ≡ l.hop → chm ≡ l.chm → interval ≡ l.interval → latency ≡ l.latency
     → timeout ≡ l.timeout → winSize ≡ l.win_size → winOffset ≡ l.win_offset
@@ -150,17 +131,17 @@ are_in l hop map interval latency timeout size offset = λ i.
       win_offset = offset i / 1250;
     }
 
--- what is answered for the settings of a request l
-module _ (l : ConnectRequestData) (s : ConnectionSettings) (are : s ≡ settings_in l) where
-  pub judged_is : judged s ≡ taken_of l
+-- what is answered for the settings s of a request l whose map marks some channel
+module _ (l : ConnectRequestData) (s : Settings) (are : s ≡ settings_in l) (some : s.chm.num_used_channels ≡ 0 → ⊥) where
+  judged_is : judged s ≡ taken_of l
   unfolding taken_of
   judged_is = ap judged are
 
-  pub taken_of_law : (s.chm.num_used_channels ≡ 0 → ⊥) → is_within s ≡ true → record { outcome = Accepted; settings = s } ≡ taken_of l
-  taken_of_law some kept = rw (ne_eqb s.chm.num_used_channels 0 some, kept) at judged_is
+  pub within_of : is_within s ≡ true → Ok s ≡ taken_of l
+  within_of kept = rw (ne_eqb s.chm.num_used_channels 0 some, kept) at judged_is
 
-  pub outside_of : (s.chm.num_used_channels ≡ 0 → ⊥) → is_within s ≡ false → refused_settings OutOfRange ≡ taken_of l
-  outside_of some kept = rw (ne_eqb s.chm.num_used_channels 0 some, kept) at judged_is
+  pub outside_of : is_within s ≡ false → Err OutOfRange ≡ taken_of l
+  outside_of kept = rw (ne_eqb s.chm.num_used_channels 0 some, kept) at judged_is
 
 -- a count kept in µs is itself again
 count_of : (n : ℕ) → n * 1250 / 1250 ≡ n
@@ -190,23 +171,22 @@ unfolding taken_of
 taking o =
     record {
       counts = λ _ _ _ _ _ _ _ _ _ _ fig. counts_of fig;
-      sound = λ e. sound _ (eqb n 0) (is_within s) refl e;
+      sound = λ x e. sound _ (eqb n 0) (is_within s) refl x e;
       complete = λ r. rw (ne_eqb n 0 (λ e. let two : 2 ≤ n = r.two_channels in omega (arith, e, two)), (tests _ _ _ _ _ _ _).1 r);
       empty = λ e. rw (eq-eqb n 0 e);
       outside = λ some out. rw (ne_eqb n 0 (λ e. omega (arith, e, some)), outside (is_within s) refl out);
     }
   where
-    s : ConnectionSettings
+    s : Settings
     s = settings_in (ll_data_of o)
 
     n : ℕ
     n = s.chm.num_used_channels
 
-    sound : (r : Error) (b c : Bool) → is_within s ≡ c
-        → (cond b (refused_settings r) (cond c (record { outcome = Accepted; settings = s }) (refused_settings OutOfRange))).outcome ≡ Accepted → Within s
-    sound r true c is e = absurd (false≢true (ap is_accepted e))
-    sound r false true is e = (tests _ _ _ _ _ _ _).0 is
-    sound r false false is e = absurd (false≢true (ap is_accepted e))
+    sound : (e : Error) (b c : Bool) → is_within s ≡ c → (x : Settings) → cond b (Err e) (cond c (Ok s) (Err OutOfRange)) ≡ Ok x → (x ≡ s) × Within s
+    sound e true c is x ok = absurd (let z : true ≡ false = ap is_err ok in cc)
+    sound e false true is x ok = (cc, (tests _ _ _ _ _ _ _).0 is)
+    sound e false false is x ok = absurd (let z : true ≡ false = ap is_err ok in cc)
 
     outside : (c : Bool) → is_within s ≡ c → (Within s → ⊥) → is_within s ≡ false
     outside true is out = absurd (out ((tests _ _ _ _ _ _ _).0 is))

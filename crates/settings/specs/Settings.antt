@@ -1,20 +1,13 @@
--- The settings of a connection and their ranges (document 02, Note 6; the Core, Vol 6 Part B), as the counts that a connect request has: window fields and
--- interval of 1,250 µs, the latency of events, the timeout of 10 ms. The theorems are those of proofs/Ranges.antt and, of all, proofs/Holding.antt.
---   Ranges ..                         == the ranges, as facts about hop, marked channels, interval, latency, timeout, window size and window offset
---   between low x high                == x is from `low` to `high`
---   times_in_range .., window_in_range .. == whether the ranges hold of interval, latency and timeout; of window size and window offset
---   in_ranges ..                       == whether they hold of all
---   Tests                             (Ranges.tests)    the test is the ranges, both ways
---   Times ..                          == the ranges as the Core says them, in µs
---   InTime                            (Ranges.in_time)  these are the ranges
+-- The settings of a connection that are taken (document 02, Note 6), as counts; their ranges are in specs/Ranges. The theorems are those of proofs/Ranges.antt and,
+-- of all, proofs/Holding.antt.
+--   Settings                           == the counts of settings, in range or not
 --   Within s                          == the ranges hold of settings; is_within s: whether they do
 --   settings_as ..                     == settings of these values
---   least_settings                     == the least of each range, over all channels
+--   settings_of s, answer_of r         == the counts of the code's settings, and of what it answers
+--   AsItIs                            (Holding.as_it_is)  what is read so is what the code has
 --   settings_in l                      == the settings that a decoded request has, in range or not
---   refused_settings e                 == the refusal e, with the least settings
 --   judged s                          == what is answered for settings; taken_of l: for those of a decoded request
 --   alone_of o                         == the same for the 22 octets of LLData
---   number_taken t                     == its number, 0 where the settings were taken
 --   Taking o s t                      == s are the settings in the octets o of LLData, and t is what is taken of them, or the refusal
 --   Settles p                         (Ranges.settles)  what is taken of a connect request's payload, and what is refused
 --   Alone o                           (Ranges.alone)    the same of the 22 octets alone, and that those before them say nothing
@@ -23,128 +16,82 @@
 --   number_with ..                     == the number that taking such LLData answers
 --   RangeLimits                       (Ranges.limits)   worked values on both sides of each limit
 --   Holds                             (Holding.holds)   all of these, with what they assume
-use Rattle.std.specs.Prelude.{Bool, true, cond, ◌&&◌, List, [], ◌∷◌, ◌++◌, map, ◌≡◌, ℕ, ◌+◌, ◌-◌, ◌*◌, ◌/◌, ◌%◌, ◌≤◌, ◌<◌, min, eqb, leb, ltb, length, replicate}
-use Rattle.channels.specs.Map.{from_raw, all_channels}
+use Rattle.std.specs.Prelude.{Bool, cond, List, [], ◌∷◌, ◌++◌, map, ◌≡◌, ℕ, ◌/◌, ◌%◌, ◌≤◌, eqb, length, replicate, Result, Ok, Err}
+use Rattle.channels.specs.Map.{from_raw}
 use Rattle.channels.specs.declared.channel_map.ChannelMap.{ChannelMap}
 use Rattle.octets.specs.Bytes.{le, le_bytes}
 use Rattle.octets.specs.declared.error.Error.{Error}
 use Rattle.octets.specs.declared.error.Error.TheVariants.{EmptyMap, OutOfRange}
 use Rattle.advertising.specs.Laws.{Figure}
 use Rattle.advertising.specs.Pdu.{ll_data_figure, ll_data_of, ll_data_in, request_of}
-use Rattle.octets.specs.Error.{outcome_number}
+use Rattle.advertising.specs.Refusals.{number_in}
 use Rattle.advertising.specs.declared.pdu.ConnectRequestData.{ConnectRequestData}
-use Rattle.octets.specs.declared.error.Outcome.TheVariants.{Accepted, Refused}
+use Rattle.settings.specs.Ranges.{Ranges, in_ranges, Tests, InTime}
 use Rattle.settings.specs.declared.ConnectionSettings.{ConnectionSettings}
-use Rattle.settings.specs.declared.Taken.{Taken}
 
--- "hop 5 to 16, at least two channels, interval 6 to 3,200, latency 0 to 499, timeout 10 to 3,200, timeout × 4 above (1 + latency) × interval, window size 1 to
--- the lesser of 8 and interval − 1, window offset at most interval"
-pub record Ranges (hop channels interval latency timeout winSize winOffset : ℕ) : Type 0 where
-  -- 2.3.3.1 and 4.5.8.2
-  pub hop_least : 5 ≤ hop
-  pub hop_most : hop ≤ 16
-  -- 4.5.8.1
-  pub two_channels : 2 ≤ channels
-  -- 4.5.1: 7.5 ms to 4 s, and fewer than 500 events
-  pub interval_least : 6 ≤ interval
-  pub interval_most : interval ≤ 3200
-  pub latency_most : latency ≤ 499
-  -- 4.5.2: 100 ms to 32 s, and above twice the time from one event that is not slept through to the next
-  pub timeout_least : 10 ≤ timeout
-  pub timeout_most : timeout ≤ 3200
-  pub timeout_above : (1 + latency) * interval < timeout * 4
-  -- 4.5.3
-  pub win_size_least : 1 ≤ winSize
-  pub win_size_most : winSize ≤ min 8 (interval - 1)
-  pub win_offset_most : winOffset ≤ interval
+-- the counts of settings, in range or not
+pub record Settings : Type 0 where
+  pub hop : ℕ
+  pub chm : ChannelMap
+  pub interval : ℕ
+  pub latency : ℕ
+  pub timeout : ℕ
+  pub win_size : ℕ
+  pub win_offset : ℕ
 
-abbrev pub between : ℕ → ℕ → ℕ → Bool
-between low x high = leb low x && leb x high
-
-abbrev pub times_in_range : ℕ → ℕ → ℕ → Bool
-times_in_range interval latency timeout =
-    between 6 interval 3200 && (leb latency 499 && (between 10 timeout 3200 && ltb ((1 + latency) * interval) (timeout * 4)))
-
-abbrev pub window_in_range : ℕ → ℕ → ℕ → Bool
-window_in_range interval winSize winOffset = between 1 winSize (min 8 (interval - 1)) && leb winOffset interval
-
-unfoldable pub in_ranges : ℕ → ℕ → ℕ → ℕ → ℕ → ℕ → ℕ → Bool
-in_ranges hop channels interval latency timeout winSize winOffset =
-    between 5 hop 16 && (leb 2 channels && (times_in_range interval latency timeout && window_in_range interval winSize winOffset))
-
-abbrev pub Tests : Type 0
-Tests =
-    (hop channels interval latency timeout winSize winOffset : ℕ)
-    → (in_ranges hop channels interval latency timeout winSize winOffset ≡ true → Ranges hop channels interval latency timeout winSize winOffset)
-    × (Ranges hop channels interval latency timeout winSize winOffset → in_ranges hop channels interval latency timeout winSize winOffset ≡ true)
-
--- the same in the Core's own words: times in µs, a latency of fewer than 500 events, a timeout above twice (1 + latency) × interval
-pub record Times (hop channels interval latency timeout winSize winOffset : ℕ) : Type 0 where
-  pub hop_above : 4 < hop
-  pub hop_below : hop < 17
-  pub channels_above : 1 < channels
-  pub interval_least : 7500 ≤ interval * 1250
-  pub interval_most : interval * 1250 ≤ 4000000
-  pub latency_below : latency < 500
-  pub timeout_least : 100000 ≤ timeout * 10000
-  pub timeout_most : timeout * 10000 ≤ 32000000
-  pub timeout_above : 2 * ((1 + latency) * (interval * 1250)) < timeout * 10000
-  pub win_size_least : 1250 ≤ winSize * 1250
-  pub win_size_most : winSize * 1250 ≤ 10000
-  pub win_size_inside : winSize * 1250 + 1250 ≤ interval * 1250
-  pub win_offset_most : winOffset * 1250 ≤ interval * 1250
-
-abbrev pub InTime : Type 0
-InTime =
-    (hop channels interval latency timeout winSize winOffset : ℕ)
-    → (Ranges hop channels interval latency timeout winSize winOffset → Times hop channels interval latency timeout winSize winOffset)
-    × (Times hop channels interval latency timeout winSize winOffset → Ranges hop channels interval latency timeout winSize winOffset)
-
-abbrev pub Within : ConnectionSettings → Type 0
+abbrev pub Within : Settings → Type 0
 Within s = Ranges s.hop s.chm.num_used_channels s.interval s.latency s.timeout s.win_size s.win_offset
 
-abbrev pub settings_as : ℕ → ChannelMap → ℕ → ℕ → ℕ → ℕ → ℕ → ConnectionSettings
+abbrev pub settings_as : ℕ → ChannelMap → ℕ → ℕ → ℕ → ℕ → ℕ → Settings
 settings_as hop chm interval latency timeout winSize winOffset =
     record { hop = hop; chm = chm; interval = interval; latency = latency; timeout = timeout; win_size = winSize; win_offset = winOffset }
 
-abbrev pub least_settings : ConnectionSettings
-least_settings = settings_as 5 all_channels 6 0 10 1 0
+abbrev pub settings_of : ConnectionSettings → Settings
+settings_of s = settings_as s.hop s.chm s.interval s.latency s.timeout s.win_size s.win_offset
+
+abbrev pub answer_of : Result ConnectionSettings Error → Result Settings Error
+answer_of (Ok s) = Ok (settings_of s)
+answer_of (Err e) = Err e
+
+-- the code's settings are read as they are, count by count, and so is its answer
+pub record AsItIs : Type 0 where
+  pub hop : (s : ConnectionSettings) → (settings_of s).hop ≡ s.hop
+  pub chm : (s : ConnectionSettings) → (settings_of s).chm ≡ s.chm
+  pub interval : (s : ConnectionSettings) → (settings_of s).interval ≡ s.interval
+  pub latency : (s : ConnectionSettings) → (settings_of s).latency ≡ s.latency
+  pub timeout : (s : ConnectionSettings) → (settings_of s).timeout ≡ s.timeout
+  pub win_size : (s : ConnectionSettings) → (settings_of s).win_size ≡ s.win_size
+  pub win_offset : (s : ConnectionSettings) → (settings_of s).win_offset ≡ s.win_offset
+  pub taken : (s : ConnectionSettings) → answer_of (Ok s) ≡ Ok (settings_of s)
+  pub refused : (e : Error) → answer_of (Err e) ≡ Err e
 
 -- a request's data are kept in µs, the count times its unit
-abbrev pub settings_in : ConnectRequestData → ConnectionSettings
+abbrev pub settings_in : ConnectRequestData → Settings
 settings_in l = settings_as l.hop l.chm (l.interval / 1250) l.latency (l.timeout / 10000) (l.win_size / 1250) (l.win_offset / 1250)
 
-abbrev pub refused_settings : Error → Taken
-refused_settings e = record { outcome = Refused e; settings = least_settings }
-
-abbrev pub is_within : ConnectionSettings → Bool
+abbrev pub is_within : Settings → Bool
 is_within s = in_ranges s.hop s.chm.num_used_channels s.interval s.latency s.timeout s.win_size s.win_offset
 
 -- "12, a setting outside its range .., after 6"
-abbrev pub judged : ConnectionSettings → Taken
-judged s =
-    cond (eqb s.chm.num_used_channels 0) (refused_settings EmptyMap)
-    (cond (is_within s) (record { outcome = Accepted; settings = s }) (refused_settings OutOfRange))
+abbrev pub judged : Settings → Result Settings Error
+judged s = cond (eqb s.chm.num_used_channels 0) (Err EmptyMap) (cond (is_within s) (Ok s) (Err OutOfRange))
 
-unfoldable pub taken_of : ConnectRequestData → Taken
+unfoldable pub taken_of : ConnectRequestData → Result Settings Error
 taken_of l = judged (settings_in l)
 
-abbrev pub alone_of : List ℕ → Taken
+abbrev pub alone_of : List ℕ → Result Settings Error
 alone_of o = taken_of (ll_data_of o)
-
-abbrev pub number_taken : Taken → ℕ
-number_taken t = outcome_number t.outcome
 
 -- Settings are taken exactly where they are within the ranges, and are then the request's own counts: the numbers of LLData's fields, as the figure in
 -- specs/Pdu.antt draws them. Where the map marks no channel, they are refused with 6, and where it marks one and a setting is outside its range, with 12.
-pub record Taking (o : List ℕ) (s : ConnectionSettings) (t : Taken) : Type 0 where
+pub record Taking (o : List ℕ) (s : Settings) (t : Result Settings Error) : Type 0 where
   pub counts : (aa crcInit winSize winOffset interval latency timeout chM hopSca further : List ℕ)
       → Figure ll_data_figure (aa ∷ crcInit ∷ winSize ∷ winOffset ∷ interval ∷ latency ∷ timeout ∷ chM ∷ hopSca ∷ []) further o
       → s ≡ settings_as (le hopSca % 32) (from_raw chM) (le interval) (le latency) (le timeout) (le winSize) (le winOffset)
-  pub sound : t.outcome ≡ Accepted → Within s
-  pub complete : Within s → t ≡ record { outcome = Accepted; settings = s }
-  pub empty : s.chm.num_used_channels ≡ 0 → t ≡ record { outcome = Refused EmptyMap; settings = least_settings }
-  pub outside : 1 ≤ s.chm.num_used_channels → (Within s → ⊥) → t ≡ record { outcome = Refused OutOfRange; settings = least_settings }
+  pub sound : (x : Settings) → t ≡ Ok x → (x ≡ s) × Within s
+  pub complete : Within s → t ≡ Ok s
+  pub empty : s.chm.num_used_channels ≡ 0 → t ≡ Err EmptyMap
+  pub outside : 1 ≤ s.chm.num_used_channels → (Within s → ⊥) → t ≡ Err OutOfRange
 
 abbrev pub Settles : List ℕ → Type 0
 Settles p = Taking (ll_data_in p) (settings_in (request_of p)) (taken_of (request_of p))
@@ -171,7 +118,7 @@ abbrev pub none_marked : List ℕ
 none_marked = 0x00 ∷ 0x00 ∷ 0x00 ∷ 0x00 ∷ 0xE0 ∷ []
 
 abbrev pub number_with : ℕ → List ℕ → ℕ → ℕ → ℕ → ℕ → ℕ → ℕ
-number_with hopSca chm interval latency timeout winSize winOffset = number_taken (alone_of (lldata hopSca chm interval latency timeout winSize winOffset))
+number_with hopSca chm interval latency timeout winSize winOffset = number_in (alone_of (lldata hopSca chm interval latency timeout winSize winOffset))
 
 pub record RangeLimits : Type 0 where
   -- the low five bits of the last octet
@@ -193,17 +140,13 @@ pub record RangeLimits : Type 0 where
   pub win_size_6 : map (λ (n : ℕ). number_with 5 two_marked 6 0 100 n 3) (5 ∷ 6 ∷ []) ≡ 0 ∷ 12 ∷ []
   pub win_offset : map (λ (n : ℕ). number_with 5 two_marked 24 0 100 2 n) (0 ∷ 24 ∷ 25 ∷ 65535 ∷ []) ≡ 0 ∷ 0 ∷ 12 ∷ 12 ∷ []
   -- no channel, with another setting outside its range; all octets zero, all FF; 65,535 three times
-  pub order : number_with 0x11 none_marked 0 0 0 0 0 ∷ number_taken (alone_of (replicate 22 0x00)) ∷ number_taken (alone_of (replicate 22 0xFF)) ∷ number_with 5 two_marked 65535 65535 65535 2 3 ∷ [] ≡ 6 ∷ 6 ∷ 12 ∷ 12 ∷ []
-  -- the settings themselves, by their octets, and those beside a refusal
+  pub order : number_with 0x11 none_marked 0 0 0 0 0 ∷ number_in (alone_of (replicate 22 0x00)) ∷ number_in (alone_of (replicate 22 0xFF)) ∷ number_with 5 two_marked 65535 65535 65535 2 3 ∷ [] ≡ 6 ∷ 6 ∷ 12 ∷ 12 ∷ []
+  -- the settings themselves, by their octets
   pub octets : lldata 0x2A two_marked 300 4 800 7 200
       ≡ 0xD6 ∷ 0xBE ∷ 0x89 ∷ 0x8E ∷ 0x56 ∷ 0x34 ∷ 0x12 ∷ 0x07 ∷ 0xC8 ∷ 0x00 ∷ 0x2C ∷ 0x01 ∷ 0x04 ∷ 0x00 ∷ 0x20 ∷ 0x03 ∷ 0x01 ∷ 0x00 ∷ 0x00 ∷ 0x00 ∷ 0x10 ∷ 0x2A ∷ []
   pub taken : alone_of (lldata 0x2A two_marked 300 4 800 7 200)
-      ≡ record {
-        outcome = Accepted;
-        settings = record { hop = 10; chm = from_raw two_marked; interval = 300; latency = 4; timeout = 800; win_size = 7; win_offset = 200 };
-      }
-  pub not_taken : (alone_of (lldata 0x31 two_marked 300 4 800 7 200)).settings
-      ≡ record { hop = 5; chm = from_raw (replicate 5 0xFF); interval = 6; latency = 0; timeout = 10; win_size = 1; win_offset = 0 }
+      ≡ Ok (record { hop = 10; chm = from_raw two_marked; interval = 300; latency = 4; timeout = 800; win_size = 7; win_offset = 200 })
+  pub not_taken : alone_of (lldata 0x31 two_marked 300 4 800 7 200) ≡ Err OutOfRange
 
 -- All of these, with what they assume.
 pub record Holds : Type 0 where
@@ -212,3 +155,4 @@ pub record Holds : Type 0 where
   pub settles : (p : List ℕ) → Settles p
   pub alone : (o : List ℕ) → Alone o
   pub limits : RangeLimits
+  pub as_it_is : AsItIs

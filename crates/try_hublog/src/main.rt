@@ -2,9 +2,7 @@
 // first and last lines.
 #![tactic(auto)]
 
-ghost use Rattle.std.specs.Prelude.{◌≡◌, ◌≤◌, length, IfOk};
-
-use hub_io::{Run, log_all, log_through};
+use hub_io::{Failed, Run, log_all, log_through};
 use octets::bytes::part_of;
 use std::alloc::AllocError;
 use std::fs::File;
@@ -17,15 +15,6 @@ const SCRATCH: &str = "try_hublog.scratch";
 
 const LOG: &str = "try_hublog.log";
 
-fn text(rt: &HostRuntime, s: &[u8]) -> io::Result<()> {
-    rt.write_all(s)
-}
-
-fn number(rt: &HostRuntime, n: u64) -> io::Result<()> {
-    text(rt, b" ")?;
-    print!(rt; "{n}")
-}
-
 // A file of these octets, from its front on. It is gone once it is closed.
 fn scratch(rt: &HostRuntime, octets: &[u8]) -> io::Result<File> {
     fs::write(rt, SCRATCH, octets)?;
@@ -37,27 +26,24 @@ fn scratch(rt: &HostRuntime, octets: &[u8]) -> io::Result<File> {
 // Prints the log of an input.
 fn log_of(rt: &HostRuntime, input: &[u8]) -> io::Result<()> {
     let mut file = scratch(rt, input)?;
-    log_all(rt, &mut file, &mut rt.stdout());
+    let _run = log_all(rt, &mut file, &mut rt.stdout());
     Ok(())
 }
 
 fn short_runs(rt: &HostRuntime) -> io::Result<()> {
-    text(rt, b"document 01's sample\n")?;
+    println!(rt; "document 01's sample")?;
     log_of(rt, b"\x00\x01\x42\x09\x01\x02\x03\x04\x05\xC6\x02\x01\x06")?;
-    text(rt, b"the sample, and an item that is cut short\n")?;
+    println!(rt; "the sample, and an item that is cut short")?;
     log_of(
         rt,
         b"\x00\x01\x42\x09\x01\x02\x03\x04\x05\xC6\x02\x01\x06\x01\x42\x06\x0A",
     )?;
-    text(
-        rt,
-        b"the sample, another first octet, and the sample again\n",
-    )?;
+    println!(rt; "the sample, another first octet, and the sample again")?;
     log_of(
         rt,
         b"\x00\x01\x42\x09\x01\x02\x03\x04\x05\xC6\x02\x01\x06\x03\x00\x01\x42\x09\x01\x02\x03\x04\x05\xC6\x02\x01\x06",
     )?;
-    text(rt, b"no input\n")?;
+    println!(rt; "no input")?;
     log_of(rt, b"")
 }
 
@@ -79,59 +65,28 @@ fn put_beacons(input: &mut Vec<u8>, count: u32) -> Result<(), AllocError> {
     Ok(())
 }
 
-// Room for the log of the long input.
-fn room() -> [u8; 600000]
-    ensures { 600000 ≡ length result }
-{
-    [0; 600000]
-}
-
-// Reads until `buf` is full or the file ends, and answers how many octets it holds then.
-fn read_full(file: &mut File, buf: &mut [u8]) -> io::Result<usize>
-    ensures { IfOk result (λ n. n ≤ length buf.old) }
-{
-    let mut n = 0;
-    for _ in 0..u64::MAX {
-        let got = file.read(&mut buf[n..])?;
-        if got == 0 {
-            break;
-        }
-        n += got;
-    }
-    Ok(n)
-}
-
 // Says how long a log is, and prints its CRC, its first line and its last two.
 fn print_ends(rt: &HostRuntime, log: &[u8]) -> io::Result<()> {
-    number(rt, log.len() as u64)?;
-    text(rt, b" octets, CRC ")?;
-    print!(rt; "{:06x}", crc(CRC_PRESET, log))?;
-    text(rt, b"\n")?;
-    text(rt, part_of(log, 0, 39))?;
-    if 54 <= log.len() {
-        text(rt, part_of(log, log.len() - 54, 54))?;
-    }
-    Ok(())
+    println!(rt; " {} octets, CRC {:06x}", log.len(), crc(CRC_PRESET, log))?;
+    rt.write_all(part_of(log, 0, 39))?;
+    rt.write_all(part_of(log, log.len().saturating_sub(54), 54))
 }
 
 // Says how many octets a run wrote, whether it failed, and what of its log is found.
-fn print_run(rt: &HostRuntime, run: Run, log: &[u8]) -> io::Result<()> {
-    text(rt, b"written")?;
-    number(rt, run.written as u64)?;
-    if run.is_failed {
-        text(rt, b", failed")?;
+fn print_run(rt: &HostRuntime, run: Result<Run, Failed>, log: &[u8]) -> io::Result<()> {
+    match run {
+        Ok(run) => print!(rt; "written {}", run.written)?,
+        Err(failed) => print!(rt; "written {}, failed", failed.written)?,
     }
-    text(rt, b", found")?;
+    print!(rt; ", found")?;
     print_ends(rt, log)
 }
 
 // The log that a run wrote to the file `log`, and what of it is found there.
-fn print_found(rt: &HostRuntime, run: Run) -> io::Result<()> {
-    let mut log = File::open(rt, LOG)?;
+fn print_found(rt: &HostRuntime, run: Result<Run, Failed>) -> io::Result<()> {
+    let log = fs::read(rt, LOG)?;
     fs::remove_file(rt, LOG)?;
-    let mut all = room();
-    let n = read_full(&mut log, &mut all)?;
-    print_run(rt, run, &all[..n])
+    print_run(rt, run, log.as_slice())
 }
 
 // Runs the loop of `hub_io` with a buffer of 64 KiB, and prints what it wrote.
@@ -154,10 +109,10 @@ fn print_log_by_66(rt: &HostRuntime, input: &mut File) -> io::Result<()> {
 fn long_runs(rt: &HostRuntime) -> io::Result<()> {
     let mut input = Vec::new(rt.alloc());
     put_beacons(&mut input, 15000)?;
-    text(rt, b"15000 beacons\n")?;
+    println!(rt; "15000 beacons")?;
     let mut file = scratch(rt, input.as_slice())?;
     print_log(rt, &mut file)?;
-    text(rt, b"the same, at most 66 octets a read\n")?;
+    println!(rt; "the same, at most 66 octets a read")?;
     let mut file = scratch(rt, input.as_slice())?;
     print_log_by_66(rt, &mut file)
 }
@@ -167,25 +122,20 @@ fn full_runs(rt: &HostRuntime) -> io::Result<()> {
     let mut input = Vec::new(rt.alloc());
     put_beacons(&mut input, 7281)?;
     input.push(0x03)?;
-    text(rt, b"7281 beacons, and another first octet\n")?;
+    println!(rt; "7281 beacons, and another first octet")?;
     let mut file = scratch(rt, input.as_slice())?;
     print_log(rt, &mut file)?;
     let mut input = Vec::new(rt.alloc());
     put_beacons(&mut input, 7)?;
     input.push(0x03)?;
-    text(rt, b"7 of them, at most 66 octets a read\n")?;
+    println!(rt; "7 of them, at most 66 octets a read")?;
     let mut file = scratch(rt, input.as_slice())?;
     print_log_by_66(rt, &mut file)
 }
 
-fn put_tick(input: &mut Vec<u8>) -> Result<(), AllocError> {
-    input.push(0x00)?;
-    Ok(())
-}
-
 fn put_ticks(input: &mut Vec<u8>, count: u32) -> Result<(), AllocError> {
     for _ in 0..count {
-        put_tick(input)?;
+        input.push(0x00)?;
     }
     Ok(())
 }
@@ -208,14 +158,14 @@ fn put_sizes(input: &mut Vec<u8>) -> Result<(), AllocError> {
 fn sized_run(rt: &HostRuntime) -> io::Result<()> {
     let mut input = Vec::new(rt.alloc());
     put_sizes(&mut input)?;
-    text(rt, b"reads of 1 to 66 octets\n")?;
+    println!(rt; "reads of 1 to 66 octets")?;
     let mut file = scratch(rt, input.as_slice())?;
     print_log_by_66(rt, &mut file)
 }
 
 // Nothing to read from, a folder: nothing is written.
 fn failed_run(rt: &HostRuntime) -> io::Result<()> {
-    text(rt, b"no descriptor\n")?;
+    println!(rt; "no descriptor")?;
     print_log(rt, &mut File::open(rt, ".")?)
 }
 
@@ -223,21 +173,21 @@ fn failed_run(rt: &HostRuntime) -> io::Result<()> {
 fn longest_run(rt: &HostRuntime) -> io::Result<()> {
     let mut input = Vec::new(rt.alloc());
     put_beacons(&mut input, 1000000)?;
-    text(rt, b"1000000 beacons\n")?;
+    println!(rt; "1000000 beacons")?;
     let mut file = scratch(rt, input.as_slice())?;
     let mut log = File::create(rt, LOG)?;
-    let run = log_all(rt, &mut file, &mut log);
-    text(rt, b"written")?;
-    number(rt, run.written as u64)?;
-    text(rt, b", its end")?;
+    let written = match log_all(rt, &mut file, &mut log) {
+        Ok(run) => run.written,
+        Err(failed) => failed.written,
+    };
+    print!(rt; "written {written}, its end")?;
     let mut log = File::open(rt, LOG)?;
     fs::remove_file(rt, LOG)?;
     log.seek(SeekFrom::End(-54))?;
-    let mut end = [0u8; 100];
-    let n = read_full(&mut log, &mut end)?;
-    number(rt, n as u64)?;
-    text(rt, b" octets\n")?;
-    text(rt, &end[..n])
+    let mut end = Vec::new(rt.alloc());
+    log.read_to_end(&mut end)?;
+    println!(rt; " {} octets", end.len())?;
+    rt.write_all(end.as_slice())
 }
 
 fn main(rt: HostRuntime) -> io::Result<()> {

@@ -1,52 +1,40 @@
 // Runs vectors from outside: each channel's whitening octets, CRCs, and the flags of packets as heard. Each line prints what came of one.
 #![tactic(auto)]
 
-use octets::error::{Error, Outcome};
+use octets::error::Error;
 use std::io;
 use whitening::crc::{CRC_POLY, CRC_PRESET, crc, crc_octets};
-use whitening::packet::{ACCESS_ADDRESS, Flag, crc_flag, whiten};
-
-fn text(rt: &HostRuntime, s: &[u8]) -> io::Result<()> {
-    rt.write_all(s)
-}
+use whitening::packet::{ACCESS_ADDRESS, crc_flag, whiten};
 
 fn hex(rt: &HostRuntime, n: u32, digits: usize) -> io::Result<()> {
-    text(rt, b" ")?;
-    print!(rt; "{n:0digits$x}")
+    print!(rt; " {n:0digits$x}")
 }
 
-// Octets as pairs of hexadecimal digits.
-fn octets_of(rt: &HostRuntime, s: &[u8]) -> io::Result<()> {
-    for i in 0..s.len() {
-        hex(rt, s[i] as u32, 2)?;
-    }
-    Ok(())
-}
-
+// Octets as pairs of hexadecimal digits. Each program that prints them has this loop: a crate for it would be no shorter.
 fn line_of(rt: &HostRuntime, s: &[u8]) -> io::Result<()> {
-    octets_of(rt, s)?;
-    text(rt, b"\n")
+    for octet in s {
+        print!(rt; " {octet:02x}")?;
+    }
+    println!(rt)
 }
 
 fn refusal(rt: &HostRuntime, e: Error) -> io::Result<()> {
-    text(rt, b" refused ")?;
-    print!(rt; "{}", e.number() as u64)
+    print!(rt; " refused {}", e.number())
 }
 
-fn done(rt: &HostRuntime, whitened: Outcome) -> io::Result<()> {
+fn done(rt: &HostRuntime, whitened: Result<(), Error>) -> io::Result<()> {
     match whitened {
-        Outcome::Accepted => text(rt, b" done")?,
-        Outcome::Refused(e) => refusal(rt, e)?,
+        Ok(()) => print!(rt; " done"),
+        Err(e) => refusal(rt, e),
     }
-    Ok(())
 }
 
 // What a packet becomes, twice.
 fn whitening(rt: &HostRuntime, channel: u8, packet: &mut [u8]) -> io::Result<()> {
-    text(rt, b"whitening")?;
+    print!(rt; "whitening")?;
     done(rt, whiten(channel, packet))?;
     line_of(rt, packet)?;
-    text(rt, b"again")?;
+    print!(rt; "again")?;
     done(rt, whiten(channel, packet))?;
     line_of(rt, packet)
 }
@@ -58,33 +46,24 @@ fn zeros(rt: &HostRuntime, channel: u8) -> io::Result<()> {
 }
 
 fn check(rt: &HostRuntime, start: u32, octets: &[u8]) -> io::Result<()> {
-    text(rt, b"crc")?;
+    print!(rt; "crc")?;
     hex(rt, crc(start, octets), 6)?;
     let sent = crc_octets(start, octets);
     line_of(rt, &sent)
 }
 
 fn flag(rt: &HostRuntime, channel: u8, start: u32, packet: &[u8]) -> io::Result<()> {
-    text(rt, b"flag")?;
+    print!(rt; "flag")?;
     match crc_flag(channel, start, packet) {
-        Flag::Is(good) => {
-            if good {
-                text(rt, b" good")?;
-            } else {
-                text(rt, b" bad")?;
-            }
-        }
-        Flag::Refused(e) => refusal(rt, e)?,
+        Ok(true) => print!(rt; " good")?,
+        Ok(false) => print!(rt; " bad")?,
+        Err(e) => refusal(rt, e)?,
     }
-    text(rt, b"\n")
+    println!(rt)
 }
 
 fn constants(rt: &HostRuntime) -> io::Result<()> {
-    text(rt, b"constants")?;
-    hex(rt, ACCESS_ADDRESS, 8)?;
-    hex(rt, CRC_PRESET, 6)?;
-    hex(rt, CRC_POLY, 7)?;
-    text(rt, b"\n")
+    println!(rt; "constants {ACCESS_ADDRESS:08x} {CRC_PRESET:06x} {CRC_POLY:07x}")
 }
 
 // Both sides of each limit.

@@ -3,7 +3,7 @@
 // A read or a write that fails ends the run. Nothing is written after it but a line on standard error.
 #![tactic(auto)]
 
-ghost use Rattle.std.specs.Prelude.{◌≡◌, true, false, ◌+◌, ◌≤◌, length};
+ghost use Rattle.std.specs.Prelude.{◌≤◌, length, IfOk};
 
 use club::Club;
 use hub_io::{read_more, write_out};
@@ -16,29 +16,12 @@ const COMPANY: usize = 2;
 
 const LAST_ITEM: u8 = 0x07;
 
-// What taking items and writing their lines did.
-#[derive(Clone, Copy)]
-struct Printed {
-    club: Club,
-    // The octets of the items.
-    taken: usize,
-    is_failed: bool,
-}
-
-// What a block did.
-#[derive(Clone, Copy)]
-struct Served {
-    club: Club,
-    // The octets that are left over.
-    left: usize,
-    is_failed: bool,
-}
-
-// How many octets a buffer holds after a read, and whether it failed.
-#[derive(Clone, Copy)]
-struct Moved {
-    upto: usize,
-    is_failed: bool,
+// What ends a run before the last line is written.
+#[derive(Drop)]
+enum Failure {
+    Read(io::Error),
+    Write(io::Error),
+    NoCompany,
 }
 
 fn usage(rt: &HostRuntime) -> io::Result<()> {
@@ -48,228 +31,109 @@ fn usage(rt: &HostRuntime) -> io::Result<()> {
     )
 }
 
-// Nothing is read: `buf` holds so many octets.
-fn unread(kept: usize) -> Moved
-    ensures { (result.upto ≡ kept) × (result.is_failed ≡ true) }
+// Reads to `buf` from `kept` on, and answers how many octets it holds then.
+fn read_on<R: Read>(input: &mut R, buf: &mut [u8], kept: usize) -> Result<usize, Failure>
+    ensures { IfOk result (λ upto. (kept ≤ upto) × (upto ≤ length buf.old)) }
 {
-    Moved {
-        upto: kept,
-        is_failed: true,
-    }
-}
-
-// Reads to `buf` from `kept` on, or says that it failed. Where there is no room, it fails and nothing is read.
-fn read_on<R: Read>(rt: &HostRuntime, input: &mut R, buf: &mut [u8], kept: usize) -> Moved
-    ensures { (kept ≤ result.upto) × (result.is_failed ≡ false → result.upto ≤ length buf.old) }
-{
-    match read_more(input, buf, kept) {
-        Ok(upto) => Moved {
-            upto,
-            is_failed: false,
-        },
-        Err(e) => {
-            let _told = fail::fail(rt, b"turnbook: reading failed", &e);
-            unread(kept)
-        }
-    }
+    read_more(input, buf, kept).map_err(Failure::Read)
 }
 
 // Reads until the company number is there, or the input has ended.
-fn read_company<R: Read>(rt: &HostRuntime, input: &mut R, buf: &mut [u8]) -> Moved
-    ensures { result.is_failed ≡ false → result.upto ≤ length buf.old }
+fn read_company<R: Read>(input: &mut R, buf: &mut [u8]) -> Result<usize, Failure>
+    ensures { IfOk result (λ upto. upto ≤ length buf.old) }
 {
-    let read = read_on(rt, input, buf, 0);
-    if read.is_failed {
-        return read;
+    match read_on(input, buf, 0)? {
+        1 => read_on(input, buf, 1),
+        upto => Ok(upto),
     }
-    if read.upto == 1 {
-        return read_on(rt, input, buf, 1);
-    }
-    read
 }
 
-// Writes s, or says that it failed.
-fn write_on<W: Write>(rt: &HostRuntime, output: &mut W, s: &[u8]) -> bool {
+fn write_on<W: Write>(rt: &HostRuntime, output: &mut W, s: &[u8]) -> Result<(), Failure> {
     let mut done = 0;
-    match write_out(rt, output, s, &mut done) {
-        Ok(()) => false,
-        Err(e) => {
-            let _told = fail::fail(rt, b"turnbook: writing failed", &e);
-            true
-        }
-    }
+    write_out(rt, output, s, &mut done).map_err(Failure::Write)
 }
 
-// Takes the items at the front of s, as many as there is room for lines in `out`, and writes their lines.
-fn print_some<W: Write>(
-    rt: &HostRuntime,
-    output: &mut W,
-    club: Club,
-    s: &[u8],
-    out: &mut [u8],
-) -> Printed
-    ensures { result.taken ≤ length s.now }
-{
-    let done = club.take_items(s, out);
-    let written = done.written;
-    let is_failed = write_on(rt, output, &out[..written]);
-    let club = done.club;
-    Printed {
-        club,
-        taken: done.taken,
-        is_failed,
-    }
-}
-
-// The same, gone on with until no whole item stands at the front of what is left.
+// Takes the items at the front of s, as many as there is room for lines in `out`, and writes their lines; and so on until no whole item stands at the front of what
+// is left. Answers the club and how many octets the items have.
 fn print<W: Write>(
     rt: &HostRuntime,
     output: &mut W,
-    club: Club,
+    mut club: Club,
     s: &[u8],
     out: &mut [u8],
-) -> Printed
-    ensures { result.taken ≤ length s.now }
+) -> Result<(Club, usize), Failure>
+    ensures { IfOk result (λ taken. taken.1 ≤ length s.now) }
 {
-    let mut club = club;
     let mut at = 0;
+    // By a loop: each call says how many octets it took.
     while at < s.len() {
-        let printed = print_some(rt, output, club, &s[at..], out);
-        club = printed.club;
-        at += printed.taken;
-        if printed.is_failed {
-            return Printed {
-                club,
-                taken: at,
-                is_failed: true,
-            };
-        }
-        if printed.taken == 0 {
+        let done = club.take_items(&s[at..], out);
+        write_on(rt, output, &out[..done.written])?;
+        club = done.club;
+        at += done.taken;
+        if done.taken == 0 {
             break;
         }
     }
-    Printed {
-        club,
-        taken: at,
-        is_failed: false,
-    }
+    Ok((club, at))
 }
 
 // No item begins with these octets, whatever follows them.
 fn is_stuck(rest: &[u8]) -> bool {
-    if rest.len() == 0 {
-        return false;
-    }
-    LAST_ITEM < rest[0]
+    matches!(rest.first(), Some(first) if LAST_ITEM < *first)
 }
 
-// Moves the octets from `from` up to `end` to the front, and answers how many they are.
-fn keep(buf: &mut [u8], from: usize, end: usize) -> usize
-    requires { (from ≤ end) × (end ≤ length buf.old) }
-    ensures { result + from ≡ end }
-{
-    let mut i = 0;
-    while i < end - from {
-        buf[i] = buf[from + i];
-        i += 1;
-    }
-    i
-}
-
-// Writes the last line, where `left` octets are left over.
-fn end<W: Write>(rt: &HostRuntime, output: &mut W, club: Club, left: usize) {
-    let last = club.last_line(left);
-    write_on(rt, output, &last);
-}
-
-// Takes the items in the first `filled` octets and writes their lines. What is left over of them stands at the front then.
-fn serve_block<W: Write>(
-    rt: &HostRuntime,
-    output: &mut W,
-    club: Club,
-    buf: &mut [u8],
-    filled: usize,
-    out: &mut [u8],
-) -> Served
-    requires { filled ≤ length buf.old }
-    ensures { result.left ≤ length buf.old }
-{
-    let printed = print(rt, output, club, &buf[..filled], out);
-    let club = printed.club;
-    let left = keep(buf, printed.taken, filled);
-    Served {
-        club,
-        left,
-        is_failed: printed.is_failed,
-    }
-}
-
-// Takes the items of the first `start` octets and of those that are read after them, and writes the last line at the end.
+// Takes the items of the first `filled` octets and of those that are read after them, and writes the last line at the end.
 fn serve<R: Read, W: Write>(
     rt: &HostRuntime,
     input: &mut R,
     output: &mut W,
-    fresh: Club,
+    mut club: Club,
     buf: &mut [u8],
-    start: usize,
+    mut filled: usize,
     out: &mut [u8],
-)
-    requires { start ≤ length buf.old }
+) -> Result<(), Failure>
+    requires { filled ≤ length buf.old }
 {
-    let mut club = fresh;
-    let mut filled = start;
-    let mut rounds = u64::MAX;
-    while 0 < rounds {
-        rounds -= 1;
-        let served = serve_block(rt, output, club, buf, filled, out);
-        if served.is_failed {
-            return;
+    // A count: each loop is proved to end, and how often the system is asked is not known.
+    for _ in 0..u64::MAX {
+        let (after, taken) = print(rt, output, club, &buf[..filled], out)?;
+        club = after;
+        buf.copy_within(taken..filled, 0);
+        let left = filled - taken;
+        let is_last = is_stuck(&buf[..left]);
+        if !is_last {
+            filled = read_on(input, buf, left)?;
         }
-        club = served.club;
-        let left = served.left;
-        if is_stuck(&buf[..left]) {
-            end(rt, output, club, left);
-            return;
-        }
-        let read = read_on(rt, input, buf, left);
-        if read.is_failed {
-            return;
-        }
-        filled = read.upto;
-        if filled == left {
-            end(rt, output, club, left);
-            return;
+        if is_last || filled == left {
+            return write_on(rt, output, &club.last_line(left));
         }
     }
+    Ok(())
+}
+
+fn run<R: Read, W: Write>(rt: &HostRuntime, input: &mut R, output: &mut W) -> Result<(), Failure> {
+    let mut buf = [0u8; 65536];
+    let start = read_company(input, &mut buf)?;
+    if start < COMPANY {
+        return Err(Failure::NoCompany);
+    }
+    let club = Club::new(u16_from_le_bytes(buf[0], buf[1]));
+    buf.copy_within(COMPANY..start, 0);
+    let mut out = [0u8; 65536];
+    serve(rt, input, output, club, &mut buf, start - COMPANY, &mut out)
 }
 
 fn main(rt: HostRuntime) -> io::Result<()> {
-    if fail::has_argument(&rt) {
-        let _said = usage(&rt);
-        return Ok(());
-    }
-    let mut input = rt.stdin();
-    let mut buf = [0u8; 65536];
-    let read = read_company(&rt, &mut input, &mut buf);
-    if read.is_failed {
-        return Ok(());
-    }
-    let start = read.upto;
-    if start < COMPANY {
-        let _said = eprintln!(rt; "turnbook: no company number");
-        return Ok(());
-    }
-    let club = Club::new(u16_from_le_bytes(buf[0], buf[1]));
-    let filled = keep(&mut buf, COMPANY, start);
-    let mut out = [0u8; 65536];
-    serve(
-        &rt,
-        &mut input,
-        &mut rt.stdout(),
-        club,
-        &mut buf,
-        filled,
-        &mut out,
-    );
+    let _said = if fail::has_argument(&rt) {
+        usage(&rt)
+    } else {
+        match run(&rt, &mut rt.stdin(), &mut rt.stdout()) {
+            Ok(()) => Ok(()),
+            Err(Failure::Read(e)) => fail::fail(&rt, b"turnbook: reading failed", &e),
+            Err(Failure::Write(e)) => fail::fail(&rt, b"turnbook: writing failed", &e),
+            Err(Failure::NoCompany) => eprintln!(&rt; "turnbook: no company number"),
+        }
+    };
     Ok(())
 }

@@ -2,7 +2,7 @@
 -- Assumes nothing.
 use mathlib.Core.Path.{◌≡◌, refl, sym, ◌∙◌}
 use mathlib.Core.Bool.{Bool, true, false, ◌&&◌}
-use mathlib.Core.Option.{none, some}
+use Rattle.std.specs.Prelude.{Option, Some, None}
 use mathlib.Core.List.{List, [], ◌∷◌}
 use Prim.Native.Nat.{ℕ, zero, suc, ◌+◌, ◌-◌, ◌≤◌, ◌<◌}
 use native.Mathlib.Numerals.{sub-one}
@@ -51,7 +51,7 @@ past (suc n) ((r ∷ rest) ∷ rows) low b t h =
     rw (above_range r.low r.high b (omega (arith, ltb-true r.high low parts.0))) later
 
 -- no row begins with b where all begin above it
-ahead : (rows : List (List Range)) (high b : ℕ) → over high rows ≡ true → b ≤ high → row_in rows b ≡ none
+ahead : (rows : List (List Range)) (high b : ℕ) → over high rows ≡ true → b ≤ high → row_in rows b ≡ None
 unfolding row_in
 ahead [] high b t h = refl
 ahead ([] ∷ rows) high b t h = ahead rows high b t h
@@ -62,12 +62,12 @@ ahead ((r ∷ rest) ∷ rows) high b t h =
 
 -- row k, from l to h, is the one that begins with b
 pub row : (k l h b : ℕ) {rest : List Range} {rows : List (List Range)} → drop k table ≡ (l to h ∷ rest) ∷ rows → under l (take k table) ≡ true → l ≤ b → b ≤ h
-    → some rest ≡ row_in table b
+    → Some rest ≡ row_in table b
 unfolding row_in
 row k l h b {rest} is t low high = sym (past k table l b t low ∙ (rw (is, in_range l h b low high)))
 
 -- no row begins with b, which lies between those before row k and the others
-pub no_row : (k l h b : ℕ) → under l (take k table) ≡ true → over h (drop k table) ≡ true → l ≤ b → b ≤ h → none ≡ row_in table b
+pub no_row : (k l h b : ℕ) → under l (take k table) ≡ true → over h (drop k table) ≡ true → l ≤ b → b ≤ h → None ≡ row_in table b
 no_row k l h b before after low high = sym (past k table l b before low ∙ ahead (drop k table) h b after high)
 
 -- a loop over s is at position i, and `count` octets are still to follow, the next of them from `low` to `high`
@@ -75,7 +75,7 @@ pub record Reading (s : List ℕ) (i count low high : ℕ) : Type 0 where
   pub same : utf8_after (drop i s) (pending count low high) ≡ is_utf8 s
 
 -- a lead octet
-pub led : {s : List ℕ} {i count low high : ℕ} (r : Lead) → Reading s i count low high → i < length s → count ≡ 0 → row_from r ≡ row_in table (get_or s i 0)
+pub led : {s : List ℕ} {i count low high : ℕ} (r : Option Lead) → Reading s i count low high → i < length s → count ≡ 0 → row_from r ≡ row_in table (get_or s i 0)
     → following (row_from r) (utf8_after (drop (i + 1) s)) ≡ is_utf8 s
 unfolding utf8_after
 led {s} {i} r at h no_more e = rw e (simp (no_more, front s i h) at at.same)

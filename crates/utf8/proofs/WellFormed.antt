@@ -2,7 +2,7 @@
 -- Assumes nothing.
 use mathlib.Core.Path.{◌≡◌, refl, ap}
 use mathlib.Core.Bool.{Bool, true, false, ◌&&◌}
-use mathlib.Core.Option.{Option, none, some}
+use Rattle.std.specs.Prelude.{Option, None, Some}
 use mathlib.Core.List.{List, [], ◌∷◌, ◌++◌}
 use Prim.Native.Nat.{ℕ, zero, suc, ◌<◌, ◌≤◌}
 use native.Mathlib.Omega.{arith}
@@ -28,13 +28,13 @@ row_later : {rows : List (List Range)} {b : ℕ} {rest : List Range} (row : List
 row_later row r = record { k = suc r.k; first = r.first; listed = omega (arith, r.listed); is = r.is; begins = r.begins }
 
 -- the row that is found begins with b
-row_found : (rows : List (List Range)) (b : ℕ) (rest : List Range) → row_in rows b ≡ some rest → Row rows b rest
+row_found : (rows : List (List Range)) (b : ℕ) (rest : List Range) → row_in rows b ≡ Some rest → Row rows b rest
 unfolding row_in
 row_found [] b rest e = absurd (let z : ◌≡◌ {A = ℕ} 0 1 = cc in omega arith)
 row_found ([] ∷ rows) b rest e = row_later [] (row_found rows b rest e)
 row_found ((r ∷ row) ∷ rows) b rest e = go (within b r) refl (row_found rows b rest)
   where
-    go : (t : Bool) → within b r ≡ t → (row_in rows b ≡ some rest → Row rows b rest) → Row ((r ∷ row) ∷ rows) b rest
+    go : (t : Bool) → within b r ≡ t → (row_in rows b ≡ Some rest → Row rows b rest) → Row ((r ∷ row) ∷ rows) b rest
     go true is later =
         let same : row ≡ rest = cc (simp is at e) in
         record { k = 0; first = r; listed = omega arith; is = ap (λ (l : List Range). r ∷ l) same; begins = is }
@@ -57,7 +57,7 @@ begins_above ((r ∷ row) ∷ rows) high t (suc k) first rest is = begins_above 
 
 -- the row that begins with b is the one that is found
 row_is : (rows : List (List Range)) (b : ℕ) → separate rows ≡ true → (k : ℕ) (first : Range) (rest : List Range) → get_or rows k [] ≡ first ∷ rest → within b first ≡ true
-    → row_in rows b ≡ some rest
+    → row_in rows b ≡ Some rest
 unfolding row_in separate
 row_is [] b t k first rest is begins = absurd (let z : ◌≡◌ {A = ℕ} 0 1 = cc in omega arith)
 row_is ([] ∷ rows) b t zero first rest is begins = absurd (let z : ◌≡◌ {A = ℕ} 0 1 = cc in omega arith)
@@ -86,8 +86,8 @@ finishes [] (r ∷ ranges) e = absurd (let z : ◌≡◌ {A = ℕ} 0 1 = cc in o
 finishes (b ∷ s) [] e = go (row_in table b) refl (finishes s)
   where
     go : (found : Option (List Range)) → row_in table b ≡ found → ((ranges : List Range) → utf8_after s ranges ≡ true → Finishes s ranges) → Finishes (b ∷ s) []
-    go none is later = absurd (let z : ◌≡◌ {A = ℕ} 0 1 = cc (simp is at e) in omega arith)
-    go (some row) is later =
+    go None is later = absurd (let z : ◌≡◌ {A = ℕ} 0 1 = cc (simp is at e) in omega arith)
+    go (Some row) is later =
         let r = row_found table b row is in
         let f = later row (simp is at e) in
         record {

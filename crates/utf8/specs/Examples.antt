@@ -1,9 +1,12 @@
 -- Worked values of the Unicode Standard, on the definitions.
-use Rattle.std.specs.Prelude.{◌≡◌, true, false, [], ◌∷◌, map, replicate}
-use Rattle.std.proofs.Math.Option.{none, some}
+use Rattle.std.specs.Prelude.{◌≡◌, true, false, [], ◌∷◌, map, replicate, ℕ, Option, Some, None}
 use Rattle.utf8.specs.Utf8.{◌to◌, is_utf8, row_from}
 use Rattle.utf8.specs.Encoding.{encoded}
-use Rattle.utf8.specs.declared.Lead.TheVariants.{Begins, Never}
+use Rattle.utf8.specs.declared.Lead.{Lead}
+
+-- a lead octet that begins a sequence
+abbrev pub begins : ℕ → ℕ → ℕ → Option Lead
+begins count low high = Some (record { count = count; low = low; high = high })
 
 pub record Examples : Type 0 where
   -- U+004D U+0430 U+4E8C U+10302 (Unicode, 3.9, D92); then octets that its text, or tables 3-8 to 3-11, call ill-formed
@@ -79,5 +82,5 @@ pub record Examples : Type 0 where
   pub no_lead : map is_utf8 ((0xC0 ∷ 0x80 ∷ []) ∷ (0xF5 ∷ 0x80 ∷ 0x80 ∷ 0x80 ∷ []) ∷ (0xFF ∷ []) ∷ []) ≡ replicate 3 false
   -- what a lead octet of one, two, three or four says, as the code has it
   pub leads :
-      map row_from (Begins 0 0x80 0xBF ∷ Begins 1 0x80 0xBF ∷ Begins 2 0xA0 0xBF ∷ Begins 3 0x80 0x8F ∷ Never ∷ [])
-      ≡ some [] ∷ some (0x80 to 0xBF ∷ []) ∷ some (0xA0 to 0xBF ∷ 0x80 to 0xBF ∷ []) ∷ some (0x80 to 0x8F ∷ 0x80 to 0xBF ∷ 0x80 to 0xBF ∷ []) ∷ none ∷ []
+      map row_from (begins 0 0x80 0xBF ∷ begins 1 0x80 0xBF ∷ begins 2 0xA0 0xBF ∷ begins 3 0x80 0x8F ∷ None ∷ [])
+      ≡ Some [] ∷ Some (0x80 to 0xBF ∷ []) ∷ Some (0xA0 to 0xBF ∷ 0x80 to 0xBF ∷ []) ∷ Some (0x80 to 0x8F ∷ 0x80 to 0xBF ∷ 0x80 to 0xBF ∷ []) ∷ None ∷ []

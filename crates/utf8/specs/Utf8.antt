@@ -12,10 +12,8 @@
 --   Utf8Is s               (WellFormed.utf8_is)  `is_utf8 s` says just this
 --   pending count low high == the ranges of `count` octets, the first of them from `low` to `high`
 --   row_from lead           == the ranges that follow a lead octet by what the code answers for it, if it begins a sequence
-use Rattle.std.specs.Prelude.{◌≡◌, ℕ, zero, suc, ◌<◌, Bool, true, false, cond, ◌&&◌, List, [], ◌∷◌, ◌++◌, length, get_or, replicate, leb}
-use Rattle.std.proofs.Math.Option.{Option, none, some}
+use Rattle.std.specs.Prelude.{◌≡◌, ℕ, zero, suc, ◌<◌, Bool, true, false, cond, ◌&&◌, List, [], ◌∷◌, ◌++◌, length, get_or, replicate, leb, Option, Some, None}
 use Rattle.utf8.specs.declared.Lead.{Lead}
-use Rattle.utf8.specs.declared.Lead.TheVariants.{Begins, Never}
 
 infix 80 ◌to◌
 -- the octets from `low` to `high`
@@ -57,14 +55,14 @@ table =
 
 -- what follows b in the row that begins with it
 unfoldable pub row_in : List (List Range) → ℕ → Option (List Range)
-row_in [] b = none
+row_in [] b = None
 row_in ([] ∷ rows) b = row_in rows b
-row_in ((first ∷ rest) ∷ rows) b = cond (within b first) (some rest) (row_in rows b)
+row_in ((first ∷ rest) ∷ rows) b = cond (within b first) (Some rest) (row_in rows b)
 
 -- the octets after a lead octet, by what its row has left; none where it begins no row
 abbrev pub following : Option (List Range) → (List Range → Bool) → Bool
-following none after = false
-following (some rest) after = after rest
+following None after = false
+following (Some rest) after = after rest
 
 -- the octets finish a sequence, of which these ranges are left, and go on with whole sequences
 unfoldable pub utf8_after : List ℕ → List Range → Bool
@@ -97,6 +95,6 @@ abbrev pub pending : ℕ → ℕ → ℕ → List Range
 pending zero low high = []
 pending (suc count) low high = low to high ∷ replicate count tail
 
-abbrev pub row_from : Lead → Option (List Range)
-row_from (Begins count low high) = some (pending count low high)
-row_from Never = none
+abbrev pub row_from : Option Lead → Option (List Range)
+row_from (Some lead) = Some (pending lead.count lead.low lead.high)
+row_from None = None

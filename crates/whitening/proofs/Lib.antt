@@ -1,6 +1,7 @@
 pub mod Octets
 pub mod Bits
 pub mod Registers
+pub mod Threes
 pub mod Steps
 pub mod Values
 pub mod Rows

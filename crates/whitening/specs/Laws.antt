@@ -15,7 +15,7 @@
 --   CrcStartOn channel start (Limits.starting)          where the CRC starts on each channel
 --   Hears channel start     (Heard.hears)              what the flag tells of packets that are heard on a channel: a packet's own CRC, any other, and one bit
 --   Holds                   (Holding.holds)            all of these, with what they assume; the cycle and what the code keeps of it (specs/Kept), and worked values (specs/Examples)
-use Rattle.std.specs.Prelude.{◌≡◌, Bool, true, false, ◌&&◌, ◌||◌, List, [], ◌∷◌, ◌++◌, reverse, ℕ, zero, suc, ◌+◌, ◌≤◌, ◌<◌, ◌^◌, ◌%◌, eqb, length, drop, replicate}
+use Rattle.std.specs.Prelude.{◌≡◌, Bool, true, false, ◌&&◌, ◌||◌, List, [], ◌∷◌, ◌++◌, reverse, ℕ, zero, suc, ◌+◌, ◌≤◌, ◌<◌, ◌^◌, ◌%◌, eqb, length, drop, replicate, Ok, Err}
 use Rattle.std.specs.Bool.{xor}
 use Rattle.octets.specs.Bytes.{le_bytes}
 use Rattle.octets.specs.declared.error.Error.{Error}
@@ -29,8 +29,6 @@ use Rattle.whitening.specs.Examples.{Examples}
 use Rattle.whitening.specs.Kept.{OneCycle, Kept}
 use Rattle.whitening.specs.Crc.{crc_taps, crc_of, crc_octets, crc_good}
 use Rattle.whitening.specs.Packet.{whiten_of, whiten_after, start_on, flag_of}
-use Rattle.octets.specs.declared.error.Outcome.TheVariants as outcome
-use Rattle.whitening.specs.declared.packet.Flag.TheVariants as flag
 
 -- the terms of a polynomial below x^n, by their exponents: positions n - 1 to 0
 unfoldable pub is_in : ℕ → List ℕ → Bool
@@ -103,14 +101,14 @@ pub record CrcChecks (start : ℕ) : Type 0 where
 
 -- "10, channel above 39, tested first; a packet above 42 octets is 2, one under 5 is 1": `number_of` of octets has these numbers. What is refused stays as it is.
 pub record WhiteningRefuses (channel : ℕ) (packet : List ℕ) : Type 0 where
-  pub no_channel : 39 < channel → whiten_of channel packet ≡ outcome.Refused NoSuchIndex
-  pub too_long : channel ≤ 39 → 42 < length packet → whiten_of channel packet ≡ outcome.Refused InvalidLength
-  pub too_short : channel ≤ 39 → length packet < 5 → whiten_of channel packet ≡ outcome.Refused Eof
-  pub others : channel ≤ 39 → 5 ≤ length packet → length packet ≤ 42 → whiten_of channel packet ≡ outcome.Accepted
-  pub kept : (e : Error) → whiten_of channel packet ≡ outcome.Refused e → whiten_after channel packet ≡ packet
-  pub done : whiten_of channel packet ≡ outcome.Accepted → whiten_after channel packet ≡ whitened channel packet
+  pub no_channel : 39 < channel → whiten_of channel packet ≡ Err NoSuchIndex
+  pub too_long : channel ≤ 39 → 42 < length packet → whiten_of channel packet ≡ Err InvalidLength
+  pub too_short : channel ≤ 39 → length packet < 5 → whiten_of channel packet ≡ Err Eof
+  pub others : channel ≤ 39 → 5 ≤ length packet → length packet ≤ 42 → whiten_of channel packet ≡ Ok tt
+  pub kept : (e : Error) → whiten_of channel packet ≡ Err e → whiten_after channel packet ≡ packet
+  pub done : whiten_of channel packet ≡ Ok tt → whiten_after channel packet ≡ whitened channel packet
   -- where whitening is refused, so is the flag
-  pub flag : (start : ℕ) (e : Error) → whiten_of channel packet ≡ outcome.Refused e → flag_of channel start packet ≡ flag.Refused e
+  pub flag : (start : ℕ) (e : Error) → whiten_of channel packet ≡ Err e → flag_of channel start packet ≡ Err e
 
 -- "started from `0x555555` on advertising channels and from the connect request's value afterwards", which is "unused on 37 to 39".
 pub record CrcStartOn (channel start : ℕ) : Type 0 where
@@ -121,13 +119,13 @@ pub record CrcStartOn (channel start : ℕ) : Type 0 where
 pub record Hears (channel start : ℕ) : Type 0 where
   -- the flag of any other packet says whether its last three octets, the whitening taken off, are its CRC
   pub told : (packet : List ℕ) → channel ≤ 39 → 5 ≤ length packet → length packet ≤ 42
-      → flag_of channel start packet ≡ flag.Is (crc_good (start_on channel start) (whitened channel packet))
+      → flag_of channel start packet ≡ Ok (crc_good (start_on channel start) (whitened channel packet))
   pub own : (octets : List ℕ) → channel ≤ 39 → 2 ≤ length octets → length octets ≤ 39
-      → flag_of channel start (whitened channel (octets ++ crc_octets (start_on channel start) octets)) ≡ flag.Is true
-  pub no_other : (octets last : List ℕ) → length octets ≤ 39 → length last ≡ 3 → flag_of channel start (whitened channel (octets ++ last)) ≡ flag.Is true
+      → flag_of channel start (whitened channel (octets ++ crc_octets (start_on channel start) octets)) ≡ Ok true
+  pub no_other : (octets last : List ℕ) → length octets ≤ 39 → length last ≡ 3 → flag_of channel start (whitened channel (octets ++ last)) ≡ Ok true
       → last ≡ crc_octets (start_on channel start) octets
   pub one_bit : (p q : List ℕ) (before after : List Bool) (b d : Bool) → bits_of p ≡ before ++ b ∷ after → bits_of q ≡ before ++ d ∷ after
-      → flag_of channel start p ≡ flag.Is true → flag_of channel start q ≡ flag.Is true → b ≡ d
+      → flag_of channel start p ≡ Ok true → flag_of channel start q ≡ Ok true → b ≡ d
 
 pub record Holds : Type 0 where
   pub polynomials : Polynomials

@@ -10,26 +10,23 @@
 --   flagged outcome good          == the CRC flag `good`, or the refusal
 --   flag_of channel start packet   == the CRC flag of a packet that is still whitened
 --   flag_number answer             == the number of an answer, 0 where it is no refusal
-use Rattle.std.specs.Prelude.{ℕ, Bool, cond, List, ltb, length}
+use Rattle.std.specs.Prelude.{ℕ, Bool, cond, List, ltb, length, Result, Ok, Err}
 use Rattle.octets.specs.Error.{number_of}
 use Rattle.octets.specs.declared.error.Error.TheVariants.{Eof, InvalidLength, NoSuchIndex}
 use Rattle.whitening.specs.Crc.{crc_good}
 use Rattle.whitening.specs.Whitening.{whitened}
-use Rattle.octets.specs.declared.error.Outcome.{Outcome}
-use Rattle.octets.specs.declared.error.Outcome.TheVariants as outcome
-use Rattle.whitening.specs.declared.packet.Flag.{Flag}
-use Rattle.whitening.specs.declared.packet.Flag.TheVariants as flag
+use Rattle.octets.specs.declared.error.Error.{Error}
 
-abbrev pub allowed : ℕ → ℕ → Outcome
+abbrev pub allowed : ℕ → ℕ → Result (Unit {0}) Error
 allowed channel n =
-    cond (ltb 39 channel) (outcome.Refused NoSuchIndex) (cond (ltb 42 n) (outcome.Refused InvalidLength) (cond (ltb n 5) (outcome.Refused Eof) outcome.Accepted))
+    cond (ltb 39 channel) (Err NoSuchIndex) (cond (ltb 42 n) (Err InvalidLength) (cond (ltb n 5) (Err Eof) (Ok tt)))
 
-abbrev pub whiten_of : ℕ → List ℕ → Outcome
+abbrev pub whiten_of : ℕ → List ℕ → Result (Unit {0}) Error
 whiten_of channel packet = allowed channel (length packet)
 
-abbrev pub leaves : Outcome → ℕ → List ℕ → List ℕ
-leaves outcome.Accepted channel packet = whitened channel packet
-leaves (outcome.Refused e) channel packet = packet
+abbrev pub leaves : Result (Unit {0}) Error → ℕ → List ℕ → List ℕ
+leaves (Ok tt) channel packet = whitened channel packet
+leaves (Err e) channel packet = packet
 
 abbrev pub whiten_after : ℕ → List ℕ → List ℕ
 whiten_after channel packet = leaves (whiten_of channel packet) channel packet
@@ -38,13 +35,13 @@ whiten_after channel packet = leaves (whiten_of channel packet) channel packet
 abbrev pub start_on : ℕ → ℕ → ℕ
 start_on channel start = cond (ltb 36 channel) 0x555555 start
 
-abbrev pub flagged : Outcome → Bool → Flag
-flagged outcome.Accepted good = flag.Is good
-flagged (outcome.Refused e) good = flag.Refused e
+abbrev pub flagged : Result (Unit {0}) Error → Bool → Result Bool Error
+flagged (Ok tt) good = Ok good
+flagged (Err e) good = Err e
 
-abbrev pub flag_of : ℕ → ℕ → List ℕ → Flag
+abbrev pub flag_of : ℕ → ℕ → List ℕ → Result Bool Error
 flag_of channel start packet = flagged (whiten_of channel packet) (crc_good (start_on channel start) (whitened channel packet))
 
-abbrev pub flag_number : Flag → ℕ
-flag_number (flag.Is good) = 0
-flag_number (flag.Refused e) = number_of e
+abbrev pub flag_number : Result Bool Error → ℕ
+flag_number (Ok good) = 0
+flag_number (Err e) = number_of e

@@ -28,6 +28,7 @@ pub(crate) fn register_at(start: u32) -> u32
     register
 }
 
+// That a register has 24 bits is asked for by three functions of this crate: a struct around the number would be unwrapped at every shift.
 // The register after the eight bits of an octet. The polynomial has no term between x^24 and x^10, so that no bit fed back comes round again
 // within eight shifts: the eight bits fed back are known at once, and each term adds them, moved to its place.
 fn after_octet(register: u32, octet: u8) -> u32
@@ -60,18 +61,13 @@ pub(crate) fn after_octets(register: u32, octets: &[u8]) -> u32
     ensures { Register result (crc_after (bits 24 register) (bits_of octets.now)) }
 {
     let mut reached = register;
-    let mut i = 0;
-    while i < octets.len() {
-        if octets.len() - i < 3 {
-            reached = after_octet(reached, octets[i]);
-            i += 1;
-        } else {
-            reached = after_three(
-                reached,
-                u32_from_le_bytes(octets[i], octets[i + 1], octets[i + 2], 0),
-            );
-            i += 3;
-        }
+    let parts = octets.chunks_exact(3);
+    let rest = parts.remainder();
+    for part in parts {
+        reached = after_three(reached, u32_from_le_bytes(part[0], part[1], part[2], 0));
+    }
+    for octet in rest {
+        reached = after_octet(reached, *octet);
     }
     reached
 }

@@ -7,46 +7,38 @@ ghost use Rattle.whitening.specs.Whitening.{plus, whitening, whitened};
 
 use crate::crc::{CRC_PRESET, after_octets, register_at};
 use crate::table::{cycle, places};
-use octets::error::{Error, Outcome};
+use octets::error::Error;
 
 // The access address before every packet on the advertising channels.
 pub const ACCESS_ADDRESS: u32 = 0x8E89BED6;
 
-// Whether a packet's CRC is right, or why that cannot be told.
-#[derive(Clone, Copy)]
-pub enum Flag {
-    Is(bool),
-    Refused(Error),
-}
-
 // Whether there is such a channel and such a packet, tested in this order.
-fn allows(channel: u8, octets: usize) -> Outcome
+fn allows(channel: u8, octets: usize) -> Result<(), Error>
     ensures { result ≡ allowed channel octets }
 {
     if 39 < channel {
-        return Outcome::Refused(Error::NoSuchIndex);
+        return Err(Error::NoSuchIndex);
     }
     if 42 < octets {
-        return Outcome::Refused(Error::InvalidLength);
+        return Err(Error::InvalidLength);
     }
     if octets < 5 {
-        return Outcome::Refused(Error::Eof);
+        return Err(Error::Eof);
     }
-    Outcome::Accepted
+    Ok(())
 }
 
-// Adds octets to as many others, modulo 2.
+// Adds octets to as many others, modulo 2. By a place: what a loop over a `zip` of `iter_mut` wrote is not known after it.
 fn add(packet: &mut [u8], octets: &[u8])
     requires { length packet.old ≡ length octets.now }
     ensures { packet.new ≡ plus packet.old octets.now }
 {
-    let mut i = 0;
-    while i < packet.len() {
-        packet[i] ^= octets[i];
-        i += 1;
+    for (i, octet) in packet.iter_mut().enumerate() {
+        *octet ^= octets[i];
     }
 }
 
+// That a channel is at most 39 is asked for by three private functions, below the one test.
 // The whitening octets of a channel.
 fn whitening_octets(channel: u8) -> [u8; 42]
     requires { channel ≤ 39 }
@@ -72,27 +64,20 @@ fn add_whitening(channel: u8, packet: &mut [u8])
 }
 
 // Whitens a packet, or takes the whitening off, in place. What is refused stays as it is.
-pub fn whiten(channel: u8, packet: &mut [u8]) -> Outcome
+pub fn whiten(channel: u8, packet: &mut [u8]) -> Result<(), Error>
     ensures { (result ≡ whiten_of channel packet.old) × (packet.new ≡ whiten_after channel packet.old) }
 {
-    let answer = allows(channel, packet.len());
-    match answer {
-        Outcome::Refused(error) => Outcome::Refused(error),
-        Outcome::Accepted => {
-            add_whitening(channel, packet);
-            Outcome::Accepted
-        }
-    }
+    allows(channel, packet.len())?;
+    add_whitening(channel, packet);
+    Ok(())
 }
 
 // The register at the start of a packet: the connect request's value does not count on the advertising channels.
 fn register_on(channel: u8, start: u32) -> u32
     ensures { Register result (crc_start (start_on channel start)) }
 {
-    if 36 < channel {
-        return register_at(CRC_PRESET);
-    }
-    register_at(start)
+    let begin = if 36 < channel { CRC_PRESET } else { start };
+    register_at(begin)
 }
 
 // Whether a packet that is allowed is right, its whitening taken off: after its own CRC the register holds zeros.
@@ -108,12 +93,9 @@ fn is_good(channel: u8, start: u32, packet: &[u8]) -> bool
 
 // The CRC flag of a packet that was heard on a channel and is still whitened. `start` is the connect request's value, of which the low
 // 24 bits count; it is not used on the channels 37 to 39.
-pub fn crc_flag(channel: u8, start: u32, packet: &[u8]) -> Flag
+pub fn crc_flag(channel: u8, start: u32, packet: &[u8]) -> Result<bool, Error>
     ensures { result ≡ flag_of channel start packet.now }
 {
-    let answer = allows(channel, packet.len());
-    match answer {
-        Outcome::Refused(error) => Flag::Refused(error),
-        Outcome::Accepted => Flag::Is(is_good(channel, start, packet)),
-    }
+    allows(channel, packet.len())?;
+    Ok(is_good(channel, start, packet))
 }

@@ -1,10 +1,10 @@
-use Rattle.std.proofs.Common.{◌≡◌, refl, sym, ap, ◌∙◌, List, [], ◌∷◌, ◌++◌, append_assoc, ℕ, suc, ◌+◌, ◌-◌, ◌<◌, ◌≤◌, arith, add-one, length, get_or, take, drop, length-append, length-drop, drop-cons}
+use Rattle.std.proofs.Common.{◌≡◌, refl, sym, ap, ◌∙◌, List, [], ◌∷◌, ◌++◌, append_assoc, ℕ, suc, ◌+◌, ◌-◌, ◌*◌, ◌<◌, ◌≤◌, arith, add-one, length, get_or, take, drop, length-append, length-drop, drop-cons}
 use lib.ListN.{length-take, drop_of_length-le, take-append-drop}
 use lib.Seq.{take_at, drop_at, drop-drop}
 use borrow.Author.Tests.{le-leb, lt-leb}
 use borrow.Rule.Slice.PartMut.{put_mid}
-use Rattle.columns.specs.Table.{octet_from, octets_from}
-use Rattle.columns.proofs.Printed.{octet_length}
+use Rattle.columns.specs.Table.{octet_columns, octet_from, octets_from}
+use Rattle.columns.proofs.Printed.{octet_length, printed}
 use Rattle.columns.proofs.Widths.{part_size, put_part}
 use Rattle.columns.proofs.put_octets.Goals as goal
 
@@ -17,62 +17,54 @@ one_more : (t os : List ℕ) (o : ℕ) (out : List ℕ) → 4 ≤ length out →
 unfolding octets_from
 one_more t os o out room = rw (le-leb 4 (length out) room) refl
 
--- what the loop's invariant says
-record Progress (table octets out₀ out : List ℕ) (i at : ℕ) : Type 0 where
-  as_long : length out ≡ length out₀
-  inside : at ≤ length out
-  whole : take at out ++ octets_from table (drop i octets) (drop at out) ≡ octets_from table octets out₀
-
-module _ {table octets out₀ out : List ℕ} {i at : ℕ} (p : Progress table octets out₀ out i at) where
-  advance : (part : List ℕ) → i < length octets → 4 ≤ length out - at → part ≡ octet_from table (length (take (at + 4 - at) (drop at out))) (get_or octets i 0)
-      → Progress table octets out₀ (put_mid at (at + 4 - at) out part) (i + 1) (at + 4)
-  advance part more room e =
+-- an octet is written from `at` on
+module _ (table octets out part : List ℕ) (i at : ℕ) (more : i < length octets) (end : at + 4 ≤ length out)
+    (wrote : part ≡ octet_from table (length (take (at + 4 - at) (drop at out))) (get_or octets i 0)) where
+  put : put_mid at (at + 4 - at) out part ≡ (take at out ++ octet_from table 4 (get_or octets i 0)) ++ drop (at + 4) out
+  put =
       let ordered : at ≤ at + 4 = omega arith in
-      let end : at + 4 ≤ length out = omega (arith, p.inside) in
-      let four : at + 4 - at ≡ 4 = omega arith in
-      let is-part : part ≡ octet_from table 4 (get_or octets i 0) = e ∙ ap (λ (k : ℕ). octet_from table k (get_or octets i 0)) (part_size out ordered end ∙ four) in
-      let size : length part ≡ 4 = ap length is-part ∙ octet_length table 4 (get_or octets i 0) in
-      let put : put_mid at (at + 4 - at) out part ≡ (take at out ++ part) ++ drop (at + 4) out = put_part out part ordered end in
-      let front : length (take at out ++ part) ≡ at + 4 = simp (length-append, length-take, size) (omega (arith, p.inside)) in
-      let long : length (put_mid at (at + 4 - at) out part) ≡ length out = ap length put ∙ simp (length-append, length-take, length-drop, size) (omega (arith, p.inside)) in
-      let there : 4 ≤ length (drop at out) = rw length-drop room in
-      let step : octets_from table (drop i octets) (drop at out) ≡ part ++ octets_from table (drop (i + 1) octets) (drop (at + 4) out) =
-      ap (λ (l : List ℕ). octets_from table l (drop at out)) (drop-cons octets i 0 more)
-      ∙ one_more table (drop (suc i) octets) (get_or octets i 0) (drop at out) there
-      ∙ rw (add-one i, drop-drop 4 at out, is-part) refl in
-      record {
-        as_long = long ∙ p.as_long;
-        inside = omega (arith, long, end);
-        whole =
-            rw (put, take_at (take at out ++ part) (drop (at + 4) out) (at + 4) front, drop_at (take at out ++ part) (drop (at + 4) out) (at + 4) front, append_assoc)
-            (ap (λ (l : List ℕ). take at out ++ l) (sym step) ∙ p.whole);
-      }
+      let width : length (take (at + 4 - at) (drop at out)) ≡ 4 = part_size out ordered end ∙ omega arith in
+      put_part out part ordered end ∙ rw (wrote, width) refl
 
-  finished : octets_from table (drop i octets) (drop at out) ≡ drop at out → out ≡ octets_from table octets out₀
-  finished last = sym (take-append-drop at out) ∙ ap (λ (l : List ℕ). take at out ++ l) (sym last) ∙ p.whole
+  front : length (take at out ++ octet_from table 4 (get_or octets i 0)) ≡ at + 4
+  front = simp (length-append, length-take, octet_length) (omega arith)
 
-  all_written : length octets ≤ i → out ≡ octets_from table octets out₀
-  unfolding octets_from
-  all_written end = finished (ap (λ (l : List ℕ). octets_from table l (drop at out)) (drop_of_length-le octets end))
+  long : length (put_mid at (at + 4 - at) out part) ≡ length out
+  long = ap length put ∙ simp (length-append, length-take, length-drop, octet_length) (omega arith)
 
-  full : length out - at < 4 → out ≡ octets_from table octets out₀
-  full few = finished (no_room table (drop i octets) (drop at out) (rw length-drop few))
-
-pub returns-then-out-at-lt4 : goal.returns-then-out-at-lt4
-returns-then-out-at-lt4 c =
-    let was = c.loop-i.invariant in
-    let p : Progress c.args.table.now c.args.octets.now c.args.out.now c.loop-i.out c.loop-i.i c.loop-i.at = record { as_long = was.as_long; inside = was.inside; whole = was.whole } in
-    full p c.if-out-at-lt4.true
+  advance : take (at + 4) (put_mid at (at + 4 - at) out part) ++ octets_from table (drop (i + 1) octets) (drop (at + 4) (put_mid at (at + 4 - at) out part))
+      ≡ take at out ++ octets_from table (drop i octets) (drop at out)
+  advance =
+      let done : List ℕ = take at out ++ octet_from table 4 (get_or octets i 0) in
+      let there : 4 ≤ length (drop at out) = rw length-drop (omega arith) in
+      rw (put, take_at done (drop (at + 4) out) (at + 4) front, drop_at done (drop (at + 4) out) (at + 4) front, append_assoc, add-one i, drop-cons octets i 0 more, one_more table (drop (suc i) octets) (get_or octets i 0) (drop at out) there, drop-drop 4 at out)
+      refl
 
 pub loop-i-preserved : goal.loop-i-preserved
 loop-i-preserved c =
     let was = c.loop-i.invariant in
-    let p : Progress c.args.table.now c.args.octets.now c.args.out.now c.loop-i.out c.loop-i.i c.loop-i.at = record { as_long = was.as_long; inside = was.inside; whole = was.whole } in
-    let q = advance p _ c.loop-i-test.true c.if-out-at-lt4.false c.put_octet.ensures in
-    record { as_long = q.as_long; inside = q.inside; whole = q.whole }
+    let at : ℕ = 4 * c.loop-i.i in
+    let next : 4 * (c.loop-i.i + 1) ≡ at + 4 = omega arith in
+    let end : at + 4 ≤ length c.loop-i.out = omega arith in
+    let wrote = c.put_octet.ensures ∙ sym (printed.octet _ _ (c.type_inv.octets c.loop-i.i).fits) in
+    rw next (record {
+      inside = omega (arith, end, long octet_columns c.args.octets.now c.loop-i.out _ c.loop-i.i at c.loop-i-test.true end wrote);
+      whole = advance _ _ _ _ _ at c.loop-i-test.true end wrote ∙ was.whole;
+    })
+
+-- nothing more is written
+finished : (table octets out : List ℕ) (i at : ℕ) → octets_from table (drop i octets) (drop at out) ≡ drop at out
+    → out ≡ take at out ++ octets_from table (drop i octets) (drop at out)
+finished table octets out i at last = rw (last, take-append-drop) refl
+
+pub returns-then-out-at-lt4 : goal.returns-then-out-at-lt4
+returns-then-out-at-lt4 c =
+    let out = c.loop-i.out in
+    let few : length (drop (4 * c.loop-i.i) out) < 4 = rw length-drop (omega arith) in
+    finished octet_columns c.args.octets.now out c.loop-i.i (4 * c.loop-i.i) (no_room _ _ _ few) ∙ c.loop-i.invariant.whole
 
 pub returns : goal.returns
+unfolding octets_from
 returns c =
-    let was = c.loop-i.invariant in
-    let p : Progress c.args.table.now c.args.octets.now c.args.out.now c.loop-i.out c.loop-i.i c.loop-i.at = record { as_long = was.as_long; inside = was.inside; whole = was.whole } in
-    all_written p c.loop-i-test.false
+    let end : length c.args.octets.now ≤ c.loop-i.i = omega arith in
+    finished octet_columns c.args.octets.now c.loop-i.out c.loop-i.i (4 * c.loop-i.i) (rw (drop_of_length-le c.args.octets.now end) refl) ∙ c.loop-i.invariant.whole

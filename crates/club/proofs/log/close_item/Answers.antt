@@ -4,7 +4,7 @@ use mathlib.Core.List.{List, [], ◌∷◌}
 use Prim.Native.Nat.{ℕ}
 use lib.ListN.{length, get_or}
 use borrow.Author.Tests.{eq-eqb}
-use Rattle.octets.specs.Bytes.{written}
+use Rattle.octets.specs.Bytes.{at_front}
 use Rattle.octets.specs.Error.{outcome_number}
 use Rattle.columns.specs.Row.{row_of}
 use Rattle.book_spec.specs.Book.{close_call}
@@ -15,19 +15,18 @@ use Rattle.club_spec.specs.Log.{close_widths, reply_line}
 use Rattle.club.proofs.Answering.{Answered, with_line}
 use Rattle.club.proofs.log.close_item.Goals as goal
 
-closed : (b : Book) (item out : List ℕ) (at : ℕ) {x : BookCalled} {first number refusal turn n : ℕ} {out' : List ℕ} → get_or item 0 0 ≡ 5 → x ≡ close_call b → turn ≡ x.book.turn
-    → first ≡ get_or item 0 0 → number ≡ outcome_number x.outcome → refusal ≡ number
-    → (n ≡ length (row_of close_widths (first ∷ refusal ∷ turn ∷ []))) × (out' ≡ written (row_of close_widths (first ∷ refusal ∷ turn ∷ [])) out at)
-    → Answered b (close ∷ []) item x.book n out' out at
+closed : (b : Book) (item out : List ℕ) {x : BookCalled} {refusal turn n : ℕ} {out' : List ℕ} → get_or item 0 0 ≡ 5 → x ≡ close_call b → turn ≡ x.book.turn → refusal ≡ outcome_number x.outcome
+    → (n ≡ length (row_of close_widths (get_or item 0 0 ∷ refusal ∷ turn ∷ []))) × (out' ≡ at_front (row_of close_widths (get_or item 0 0 ∷ refusal ∷ turn ∷ [])) out)
+    → Answered b (close ∷ []) item x.book n out' out
 unfolding reply_line
-closed b item out at is called is-turn is-first is_number is-refusal wrote =
+closed b item out is called is-turn is-refusal wrote =
     let turns = is-turn ∙ ap (λ (x : BookCalled). x.book.turn) called in
-    let numbers = is-refusal ∙ is_number ∙ ap (λ (x : BookCalled). outcome_number x.outcome) called in
+    let numbers = is-refusal ∙ ap (λ (x : BookCalled). outcome_number x.outcome) called in
     let row = row_of close_widths (get_or item 0 0 ∷ outcome_number (close_call b).outcome ∷ (close_call b).book.turn ∷ []) in
-    with_line b (close ∷ []) item out at (ap (λ (x : BookCalled). x.book) called)
-    ((λ i. row_of close_widths (is-first i ∷ numbers i ∷ turns i ∷ [])) ∙ ap (λ (t : Bool). cond t row []) (sym (eq-eqb (get_or item 0 0) 5 is))) wrote
+    with_line b (close ∷ []) item out (ap (λ (x : BookCalled). x.book) called)
+    ((λ i. row_of close_widths (get_or item 0 0 ∷ numbers i ∷ turns i ∷ [])) ∙ ap (λ (t : Bool). cond t row []) (sym (eq-eqb (get_or item 0 0) 5 is))) wrote
 
 pub returns : goal.returns
 returns c =
     let a = c.args in
-    closed (book_state a.book) a.item.now a.out.now a.at c.requires.0.1 c.close-called.ensures c.open_turn-turn.ensures c.wide.ensures c.number.ensures c.wide-2.ensures c.put_call-written.ensures
+    closed (book_state a.book) a.item.now a.out.now c.requires.0.1 c.close-called.ensures c.open_turn-turn.ensures c.outcome_number.ensures c.put_call-written.ensures

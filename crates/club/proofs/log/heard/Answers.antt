@@ -32,7 +32,7 @@ carried b s item {x} is answer =
 pub returns-then-item-lt3 : goal.returns-then-item-lt3
 returns-then-item-lt3 c = let a = c.args in short (book_state a.book) (scanner_state a.scanner) a.item.now c.if-item-lt3.true
 
-pub returns-in-Header : goal.returns-in-Header
-returns-in-Header c =
+pub returns-in-Ok : goal.returns-in-Ok
+returns-in-Ok c =
     let a = c.args in
-    carried (book_state a.book) (scanner_state a.scanner) a.item.now (packet _ _ _ c.if-item-lt3.false c.parse.ensures c.in-Header.is c.process_adv_packet-scanned.ensures) c.reported.ensures
+    carried (book_state a.book) (scanner_state a.scanner) a.item.now (packet _ _ _ c.if-item-lt3.false c.parse.ensures c.in-Ok.is c.process_adv_packet-scanned.ensures) c.reported.ensures

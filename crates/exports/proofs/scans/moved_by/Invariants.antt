@@ -1,10 +1,13 @@
-use Rattle.std.proofs.Common.{◌-◌}
+use mathlib.Core.Path.{◌≡◌}
+use lib.ListN.{length}
 use Rattle.beacon.specs.State.{scanner_state}
-use Rattle.exports.proofs.Entries.{Given}
+use Rattle.exports.specs.Scans.{entries_up_to}
+use Rattle.exports.proofs.Chunks.{Taken}
 use Rattle.exports.proofs.scans.moved_by.Given as goal
 
-abbrev pub invariant-loop-i : goal.invariant-loop-i
-invariant-loop-i l = Given (scanner_state l.initial.listening) l.entries l.n (scanner_state l.listening) l.i
-
-abbrev pub decreases-loop-i : goal.decreases-loop-i
-decreases-loop-i l = l.n - l.i
+abbrev pub invariant-loop-entry : goal.invariant-loop-entry
+invariant-loop-entry l =
+    record {
+      taken : Taken l.entries l.entry-iterator.rest.now l.entry-iterator.size (length l.yielded);
+      reached : scanner_state l.listening ≡ entries_up_to (scanner_state l.initial.listening) l.entries (length l.yielded);
+    }

@@ -1,45 +1,46 @@
 -- One column is written after the other.
-use Rattle.std.proofs.Common.{◌≡◌, ◌∙◌, List, ◌++◌, append_assoc, ℕ, ◌+◌, ◌-◌, ◌*◌, ◌<◌, ◌≤◌, arith, rules, length, get_or, take, drop, length-append}
+use Rattle.std.proofs.Common.{◌≡◌, ◌∙◌, List, append_assoc, ℕ, ◌+◌, ◌<◌, ◌≤◌, arith, length, get_or, take, drop}
 use lib.ListN.{set}
 use borrow.Rule.Slice.PartMut.{put_mid}
 use Rattle.octets.proofs.Lists.{all_at}
-use Rattle.octets.specs.Bytes.{written}
+use Rattle.octets.specs.Bytes.{written, at_front}
 use Rattle.channels.specs.Phy.{index_of}
 use Rattle.channels.specs.declared.phy.AdvertisingChannel.{AdvertisingChannel}
 use Rattle.addresses.specs.Address.{kind_number}
 use Rattle.addresses.specs.declared.device_address.DeviceAddress.{DeviceAddress}
-use Rattle.columns.proofs.Widths.{column_length}
 use Rattle.columns.specs.Column.{column}
-use Rattle.columns.specs.Table.{octet_columns, octet_from, number_from, octets_from}
+use Rattle.columns.specs.Table.{octet_columns, octets_from}
 use Rattle.hub_spec.specs.Line.{line_size, report_line}
-use Rattle.hub_spec.proofs.Pieces.{nothing_yet, then_piece, then_octet, then_copied, then_number, then_octets}
+use Rattle.hub_spec.proofs.Pieces.{nothing_yet, then_octet, then_octets, then_put}
 use Rattle.hub.proofs.line.put_line.Goals as goal
 
 -- as the calls write them
-all_columns : (sender : DeviceAddress) (number : ℕ) (c : AdvertisingChannel) (records : ℕ) (out : List ℕ) (at : ℕ) {kind n₁ : ℕ} {table octets out₁ p₂ p₃ p₄ : List ℕ}
-    → table ≡ octet_columns → at + line_size ≤ length out → length octets ≡ 6 → octets ≡ sender.bytes → ((i : ℕ) → i < length octets → get_or octets i 0 < 256) → kind ≡ kind_number sender.kind → kind < 256
-    → (n₁ ≡ at + 9) × (out₁ ≡ written (column 6 number ++ column 3 (index_of c)) out at)
-    → p₂ ≡ octet_from table (length (take (n₁ + 2 - n₁) (drop n₁ out₁))) kind
-    → let n₂ = n₁ + 2 in
-    let out₂ = put_mid n₁ (n₂ - n₁) out₁ p₂ in
-    p₃ ≡ octets_from table octets (take (n₂ + 4 * length octets - n₂) (drop n₂ out₂))
-    → let n₃ = n₂ + 4 * length octets in
-    let out₃ = put_mid n₂ (n₃ - n₂) out₂ p₃ in
-    p₄ ≡ number_from table (length (take (n₃ + 3 - n₃) (drop n₃ out₃))) records
-    → set (put_mid n₃ (n₃ + 3 - n₃) out₃ p₄) (n₃ + 3) 10 ≡ written (report_line number c sender records) out at
+all_columns : (sender : DeviceAddress) (number : ℕ) (c : AdvertisingChannel) (records : ℕ) (out : List ℕ) {index kind : ℕ} {octets p₁ p₂ p₃ p₄ p₅ : List ℕ}
+    → line_size ≤ length out → length octets ≡ 6 → octets ≡ sender.bytes → ((i : ℕ) → i < length octets → get_or octets i 0 < 256) → index ≡ index_of c → kind ≡ kind_number sender.kind
+    → p₁ ≡ column (length (take 6 out)) number
+    → let out₁ = put_mid 0 6 out p₁ in
+    p₂ ≡ column (length (take 3 (drop 6 out₁))) index
+    → let out₂ = put_mid 6 3 out₁ p₂ in
+    p₃ ≡ column (length (take 2 (drop 9 out₂))) kind
+    → let out₃ = put_mid 9 2 out₂ p₃ in
+    p₄ ≡ octets_from octet_columns octets (take 24 (drop 11 out₃))
+    → let out₄ = put_mid 11 24 out₃ p₄ in
+    p₅ ≡ column (length (take 3 (drop 35 out₄))) records
+    → set (put_mid 35 3 out₄ p₅) 38 10 ≡ at_front (report_line number c sender records) out
 unfolding report_line
-all_columns sender number c records out at {kind} {octets = octets} is-table fits six is-octets all is-kind small e₁ e₂ e₃ e₄ =
-    let nine : length (column 6 number ++ column 3 (index_of c)) ≡ 9 = simp (length-append, column_length) in
-    let w₁ = then_piece (nothing_yet out at) (omega arith) (column 6 number ++ column 3 (index_of c)) nine e₁ in
-    let w₂ = then_copied w₁ (omega (arith, e₁.0)) is-table 2 kind small (omega (arith, e₁.0)) e₂ in
-    let w₃ = then_octets w₂ (omega (arith, e₁.0)) is-table octets (all_at (λ (x : ℕ). x < 256) octets all) (omega (arith, e₁.0, six)) e₃ in
-    let w₄ = then_number w₃ (omega (arith, e₁.0, six)) is-table 3 records (omega (arith, e₁.0, six)) e₄ in
-    let w₅ = then_octet w₄ (omega (arith, e₁.0, six)) 10 (omega (arith, e₁.0, six)) in
-    w₅.contents ∙ simp (append_assoc, is-octets, is-kind)
+all_columns sender number c records out {index} {kind} {octets} fits six is-octets all is-index is-kind e₁ e₂ e₃ e₄ e₅ =
+    let w₁ = then_put (nothing_yet out 0) (omega arith) 6 number (omega arith) e₁ in
+    let w₂ = then_put w₁ (omega arith) 3 index (omega arith) e₂ in
+    let w₃ = then_put w₂ (omega arith) 2 kind (omega arith) e₃ in
+    let w₄ = then_octets w₃ (omega arith) octets 24 (all_at (λ (x : ℕ). x < 256) octets all) (omega (arith, six)) (omega arith) e₄ in
+    let w₅ = then_put w₄ (omega arith) 3 records (omega arith) e₅ in
+    let w₆ = then_octet w₅ (omega arith) 10 (omega arith) in
+    let first : 0 + length (report_line number c sender records) ≡ length (report_line number c sender records) = omega arith in
+    let whole : _ ≡ written (report_line number c sender records) out 0 = w₆.contents ∙ simp (append_assoc, is-index, is-kind, is-octets) in
+    whole ∙ rw first
 
 pub returns : goal.returns
 returns c =
-    let small : c.kind_number.result < 256 = search rules in
-    all_columns c.args.sender c.args.number c.args.channel c.args.records c.args.out.now c.args.at c.requires.0 c.requires.1.1.1 c.requires.1.1.0 c.requires.1.0
+    all_columns c.args.sender c.args.number c.args.channel c.args.records c.args.out.now c.requires.1.1 c.requires.1.0 c.requires.0
     (λ i inside. omega (arith, c.type_inv.octets i))
-    c.kind_number.ensures small c.put_item-kind.ensures c.put_octet.ensures c.put_octets.ensures c.put_number.ensures
+    c.channel.ensures c.kind_number.ensures c.put_column.ensures c.put_octet.ensures c.put_octet-2.ensures c.put_octets.ensures c.put_column-2.ensures

@@ -1,6 +1,7 @@
 -- What is left over of the octets is what the items do not take, and the last line stands after their lines.
 use Rattle.std.proofs.Common.{◌≡◌, refl, sym, ap, ◌∙◌, Bool, cond, ◌||◌, List, [], ◌++◌, ℕ, ◌+◌, ◌-◌, ◌≤◌, arith, length, take, drop, length-append, length-drop}
 use lib.ListN.{length-take}
+use Rattle.std.specs.List.{copy_within}
 use Rattle.octets.specs.Bytes.{written, at_front}
 use Rattle.items.specs.Item.{after_items}
 use Rattle.hub_spec.specs.Line.{last_size, room_for}
@@ -60,8 +61,11 @@ module _ (h : Hub) (buf : List ℕ) (filled : ℕ) (g : Logged) (inside : filled
         let place : 0 + length (block_lines h s isEnd) ≡ length (block_lines h s isEnd) = omega arith in
         (λ i. record { hub = (is i).hub; written = size i; kept = left_long i; is_stopped = stop i }, both.contents ∙ rw place refl)
 
-  moved : {buf' : List ℕ} → buf' ≡ left ++ drop (filled - g.taken) buf → buf' ≡ rest_in h buf filled
-  moved is-buf = is-buf ∙ (λ i. left_over i ++ drop (left_long i) buf)
+  moved : {buf' : List ℕ} → buf' ≡ copy_within buf g.taken filled 0 → buf' ≡ rest_in h buf filled
+  unfolding left
+  moved is-buf =
+      let first : 0 + (filled - g.taken) ≡ filled - g.taken = omega arith in
+      is-buf ∙ ap (λ (n : ℕ). left ++ drop n buf) first ∙ (λ i. left_over i ++ drop (left_long i) buf)
 
 pub slice_bounds-is_last-count : goal.slice_bounds-is_last-count
 slice_bounds-is_last-count c =
@@ -74,9 +78,9 @@ slice_bounds-is_last-start c =
     in
     omega (arith, short, c.requires.1.0)
 
-pub keep-requires : goal.keep-requires
-keep-requires c =
-    (taken_short (hub_state c.args.hub) c.args.buf.now c.args.filled (logged_step c.log_items-logged.result) c.requires.1.0 c.log_items-logged.ensures.0, c.requires.1.0)
+pub copy_within-requires-clause-start_le_end : goal.copy_within-requires-clause-start_le_end
+copy_within-requires-clause-start_le_end c =
+    taken_short (hub_state c.args.hub) c.args.buf.now c.args.filled (logged_step c.log_items-logged.result) c.requires.1.0 c.log_items-logged.ensures.0
 
 pub overflow_sub-kept : goal.overflow_sub-kept
 overflow_sub-kept c =
@@ -94,4 +98,4 @@ returns c =
     let e = c.log_items-logged.ensures in
     let g = logged_step c.log_items-logged.result in
     let all = answer (hub_state a.hub) a.buf.now a.filled g c.requires.1.0 e.0 a.out.now e.1 c.requires.1.1 a.is_end c.is_last-is_stopped.ensures c.put_end-written.ensures in
-    (all.0, (moved (hub_state a.hub) a.buf.now a.filled g c.requires.1.0 e.0 c.keep.ensures, all.1))
+    (all.0, (moved (hub_state a.hub) a.buf.now a.filled g c.requires.1.0 e.0 c.copy_within.ensures.after, all.1))

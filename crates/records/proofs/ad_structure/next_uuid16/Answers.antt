@@ -1,20 +1,18 @@
+use Rattle.std.proofs.lemmas.Result.{err_from_is_err_and}
 use Rattle.records_spec.specs.Uuids.{uuid16_at}
 use borrow.Author.Tests.{eq-eqb, ne_eqb}
 use Rattle.records.proofs.ad_structure.next_uuid16.Goals as goal
 
--- src/ad_structure.rt:408:9
 pub returns-then-data-at : goal.returns-then-data-at
 unfolding uuid16_at
 returns-then-data-at c = simp (eq-eqb _ _ c.if-data-at.true)
 
--- src/ad_structure.rt:404:1
-pub returns-in-Value : goal.returns-in-Value
+pub returns-in_err-uuid : goal.returns-in_err-uuid
 unfolding uuid16_at
-returns-in-Value c =
-    rw (ne_eqb _ _ c.if-data-at.false, ← c.in-Value.ensures)
+returns-in_err-uuid c =
+    let p = err_from_is_err_and c.from_residual.result c.from_residual.ensures.1 in
+    rw (p.1, p.2, ne_eqb _ _ c.if-data-at.false, ← c.in_err-uuid.ensures)
 
--- src/ad_structure.rt:404:1
-pub returns-in-Refused : goal.returns-in-Refused
+pub returns : goal.returns
 unfolding uuid16_at
-returns-in-Refused c =
-    rw (ne_eqb _ _ c.if-data-at.false, ← c.in-Refused.ensures)
+returns c = rw (ne_eqb _ _ c.if-data-at.false, ← c.in_ok-uuid.ensures)

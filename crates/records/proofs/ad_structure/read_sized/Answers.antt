@@ -1,4 +1,5 @@
 use Rattle.std.proofs.Common.{◌≡◌, ◌+◌, ◌≤◌, ◌<◌, length, get_or, drop, ℕ, ◌-◌, List}
+use Rattle.std.proofs.lemmas.Result.{err_from_is_err_and}
 use Rattle.records_spec.specs.Record.{data_read, first, record_read, up_to}
 use mathlib.Core.Path.{sym, ap, ◌∙◌}
 use Prim.Native.Nat.{suc}
@@ -25,14 +26,12 @@ within s at n is more fits =
 room : (size at n : ℕ) → at < size → n ≤ size - at - 1 → at + 1 + n ≤ size
 room size at n within fits = omega arith
 
--- src/ad_structure.rt:309:9
 pub returns-then-len-eq0 : goal.returns-then-len-eq0
 unfolding record_read first
 returns-then-len-eq0 c =
     let a = c.args in
     rw (front a.s.now a.at c.requires.0, ← c.requires.1, eq-eqb _ _ c.if-len-eq0.true)
 
--- src/ad_structure.rt:312:9
 pub returns-then-s-at : goal.returns-then-s-at
 unfolding record_read first
 returns-then-s-at c =
@@ -40,12 +39,12 @@ returns-then-s-at c =
     let body = take a.len (drop (a.at + 1) a.s.now) in
     rw (front a.s.now a.at c.requires.0, ← c.requires.1, ne_eqb _ _ c.if-len-eq0.false, lt-ltb (length body) a.len (simp (length-take, length-drop) (omega arith)))
 
--- src/ad_structure.rt:304:1
-pub returns-in-Structure : goal.returns-in-Structure
+pub returns-in_err-ad : goal.returns-in_err-ad
 unfolding up_to
-returns-in-Structure c = sym (within _ _ _ c.requires.1 c.if-len-eq0.false (room _ _ _ c.requires.0 c.if-s-at.false) ∙ ap (up_to _) (sym c.in-Structure.ensures))
+returns-in_err-ad c =
+    let p = err_from_is_err_and c.from_residual.result c.from_residual.ensures.1 in
+    rw (p.1, p.2) (sym (within _ _ _ c.requires.1 c.if-len-eq0.false (room _ _ _ c.requires.0 c.if-s-at.false) ∙ ap (up_to _) (sym c.in_err-ad.ensures)))
 
--- src/ad_structure.rt:304:1
-pub returns-in-Refused : goal.returns-in-Refused
+pub returns : goal.returns
 unfolding up_to
-returns-in-Refused c = sym (within _ _ _ c.requires.1 c.if-len-eq0.false (room _ _ _ c.requires.0 c.if-s-at.false) ∙ ap (up_to _) (sym c.in-Refused.ensures))
+returns c = sym (within _ _ _ c.requires.1 c.if-len-eq0.false (room _ _ _ c.requires.0 c.if-s-at.false) ∙ ap (up_to _) (sym c.in_ok-ad.ensures))

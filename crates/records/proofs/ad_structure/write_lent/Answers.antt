@@ -1,54 +1,87 @@
-use Rattle.std.proofs.Common.{◌≡◌, ◌++◌, ◌+◌, ◌≤◌, length, ℕ, List}
+-- Where all checks pass, the header, the record's own octets and the data are written one after the other.
+use Rattle.std.proofs.Common.{◌≡◌, ◌++◌, ◌+◌, ◌≤◌, length, ℕ, List, [], ◌∷◌, Bool, true, false}
+use Rattle.std.proofs.lemmas.Result.{err_from_is_err_and}
+use Rattle.std.specs.Prelude.{Result, Ok, Err}
 use Rattle.octets.specs.Bytes.{written}
+use Rattle.octets.specs.declared.bytes.ByteWriter.{ByteWriter}
+use Rattle.octets.specs.declared.error.Error.{Error}
+use Rattle.octets.specs.declared.error.Error.TheVariants.{Eof, RecordLength}
 use Rattle.records_spec.specs.Record.{record_of}
-use Rattle.records_spec.specs.Write.{lent_check, space_in, and_then, lent_to, lent_after, Outline, own_in, space_for, checked_to, checked_after}
+use Rattle.records_spec.specs.Write.{space_in, space_for, and_then, lent_to, lent_after, Outline, own_in}
 use Rattle.records.specs.State.{outline_state}
+use mathlib.Core.Bool.{cond}
 use mathlib.Core.Path.{refl, ap, ◌∙◌}
 use Prim.Native.Nat.{suc}
 use native.Mathlib.Omega.{arith}
+use lib.Dec.{leb, ltb}
 use lib.ListN.{take, length-append, length-take}
-use Rattle.octets.specs.declared.bytes.Written.{Written}
-use Rattle.octets.specs.declared.bytes.Written.TheVariants.{To}
-use Rattle.octets.specs.declared.error.Error.{Error}
-use Rattle.octets.specs.declared.error.Outcome.{Outcome}
+use borrow.Author.Tests.{leb-true}
+use Rattle.records.proofs.Writing.{begun, written_on, written_all}
 use Rattle.records.proofs.ad_structure.write_lent.Goals as goal
-use Rattle.octets.specs.declared.error.Outcome.TheVariants as outcome
 
--- `records::ad_structure::write_lent` meets its contract: where all checks pass, the record is put.
--- Assumes nothing.
-own-size : (o : Outline) (d : List ℕ) → o.held ≤ 2 → length (own_in o ++ d) ≡ o.held + length d
-own-size o d short = simp (length-append, length-take) (omega arith)
+own_size : (o : Outline) (d : List ℕ) → o.held ≤ 2 → length (own_in o ++ d) ≡ o.held + length d
+own_size o d short = simp (length-append, length-take) (omega arith)
 
--- a record that may not be written
-not-put : (check : Outcome) (xs d out : List ℕ) (at n : ℕ) {may : Outcome} {e : Error} → length d ≡ n → may ≡ and_then check (space_in n (length out) at) → may ≡ outcome.Refused e
-    → (Written.Refused e ≡ checked_to (and_then check (space_for d out at)) xs at) × (out ≡ checked_after (and_then check (space_for d out at)) xs out at)
-not-put check xs d out at n size is why = rw (size, ← is, why) (refl, refl)
+-- where there is space
+room : (n size at : ℕ) → Ok tt ≡ space_in n size at → at + (n + 2) ≤ size
+room n size at e = leb-true (at + (n + 2)) size (go (leb (at + (n + 2)) size) e)
+  where
+    go : (b : Bool) → Ok tt ≡ cond {A = Result (Unit {0}) Error} b (cond (ltb 255 (n + 1)) (Err RecordLength) (Ok tt)) (Err Eof) → b ≡ true
+    go true e = refl
+    go false e = absurd (let z : ◌≡◌ {A = ℕ} 0 1 = cc in omega arith)
 
--- a record that may be written, and was put
-put : (check : Outcome) (ty : ℕ) (own d out : List ℕ) (at n end : ℕ) {own₁ l : List ℕ} → length (own ++ d) ≡ n → end ≡ at + 2 + n → outcome.Accepted ≡ and_then check (space_in n (length out) at)
-    → own₁ ≡ own → l ≡ written (record_of ty (own₁ ++ d)) out at
-    → let may = and_then check (space_for (own ++ d) out at) in
-    (To (record { at = end }) ≡ checked_to may (record_of ty (own ++ d)) at) × (l ≡ checked_after may (record_of ty (own ++ d)) out at)
-unfolding record_of
-put check ty own d out at n end size ends fine is e =
-    let next : end ≡ at + suc (suc (length (own ++ d))) = omega arith in
-    let may : outcome.Accepted ≡ and_then check (space_for (own ++ d) out at) = rw size fine in
-    rw (← may) (ap (λ (next : ℕ). To (record { at = next })) next, e ∙ ap (λ (o : List ℕ). written (record_of ty (o ++ d)) out at) is)
-
--- src/ad_structure.rt:194:9
-pub returns-in-Refused : goal.returns-in-Refused
+-- a record whose data are not what they must be, or for which there is too little space
+unfit : (o : Outline) (d out : List ℕ) (at : ℕ) {e : Error} → Err e ≡ o.check d → (Err e ≡ lent_to o d out at) × (out ≡ lent_after o d out at)
 unfolding lent_to lent_after
-returns-in-Refused c =
+unfit o d out at bad = (rw (← bad), rw (← bad))
+
+crowded : (o : Outline) (d out : List ℕ) (at : ℕ) {e : Error} → o.held ≤ 2 → Ok tt ≡ o.check d → Err e ≡ space_in (o.held + length d) (length out) at → (Err e ≡ lent_to o d out at) × (out ≡ lent_after o d out at)
+unfolding lent_to lent_after
+crowded o d out at short fine full = let size = own_size o d short in (rw (← fine, size, ← full), rw (← fine, size, ← full))
+
+-- a record that is put
+put : (o : Outline) (d out : List ℕ) (at : ℕ) (own : List ℕ) {r : Result ByteWriter Error} {l : List ℕ} → o.held ≤ 2 → own ≡ own_in o → Ok tt ≡ o.check d → Ok tt ≡ space_in (o.held + length d) (length out) at
+    → (r ≡ Ok (record { at = at + length ((((o.held + length d + 1) ∷ o.ty ∷ []) ++ own) ++ d) })) × (l ≡ written ((((o.held + length d + 1) ∷ o.ty ∷ []) ++ own) ++ d) out at)
+    → (r ≡ lent_to o d out at) × (l ≡ lent_after o d out at)
+unfolding lent_to lent_after record_of
+put o d out at own short is fine space wrote =
+    let size = own_size o d short in
+    let count : o.held + length d + 1 ≡ suc (length (own_in o ++ d)) = omega arith in
+    let all : (((o.held + length d + 1) ∷ o.ty ∷ []) ++ own) ++ d ≡ suc (length (own_in o ++ d)) ∷ o.ty ∷ (own_in o ++ d) = rw (count, is) in
+    let may : Ok tt ≡ and_then (o.check d) (space_for (own_in o ++ d) out at) = rw (← fine, size) space in
+    (wrote.0 ∙ ap (λ (xs : List ℕ). Ok (record { at = at + length xs })) all ∙ (rw (← may)), wrote.1 ∙ ap (λ (xs : List ℕ). written xs out at) all ∙ (rw (← may)))
+
+pub returns-in_err-check : goal.returns-in_err-check
+returns-in_err-check c =
+    let p = err_from_is_err_and c.from_residual.result c.from_residual.ensures.1 in
+    rw (p.1, p.2) (unfit (outline_state c.args.outline) _ _ _ c.in_err-check.ensures)
+
+pub returns-in_err-space_for : goal.returns-in_err-space_for
+returns-in_err-space_for c =
+    let p = err_from_is_err_and c.from_residual-in_err-space_for.result c.from_residual-in_err-space_for.ensures.1 in
+    rw (p.1, p.2) (crowded (outline_state c.args.outline) _ _ _ c.requires c.in_ok-check.ensures c.in_err-space_for.ensures)
+
+pub returns-in_err-after_header : goal.returns-in_err-after_header
+returns-in_err-after_header c =
     let a = c.args in
-    let o = outline_state a.outline in
-    let d = a.«data».now in
-    not-put (lent_check o.name o.unit d) (record_of o.ty (own_in o ++ d)) (own_in o ++ d) a.out.now a.writer.at (o.held + length d) (own-size o d c.requires.0) c.in-Refused.ensures refl
+    let fits : a.writer.at + (a.outline.held + length a.«data».now + 2) ≤ length a.out.now = room _ _ _ c.in_ok-space_for.ensures in
+    absurd (written_on [] (_ ∷ _ ∷ []) a.out.now a.writer.at (omega arith) (begun a.out.now a.writer) c.write_slice.ensures c.in_err-after_header.was)
 
--- src/ad_structure.rt:186:1
+pub returns-in_err-after_own : goal.returns-in_err-after_own
+returns-in_err-after_own c =
+    let a = c.args in
+    let fits : a.writer.at + (a.outline.held + length a.«data».now + 2) ≤ length a.out.now = room _ _ _ c.in_ok-space_for.ensures in
+    let own = take a.outline.held c.u16_to_le_bytes-own.result in
+    let header = written_on [] (_ ∷ _ ∷ []) a.out.now a.writer.at (omega arith) (begun a.out.now a.writer) c.write_slice.ensures c.in_ok-after_header.was in
+    absurd (written_on (_ ∷ _ ∷ []) own a.out.now a.writer.at (omega (arith, length-take a.outline.held c.u16_to_le_bytes-own.result)) header c.write_slice-2.ensures c.in_err-after_own.was)
+
 pub returns : goal.returns
-unfolding lent_to lent_after
 returns c =
     let a = c.args in
-    let o = outline_state a.outline in
-    let size : length (own_in o ++ a.«data».now) ≡ o.held + length a.«data».now = own-size o a.«data».now c.requires.0 in
-    put (lent_check o.name o.unit a.«data».now) o.ty (own_in o) a.«data».now a.out.now a.writer.at _ _ size refl c.in_default.ensures (ap (take o.held) c.u16_to_le_bytes-own.ensures) c.put_raw.ensures
+    let fits : a.writer.at + (a.outline.held + length a.«data».now + 2) ≤ length a.out.now = room _ _ _ c.in_ok-space_for.ensures in
+    let own = take a.outline.held c.u16_to_le_bytes-own.result in
+    let short = length-take a.outline.held c.u16_to_le_bytes-own.result in
+    let header = written_on [] (_ ∷ _ ∷ []) a.out.now a.writer.at (omega arith) (begun a.out.now a.writer) c.write_slice.ensures c.in_ok-after_header.was in
+    let before = written_on (_ ∷ _ ∷ []) own a.out.now a.writer.at (omega (arith, short)) header c.write_slice-2.ensures c.in_ok-after_own.was in
+    put (outline_state a.outline) a.«data».now a.out.now a.writer.at own c.requires (ap (take a.outline.held) c.u16_to_le_bytes-own.ensures) c.in_ok-check.ensures c.in_ok-space_for.ensures
+    (written_all ((_ ∷ _ ∷ []) ++ own) a.«data».now a.out.now a.writer.at (omega (arith, short)) before c.write_slice-3.ensures)

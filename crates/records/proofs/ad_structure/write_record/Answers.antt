@@ -6,22 +6,24 @@ use native.Mathlib.Omega.{arith}
 use lib.ListN.{take}
 use borrow.Author.Tests.{leb-true}
 use Rattle.octets.specs.declared.error.Error.TheVariants.{Eof}
-use Rattle.octets.specs.declared.bytes.Written.{Written}
 use Rattle.records_spec.specs.declared.ad_structure.AdStructure.{AdStructure}
 use Rattle.records_spec.specs.Order.{Lends, lent_octets}
 use Rattle.records_spec.proofs.Outlines.{written_by_outline}
 use Rattle.records.proofs.ad_structure.write_record.Goals as goal
+use Rattle.std.specs.Prelude.{Result, Err}
+use Rattle.octets.specs.declared.bytes.ByteWriter.{ByteWriter}
+use Rattle.octets.specs.declared.error.Error.{Error}
 
 -- the answer and the octets of a write
-abbrev Wrote : AdStructure → List ℕ → List ℕ → ℕ → Written → List ℕ → Type 0
+abbrev Wrote : AdStructure → List ℕ → List ℕ → ℕ → Result ByteWriter Error → List ℕ → Type 0
 Wrote a s out at r l = (r ≡ written_to a s out at) × (l ≡ written_after a s out at)
 
-no-data : (a : AdStructure) (s out : List ℕ) (at : ℕ) {o : Outline} → IsOutline a o → has o.len s o.start ≡ false → Wrote a s out at (Written.Refused Eof) out
+no-data : (a : AdStructure) (s out : List ℕ) (at : ℕ) {o : Outline} → IsOutline a o → has o.len s o.start ≡ false → Wrote a s out at (Err Eof) out
 unfolding written_to written_after may_write
 no-data a s out at is few = rw (← is.start, ← is.len, few) (refl, refl)
 
 -- the lent part, as the code takes it
-lent : (a : AdStructure) (s out : List ℕ) (at : ℕ) {o : Outline} {r : Written} {l : List ℕ} → IsOutline a o → has o.len s o.start ≡ true
+lent : (a : AdStructure) (s out : List ℕ) (at : ℕ) {o : Outline} {r : Result ByteWriter Error} {l : List ℕ} → IsOutline a o → has o.len s o.start ≡ true
     → (r ≡ lent_to o (take (o.start + o.len - o.start) (drop o.start s)) out at) × (l ≡ lent_after o (take (o.start + o.len - o.start) (drop o.start s)) out at)
     → Wrote a s out at r l
 lent a s out at {o} is there wrote =

@@ -1,29 +1,30 @@
-use Rattle.std.proofs.Common.{◌≡◌, length, drop, ℕ, ◌+◌, ◌<◌, false, List}
+use Rattle.std.proofs.Common.{rules, ◌≡◌, ◌<◌, ◌&&◌, ℕ, zero, suc, Bool, true, false, List, [], ◌∷◌, length, refl, nat_eq, arith, MatchBool}
+use Rattle.std.proofs.lemmas.Iterator.{cases_from_all, YieldsList-from_slice}
+use Rattle.std.specs.List.{AllWithin, HoldsAt}
+use borrow.Author.Tests.{ne_eqb, tests}
 use Rattle.records_spec.specs.HubReading.{is_zeros}
-use mathlib.Core.Path.{sym, ap, ◌∙◌}
-use lib.ListN.{get_or, drop_of_length-le}
-use borrow.Author.Tests.{ne_eqb}
-use Rattle.octets.proofs.Places.{front}
 use Rattle.records.proofs.area.is_zeros.Goals as goal
 
--- an octet that is zero leaves the others to decide, another decides
-passed : (s : List ℕ) (at : ℕ) → at < length s → get_or s at 0 ≡ 0 → is_zeros (drop at s) ≡ is_zeros (drop (at + 1) s)
+zeros : (l : List ℕ) → AllWithin (λ x. x ≡ 0) l 0 (length l) → true ≡ is_zeros l
 unfolding is_zeros
-passed s at inside zero = rw (front s at inside, zero)
+zeros [] all = refl
+zeros (x ∷ l) all = rw (all 0 0 (omega arith) (omega arith)) (zeros l (λ k d low high. all (suc k) d (omega arith) (omega arith)))
 
-another : (s : List ℕ) (at : ℕ) → at < length s → (get_or s at 0 ≡ 0 → ⊥) → is_zeros (drop at s) ≡ false
+another : (l : List ℕ) (k : ℕ) → k < length l → HoldsAt (λ x. x ≡ 0 → ⊥) l k → false ≡ is_zeros l
 unfolding is_zeros
-another s at inside other = rw (front s at inside, ne_eqb (get_or s at 0) 0 other)
+another [] k h at = absurd (omega arith)
+another (x ∷ l) zero h at = rw (ne_eqb x 0 (at 0))
+another (x ∷ l) (suc k) h at = go (nat_eq x 0) (another l k (omega arith) at)
+  where
+    go : (b : Bool) → false ≡ is_zeros l → false ≡ (b && is_zeros l)
+    go true e = e
+    go false e = refl
 
--- src/area.rt:66:13
-pub returns-then-s-at-ne0 : goal.returns-then-s-at-ne0
-returns-then-s-at-ne0 c = sym (c.loop-at.invariant ∙ another _ _ c.loop-at-test.true c.if-s-at-ne0.true)
+told : (b : Bool) (l : List ℕ) → MatchBool b (AllWithin (λ x. x ≡ 0) l 0 (length l)) ((k : ℕ) × (k < length l) × HoldsAt (λ x. x ≡ 0 → ⊥) l k) → b ≡ is_zeros l
+told true l all = zeros l all
+told false l (k, below, at) = another l k below at
 
--- src/area.rt:64:5
-pub loop-at-preserved : goal.loop-at-preserved
-loop-at-preserved c = c.loop-at.invariant ∙ passed _ _ c.loop-at-test.true c.if-s-at-ne0.false
-
--- src/area.rt:60:1
 pub returns : goal.returns
-unfolding is_zeros
-returns c = sym (c.loop-at.invariant ∙ ap is_zeros (drop_of_length-le c.args.s.now {i = c.loop-at.at} c.loop-at-test.false))
+returns c =
+    told c.all.result c.args.octets.now
+    (cases_from_all _ _ _ (λ x. x ≡ 0) (λ x. x ≡ 0 → ⊥) c.all.ensures.ran (YieldsList-from_slice c.args.octets.now cc) (λ x q k. search (rules, tests)) (λ x q k. search (rules, tests)))

@@ -1,18 +1,22 @@
+use Rattle.std.proofs.Common.{rules, ◌≡◌, ◌<◌, ◌≤◌, ◌⊎◌, ℕ, inl, inr, false, ◌∙◌, arith}
+use borrow.Author.Tests.{tests, eq-eqb, ne_eqb, lt-ltb, le-ltb}
+use lib.Dec.{leb}
 use Rattle.book_spec.specs.Book.{is_filled}
-use borrow.Author.Tests.{eq-eqb, ne_eqb, lt-ltb, le-ltb}
+use Rattle.book_spec.specs.State.{Book}
+use Rattle.book.specs.State.{book_state}
 use Rattle.book.proofs.book.Book.is_filled.Goals as goal
 
--- src/book.rt:94:13
-pub returns-then-n-eq0 : goal.returns-then-n-eq0
+within : (b : Book) (n : ℕ) → (1 ≤ n) × (n ≤ 64) → leb n b.filled ≡ is_filled b n
 unfolding is_filled
-returns-then-n-eq0 c = rw (eq-eqb _ 0 c.if-n-eq0.true)
+within b n (some, few) = rw (ne_eqb n 0 (omega arith), le-ltb 64 n few)
 
--- src/book.rt:97:13
-pub returns-then-n-gt-SEATS : goal.returns-then-n-gt-SEATS
+outside : (b : Book) (n : ℕ) → (n < 1) ⊎ (64 < n) → false ≡ is_filled b n
 unfolding is_filled
-returns-then-n-gt-SEATS c = rw (ne_eqb _ 0 c.if-n-eq0.false, lt-ltb 64 _ c.if-n-gt-SEATS.true)
+outside b n (inl none) = rw (eq-eqb n 0 (omega arith))
+outside b n (inr many) = rw (ne_eqb n 0 (omega arith), lt-ltb 64 n many)
 
--- src/book.rt:90:5
-pub returns : goal.returns
-unfolding is_filled
-returns c = rw (ne_eqb _ 0 c.if-n-eq0.false, le-ltb 64 _ c.if-n-gt-SEATS.false)
+pub returns-then-contains : goal.returns-then-contains
+returns-then-contains c = within (book_state c.args.self) c.args.n (search (rules, tests))
+
+pub returns-else-contains : goal.returns-else-contains
+returns-else-contains c = c.if-contains.false ∙ outside (book_state c.args.self) c.args.n (search (rules, tests))
