@@ -178,12 +178,9 @@ impl PduType {
     pub fn allows_adv_data(self) -> bool
         ensures { result ≡ allows_adv_data self }
     {
-        match self {
-            PduType::AdvInd | PduType::AdvNonconnInd | PduType::AdvScanInd | PduType::ScanRsp => {
-                true
-            }
-            PduType::AdvDirectInd | PduType::ScanReq | PduType::ConnectReq | PduType::Unknown(_) =>
-                false,
-        }
+        matches!(
+            self,
+            PduType::AdvInd | PduType::AdvNonconnInd | PduType::AdvScanInd | PduType::ScanRsp
+        )
     }
 }

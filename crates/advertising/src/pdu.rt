@@ -288,8 +288,8 @@ impl ConnectRequestData {
         ensures { result ≡ window_end self }
     {
         // 1,250 µs: the Core's transmitWindowDelay after a `CONNECT_IND`.
-        let end = std::num::wrapping_add_u32(self.win_offset, self.win_size);
-        std::num::wrapping_add_u32(end, 1250)
+        let end = self.win_offset.wrapping_add(self.win_size);
+        end.wrapping_add(1250)
     }
 
     // WinSize in µs.

@@ -33,6 +33,7 @@ pub struct Packet {
     pub sca: u8,
 }
 
+// Not `From`: C alone is handed it, and nothing here sends it.
 fn accuracy_number(sca: SleepClockAccuracy) -> u8
     ensures { result ≡ accuracy_number sca }
 {

@@ -70,7 +70,7 @@ fn reported(book: Book, scanned: Scanned, payload: &[u8]) -> Book
     }
 }
 
-// The book after an item that the hub hears. A tick is no packet.
+// The book after an item that the hub hears. A tick is no packet. Beside hub's `log_item`: a scanner's answer to what is no packet cannot be made outside its crate.
 fn heard(book: Book, scanner: BeaconScanner, item: &[u8]) -> Book
     ensures { book_state result ≡ book_after (book_state book) (packet_calls (heard_in (scanner_state scanner) item.now) (drop 3 item.now)) }
 {

@@ -412,8 +412,7 @@ pub fn next_uuid16(data: &[u8], at: usize) -> Result<Option<(Uuid16, usize)>, Er
 }
 
 // The type octets that are read or written here (Assigned Numbers, 2.3).
-#[derive(Clone, Copy)]
-pub struct Type {}
+pub enum Type {}
 
 impl Type {
     const FLAGS: u8 = 0x01;
