@@ -1,4 +1,4 @@
--- All octets in columns, one after the other, from which the columns of single ones are copied; and what is copied from any such table.
+-- All octets in columns, one after the other, from which the columns of single ones are copied; and what is copied from any table that is lent.
 --
 --     | 0, in 4 columns | 1, in 4 columns | .. | 255, in 4 columns |
 --

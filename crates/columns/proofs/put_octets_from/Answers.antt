@@ -1,12 +1,12 @@
-use Rattle.std.proofs.Common.{◌≡◌, refl, sym, ap, ◌∙◌, List, [], ◌∷◌, ◌++◌, append_assoc, ℕ, suc, ◌+◌, ◌-◌, ◌*◌, ◌<◌, ◌≤◌, arith, add-one, length, get_or, take, drop, length-append, length-drop, drop-cons}
+use Rattle.std.proofs.Common.{◌≡◌, refl, ap, ◌∙◌, List, [], ◌∷◌, ◌++◌, append_assoc, ℕ, suc, ◌+◌, ◌-◌, ◌*◌, ◌<◌, ◌≤◌, arith, add-one, length, get_or, take, drop, length-append, length-drop, drop-cons}
 use lib.ListN.{length-take, drop_of_length-le, take-append-drop}
 use lib.Seq.{take_at, drop_at, drop-drop}
 use borrow.Author.Tests.{le-leb, lt-leb}
 use borrow.Rule.Slice.PartMut.{put_mid}
-use Rattle.columns.specs.Table.{octet_columns, octet_from, octets_from}
-use Rattle.columns.proofs.Printed.{octet_length, printed}
+use Rattle.columns.specs.Table.{octet_from, octets_from}
+use Rattle.columns.proofs.Printed.{octet_length}
 use Rattle.columns.proofs.Widths.{part_size, put_part}
-use Rattle.columns.proofs.put_octets.Goals as goal
+use Rattle.columns.proofs.put_octets_from.Goals as goal
 
 no_room : (t os out : List ℕ) → length out < 4 → octets_from t os out ≡ out
 unfolding octets_from
@@ -46,10 +46,9 @@ loop-i-preserved c =
     let at : ℕ = 4 * c.loop-i.i in
     let next : 4 * (c.loop-i.i + 1) ≡ at + 4 = omega arith in
     let end : at + 4 ≤ length c.loop-i.out = omega arith in
-    let wrote = c.put_octet.ensures ∙ sym (printed.octet _ _ (c.type_inv.octets c.loop-i.i).fits) in
     rw next (record {
-      inside = omega (arith, end, long octet_columns c.args.octets.now c.loop-i.out _ c.loop-i.i at c.loop-i-test.true end wrote);
-      whole = advance _ _ _ _ _ at c.loop-i-test.true end wrote ∙ was.whole;
+      inside = omega (arith, end, long c.args.table.now c.args.octets.now c.loop-i.out _ c.loop-i.i at c.loop-i-test.true end c.put_octet_from.ensures);
+      whole = advance _ _ _ _ _ at c.loop-i-test.true end c.put_octet_from.ensures ∙ was.whole;
     })
 
 -- nothing more is written
@@ -61,10 +60,10 @@ pub returns-then-out-at-lt4 : goal.returns-then-out-at-lt4
 returns-then-out-at-lt4 c =
     let out = c.loop-i.out in
     let few : length (drop (4 * c.loop-i.i) out) < 4 = rw length-drop (omega arith) in
-    finished octet_columns c.args.octets.now out c.loop-i.i (4 * c.loop-i.i) (no_room _ _ _ few) ∙ c.loop-i.invariant.whole
+    finished c.args.table.now c.args.octets.now out c.loop-i.i (4 * c.loop-i.i) (no_room _ _ _ few) ∙ c.loop-i.invariant.whole
 
 pub returns : goal.returns
 unfolding octets_from
 returns c =
     let end : length c.args.octets.now ≤ c.loop-i.i = omega arith in
-    finished octet_columns c.args.octets.now c.loop-i.out c.loop-i.i (4 * c.loop-i.i) (rw (drop_of_length-le c.args.octets.now end) refl) ∙ c.loop-i.invariant.whole
+    finished c.args.table.now c.args.octets.now c.loop-i.out c.loop-i.i (4 * c.loop-i.i) (rw (drop_of_length-le c.args.octets.now end) refl) ∙ c.loop-i.invariant.whole
