@@ -79,33 +79,43 @@ pub fn board_read_into(s: &[u8], at: usize, dst: &mut [u8]) -> Got
 pub fn board_read_array5(s: &[u8], at: usize) -> Five
     ensures { result ≡ five_said (array_from 5 s.now at) }
 {
-    let mut said = Five {
-        number: 0,
-        octets: [0; 5],
-        next: 0,
-    };
     let reader = ByteReader { at };
-    match reader.read_into(s, &mut said.octets) {
-        Ok(next) => said.next = next.at,
-        Err(e) => said.number = e.number(),
+    match reader.read_array::<5>(s) {
+        Ok(read) => {
+            let octets = read.0;
+            Five {
+                number: 0,
+                octets,
+                next: read.1.at,
+            }
+        }
+        Err(e) => Five {
+            number: e.number(),
+            octets: [0; 5],
+            next: 0,
+        },
     }
-    said
 }
 
 pub fn board_read_array6(s: &[u8], at: usize) -> Six
     ensures { result ≡ six_said (array_from 6 s.now at) }
 {
-    let mut said = Six {
-        number: 0,
-        octets: [0; 6],
-        next: 0,
-    };
     let reader = ByteReader { at };
-    match reader.read_into(s, &mut said.octets) {
-        Ok(next) => said.next = next.at,
-        Err(e) => said.number = e.number(),
+    match reader.read_array::<6>(s) {
+        Ok(read) => {
+            let octets = read.0;
+            Six {
+                number: 0,
+                octets,
+                next: read.1.at,
+            }
+        }
+        Err(e) => Six {
+            number: e.number(),
+            octets: [0; 6],
+            next: 0,
+        },
     }
-    said
 }
 
 // A number, and the position after it.

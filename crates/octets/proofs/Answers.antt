@@ -11,7 +11,7 @@ use Rattle.octets.proofs.Places as places
 pub enough : (n : ℕ) (s : List ℕ) (at : ℕ) → at + n ≤ length s → Enough n s at
 enough n s at h =
     let is = places.enough n s at h in
-    record { passed = rw is; slice = rw is; array = rw (length-replicate, is); array_with_next = rw is; write = rw is; after = λ xs size. rw (size, is) }
+    record { passed = rw is; slice = rw is; array = rw (length-replicate, is); array_with_next = rw (length-replicate, is); write = rw is; after = λ xs size. rw (size, is) }
 
 pub too_few : (n : ℕ) (s : List ℕ) (at : ℕ) → length s < at + n → TooFew n s at
 too_few n s at h =

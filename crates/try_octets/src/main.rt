@@ -69,15 +69,19 @@ fn interval(rt: &HostRuntime) -> io::Result<()> {
     println!(rt)
 }
 
-// Six octets, which stay zeros where they cannot be read.
+// Six octets, or zeros where they cannot be read.
 fn six_octets(rt: &HostRuntime, at: usize, s: &[u8]) -> io::Result<()> {
     print!(rt; "read 6 octets at {at}:")?;
-    let mut octets = [0u8; 6];
-    let read = ByteReader { at }.read_into(s, &mut octets);
-    hex(rt, &octets)?;
-    match read {
-        Ok(next) => print!(rt; " next {}", next.at)?,
-        Err(e) => refusal(rt, e)?,
+    match (ByteReader { at }).read_array::<6>(s) {
+        Ok(read) => {
+            let octets = read.0;
+            hex(rt, &octets)?;
+            print!(rt; " next {}", read.1.at)?;
+        }
+        Err(e) => {
+            hex(rt, &[0; 6])?;
+            refusal(rt, e)?;
+        }
     }
     println!(rt)
 }
