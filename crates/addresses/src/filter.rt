@@ -6,7 +6,7 @@ use crate::device_address::{AddressKind, DeviceAddress};
 use octets::error::Error;
 
 // Which devices pass. The whitelist is lent beside it, as 7 octets for each address: its kind (0 public, 1 random), then its six octets.
-#[derive(Clone, Copy)]
+#[derive(Clone, Copy, Debug, PartialEq, Eq)]
 pub enum AddressFilter {
     // Every device.
     AllowAll,
@@ -88,7 +88,7 @@ impl AdvFilter {
 }
 
 // Whose advertisements a scanner takes (the Core: scanner filter policy).
-#[derive(Clone, Copy)]
+#[derive(Clone, Copy, Debug, PartialEq, Eq)]
 pub struct ScanFilter {
     scan: AddressFilter,
 }
@@ -103,6 +103,7 @@ impl ScanFilter {
     pub fn should_scan(self, list: &[u8], device: DeviceAddress) -> Result<bool, Error>
         ensures { result ≡ should_scan self list.now device }
     {
-        self.scan.matches(list, device)
+        let filter = self.scan;
+        filter.matches(list, device)
     }
 }

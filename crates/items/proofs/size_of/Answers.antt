@@ -1,8 +1,8 @@
-use Rattle.std.proofs.Common.{◌≡◌, refl, ap, ◌∙◌, ℕ, ◌+◌, ◌%◌, ◌<◌, ◌≤◌, arith, get_or, List, [], ◌∷◌, Option, Some, None, unwrap_or}
+use Rattle.std.proofs.Common.{◌≡◌, refl, ap, ◌∙◌, ℕ, ◌+◌, ◌<◌, ◌≤◌, arith, get_or, List, [], ◌∷◌, Option, Some, None, unwrap_or}
 use Rattle.std.specs.List.{slice_get}
 use Rattle.std.proofs.lemmas.Option.{none-some}
 use borrow.Author.Tests.{ne_eqb, lt-ltb, le-ltb}
-use Rattle.items.specs.Item.{size_of}
+use Rattle.items.specs.Item.{payload_size, size_of}
 use Rattle.items.proofs.size_of.Goals as goal
 
 nothing : (s : List ℕ) → None ≡ slice_get s 0 → None ≡ size_of s
@@ -24,7 +24,7 @@ tick (x ∷ rest) first is zero =
     let same : x ≡ 0 = cc in
     rw same refl
 
-packet : (s : List ℕ) (first h1 : ℕ) → Some first ≡ slice_get s 0 → 0 < first → first ≤ 2 → h1 ≡ get_or s 2 0 → Some (3 + h1 % 64) ≡ size_of s
+packet : (s : List ℕ) (first h1 : ℕ) → Some first ≡ slice_get s 0 → 0 < first → first ≤ 2 → h1 ≡ get_or s 2 0 → Some (3 + payload_size h1) ≡ size_of s
 unfolding size_of
 packet [] first h1 is some low second = cc
 packet (x ∷ rest) first h1 is some low second =
