@@ -41,7 +41,7 @@ impl Beacon {
 }
 
 // Listens for beacons, one advertising channel at a time, and sends nothing.
-#[derive(Clone, Copy)]
+#[derive(Clone, Copy, Debug, PartialEq, Eq)]
 pub struct BeaconScanner {
     filter: ScanFilter,
     // In µs.

@@ -28,12 +28,17 @@ fn put_line(
     requires { (octets.now ≡ sender.bytes) × ((length octets.now ≡ 6) × (line_size ≤ length out.old)) }
     ensures { out.new ≡ at_front (report_line number channel sender records) out.old }
 {
-    columns::put_column(number, &mut out[..6]);
-    columns::put_octet(channel.channel(), &mut out[6..9]);
-    columns::put_octet(kind_number(sender), &mut out[9..11]);
-    columns::put_octets(octets, &mut out[11..35]);
-    columns::put_column(records, &mut out[35..38]);
-    out[38] = b'\n';
+    let heard = 6;
+    columns::put_column(number, &mut out[..heard]);
+    let kind = heard + 3;
+    columns::put_octet(channel.channel(), &mut out[heard..kind]);
+    let sent = kind + 2;
+    columns::put_octet(kind_number(sender), &mut out[kind..sent]);
+    let count = sent + 24;
+    columns::put_octets(octets, &mut out[sent..count]);
+    let end = count + 3;
+    columns::put_column(records, &mut out[count..end]);
+    out[end] = b'\n';
 }
 
 // Writes the line of what the scanner answered to an item, if it has one, to the front of `out`, and answers how many reports that is.

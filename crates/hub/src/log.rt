@@ -23,7 +23,7 @@ const LAST: usize = 15;
 const SHORTEST: usize = 9;
 
 // What the hub has counted, and the scanner that it listens with.
-#[derive(Clone, Copy)]
+#[derive(Clone, Copy, Debug, PartialEq, Eq)]
 pub struct Hub {
     items: usize,
     reports: usize,
@@ -184,10 +184,13 @@ fn put_last_line(hub: Hub, kept: usize, out: &mut [u8])
     requires { length out.old ≡ last_size }
     ensures { out.new ≡ last_line (hub_state hub) kept }
 {
-    columns::put_column(hub.items, &mut out[..6]);
-    columns::put_column(hub.reports, &mut out[6..12]);
-    columns::put_column(left_over(kept), &mut out[12..14]);
-    out[14] = b'\n';
+    let reports = 6;
+    columns::put_column(hub.items, &mut out[..reports]);
+    let flag = reports + 6;
+    columns::put_column(hub.reports, &mut out[reports..flag]);
+    let end = flag + 2;
+    columns::put_column(left_over(kept), &mut out[flag..end]);
+    out[end] = b'\n';
 }
 
 // 1 where octets are left over.

@@ -5,7 +5,7 @@
 
 mod say;
 
-ghost use Rattle.std.specs.Prelude.{◌≡◌, ◌&&◌, ◌+◌, ◌<◌, ◌≤◌, nat_le, length, take, IfOk, OnOk};
+ghost use Rattle.std.specs.Prelude.{◌≡◌, ◌&&◌, ◌+◌, ◌<◌, ◌≤◌, nat_le, length, take, IfOk, IfErr, OnOk};
 ghost use Rattle.hub.specs.State.{hub_state, block_step};
 ghost use Rattle.hub_spec.specs.Line.{last_size, room_for};
 ghost use Rattle.hub_spec.specs.Log.{octets_left, block_lines, block_of, RunCounts};
@@ -40,9 +40,11 @@ pub struct Run {
     pub written: usize,
 }
 
-// A run whose read or write failed, which was said on standard error, or whose buffers are too small: how many octets were written for whole blocks before.
+// A run whose read or write failed, which was said on standard error, or whose buffers are too small: its hub after the last block that it took in, also where
+// the lines of that one were not all written, and how many octets were written for whole blocks before.
 #[derive(Clone, Copy, Debug, PartialEq, Eq)]
 pub struct Failed {
+    pub hub: Hub,
     pub written: usize,
 }
 
@@ -163,7 +165,20 @@ fn write_lines<W: Write>(
     }
 }
 
+// Where nothing is taken in.
+fn untaken(hub: Hub, kept: usize) -> Block
+    ensures { result.hub ≡ hub }
+{
+    Block {
+        hub,
+        written: 0,
+        kept,
+        is_stopped: true,
+    }
+}
+
 // Takes in the first `filled` octets, and writes what is to be written for them. What is left over of them stands at the front of `buf` then.
+// Where a write failed, the block is answered too.
 fn log_block<W: Write>(
     rt: &HostRuntime,
     output: &mut W,
@@ -172,16 +187,19 @@ fn log_block<W: Write>(
     filled: usize,
     is_end: bool,
     out: &mut [u8],
-) -> Result<Step, Said>
+) -> Result<Step, Block>
     requires { RunCounts (hub_state hub) × ((filled ≤ length buf.old) × (room_for filled + last_size ≤ length out.old)) }
-    ensures { IfOk result (λ step. (block_step step.block ≡ block_of (hub_state hub) (take filled buf.old) is_end) × ((take step.block.kept buf.new ≡ octets_left (hub_state hub) (take filled buf.old)) × ((step.written ≡ step.block.written) × (take step.written out.new ≡ block_lines (hub_state hub) (take filled buf.old) is_end)))) }
+    ensures written { IfOk result (λ step. (block_step step.block ≡ block_of (hub_state hub) (take filled buf.old) is_end) × ((take step.block.kept buf.new ≡ octets_left (hub_state hub) (take filled buf.old)) × ((step.written ≡ step.block.written) × (take step.written out.new ≡ block_lines (hub_state hub) (take filled buf.old) is_end)))) }
+    ensures failed { IfErr result (λ block. (block_step block ≡ block_of (hub_state hub) (take filled buf.old) is_end) × (take block.kept buf.new ≡ octets_left (hub_state hub) (take filled buf.old))) }
 {
     // The proof shows that there is a block.
     let Some(block) = hub.take_in(buf, filled, is_end, out) else {
-        return Err(Said);
+        return Err(untaken(hub, 0));
     };
-    let written = write_lines(rt, output, &out[..block.written], block.is_stopped)?;
-    Ok(Step { block, written })
+    match write_lines(rt, output, &out[..block.written], block.is_stopped) {
+        Ok(written) => Ok(Step { block, written }),
+        Err(_) => Err(block),
+    }
 }
 
 // Reads once, and writes what is to be written then. A read that brings nothing is the end of the input.
@@ -193,13 +211,16 @@ fn log_read<R: Read, W: Write>(
     kept: usize,
     buf: &mut [u8],
     out: &mut [u8],
-) -> Result<Step, Said>
+) -> Result<Step, Block>
     requires { RunCounts (hub_state hub) × ((kept < length buf.old) × (room_for (length buf.old) + last_size ≤ length out.old)) }
     ensures { IfOk result (λ step. NextBlock (hub_state hub) (take kept buf.old) (block_step step.block) (take step.block.kept buf.new) out.new step.written) }
 {
     match read_more(input, buf, kept) {
         Ok(filled) => log_block(rt, output, hub, buf, filled, filled == kept, out),
-        Err(e) => Err(say::unread(rt, hub.last_line(kept), &e)),
+        Err(e) => {
+            let _said = say::unread(rt, hub.last_line(kept), &e);
+            Err(untaken(hub, kept))
+        }
     }
 }
 
@@ -219,8 +240,12 @@ fn log_input<R: Read, W: Write>(
     let mut written = 0;
     // By a loop: each read says how much is left for the next.
     loop {
-        let Ok(step) = log_read(rt, input, output, hub, kept, buf, out) else {
-            return Err(Failed { written });
+        let step = match log_read(rt, input, output, hub, kept, buf, out) {
+            Ok(step) => step,
+            Err(block) => {
+                let hub = block.hub;
+                return Err(Failed { hub, written });
+            }
         };
         let block = step.block;
         hub = block.hub;
@@ -267,7 +292,8 @@ pub fn log_through<R: Read, W: Write>(
     if has_room(buf.len(), out.len()) {
         log_input(rt, input, output, buf, out)
     } else {
-        Err(Failed { written: 0 })
+        let hub = Hub::new();
+        Err(Failed { hub, written: 0 })
     }
 }
 

@@ -10,5 +10,5 @@ ok_then r {P} {Q} e more = IfOk-weaker r P Q more e
 pub returns-in-Ok : goal.returns-in-Ok
 returns-in-Ok g c =
     let read = c.in-Ok.ensures in
-    ok_then c.log_block.result c.log_block.ensures
+    ok_then c.log_block.result c.log_block.ensures.written
     (λ step e. read_on (block_step step.block) (hub_state c.args.hub) c.args.buf.now c.read_more.new.buf _ _ c.read_more.ensures.kept read.upto.0 (omega arith) e.0 e.1.0 e.1.1)
