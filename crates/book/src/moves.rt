@@ -5,7 +5,7 @@ ghost use Rattle.book_spec.specs.Moves.{no_move, move_of, is_move, move_in};
 use book_spec::Move;
 use octets::bytes::{Part, u16_from_le_bytes};
 use records::ad_structure::Type;
-use records::area::find_record;
+use records::area::{RecordTest, find_record};
 
 // The octets of the shortest and the longest move record: length, type, company, turn and 1 to 20 octets.
 const SHORTEST: usize = 7;
@@ -39,9 +39,23 @@ fn is_move(octets: &[u8], company: u16) -> bool
         && u16_from_le_bytes(octets[2], octets[3]) == company
 }
 
+// The test of a move of a company.
+#[derive(Clone, Copy)]
+struct MoveTest {
+    company: u16,
+}
+
+impl RecordTest for MoveTest {
+    ghost passing = { λ test. is_move test.company };
+
+    fn passes(&self, octets: &[u8]) -> bool {
+        is_move(octets, self.company)
+    }
+}
+
 // The first move of a company in an area without padding.
 pub(crate) fn find_move(s: &[u8], company: u16) -> Option<Part>
     ensures { result ≡ move_in company s.now }
 {
-    find_record(s, |octets| is_move(octets, company))
+    find_record(s, &MoveTest { company })
 }

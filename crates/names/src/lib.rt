@@ -8,7 +8,7 @@ pub use names_spec::NamePlace;
 use octets::bytes::{Part, part_of};
 use octets::error::Error;
 use records::ad_structure::Type;
-use records::area::{find_record, read_padded_area};
+use records::area::{RecordTest, find_record, read_padded_area};
 use utf8::is_utf8;
 
 // The name's own octets in the area that holds them; none, at the start of the advertisement, where there is no name.
@@ -37,12 +37,27 @@ fn is_name(octets: &[u8], ty: u8) -> bool
     }
 }
 
+// The test of a name of a type.
+#[derive(Clone, Copy)]
+struct NameTest {
+    ty: u8,
+    ghost some: { 0 < ty },
+}
+
+impl RecordTest for NameTest {
+    ghost passing = { λ test. is_name test.ty };
+
+    fn passes(&self, octets: &[u8]) -> bool {
+        is_name(octets, self.ty)
+    }
+}
+
 // The first name of type `ty` in an area without padding.
 fn name_in(s: &[u8], ty: u8) -> Option<Part>
     requires { 0 < ty }
     ensures { result ≡ name_in ty s.now }
 {
-    find_record(s, |octets| is_name(octets, ty))
+    find_record(s, &NameTest { ty })
 }
 
 // The first of the four searches that finds a name, in areas without padding.

@@ -2,7 +2,7 @@
 ghost use Rattle.std.specs.Prelude.{◌≡◌, ◌++◌, ◌≤◌, ℕ, Bool, List, length, drop, Ok};
 ghost use Rattle.records_spec.specs.Area.{AcceptedFrom, front_of, read_area, rewritten, rewritten_to, rewritten_after};
 ghost use Rattle.records_spec.specs.HubReading.{is_zeros, read_padded};
-ghost use Rattle.records_spec.specs.Search.{Answers, searched};
+ghost use Rattle.records_spec.specs.Search.{searched};
 
 use crate::ad_structure::{read_record, write_record};
 use octets::bytes::{ByteWriter, Part};
@@ -61,22 +61,31 @@ fn is_zeros(octets: &[u8]) -> bool
     octets.iter().all(|&octet| octet == 0)
 }
 
-// Where the first record of an area without padding that passes a test has its data. The test is asked of the record's octets, its length and its type first.
-pub fn find_record<F: Fn(&[u8]) -> bool>(s: &[u8], test: F) -> Option<Part>
-    requires { F.IsAlwaysCallable test }
-    ensures { (passes : List ℕ → Bool) → Answers (F.post test) passes → result ≡ searched passes s.now }
+// A test of a record.
+pub trait RecordTest {
+    // Whether the octets of a record pass, its length and its type first.
+    ghost passing: { Self → List ℕ → Bool };
+
+    fn passes(&self, octets: &[u8]) -> bool
+        ensures { result ≡ passing self.now octets.now };
+}
+
+// Where the first record of an area without padding that passes a test has its data.
+pub fn find_record<T: RecordTest>(s: &[u8], test: &T) -> Option<Part>
+    ensures { result ≡ searched (T.passing test.now) s.now }
 {
     // By a loop with a place: each record's length says where the next begins.
     let mut at = 0;
     while at < s.len() {
-        let end = s.len().min(at + 1 + s[at] as usize);
-        if test(&s[at..end]) {
+        let next = at + 1 + s[at] as usize;
+        let end = s.len().min(next);
+        if test.passes(&s[at..end]) {
             return Some(Part {
                 start: at + 2,
                 len: (end - at).saturating_sub(2),
             });
         }
-        at = end;
+        at = next;
     }
     None
 }

@@ -1,7 +1,6 @@
 -- The search of an area for a record: the first that passes a test of its octets, and what that means in words.
 --   first_where test rs at     == where the first of the records rs that passes the test has its data, rs standing from `at` on
 --   searched test s           == the same of an area s without padding
---   Answers post test         == a closure whose calls may answer so, by `post`, answers what the test says of the octets that it is given
 --   IsRead s                  == the hub's reading accepts the area s
 --   Stands P s start len      == a record stands in s after records that are accepted strictly, perhaps none; its type and its data, `len` octets from `start` on, are P
 --   First P s start len       == so it does, and no earlier one
@@ -10,7 +9,6 @@
 --   Decides test P            == the test of a record's octets passes exactly where its type and data are P
 --   Searching test P s        (Search.searching)   in an area that is read, the search tells the first or that there is none, where the test decides P
 use Rattle.std.specs.Prelude.{Bool, true, cond, List, [], ◌∷◌, ◌++◌, ◌≡◌, ℕ, suc, ◌+◌, ◌-◌, ◌≤◌, length, Ok, Option, Some, None}
-use Rattle.std.specs.Borrow.{Bor}
 use Rattle.octets.specs.declared.bytes.Part.{Part}
 use Rattle.records_spec.specs.Area.{records, read_area}
 use Rattle.records_spec.specs.HubReading.{unpadded, read_padded}
@@ -22,9 +20,6 @@ first_where test (r ∷ rs) at = cond (test r) (Some (record { start = at + 2; l
 
 unfoldable pub searched : (List ℕ → Bool) → List ℕ → Option Part
 searched test s = first_where test (records s) 0
-
-abbrev pub Answers : (Bor (List ℕ) → Bool → Type 0) → (List ℕ → Bool) → Type 0
-Answers post test = (octets : Bor (List ℕ)) (answer : Bool) → post octets answer → answer ≡ test octets.now
 
 pub record IsRead (s : List ℕ) : Type 0 where
   pub number : ℕ

@@ -1,7 +1,6 @@
-use Rattle.std.proofs.Common.{rules}
 use Rattle.names_spec.specs.Name.{name_in}
 use Rattle.names.proofs.name_in.Goals as goal
 
 pub returns : goal.returns
 unfolding name_in
-returns c = c.find_record.ensures _ (λ octets answer says. search rules)
+returns c = c.find_record.ensures

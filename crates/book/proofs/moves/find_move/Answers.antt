@@ -1,7 +1,6 @@
-use Rattle.std.proofs.Common.{rules}
 use Rattle.book_spec.specs.Moves.{move_in}
 use Rattle.book.proofs.moves.find_move.Goals as goal
 
 pub returns : goal.returns
 unfolding move_in
-returns c = c.find_record.ensures _ (λ octets answer says. search rules)
+returns c = c.find_record.ensures
