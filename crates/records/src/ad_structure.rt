@@ -1,6 +1,7 @@
 // AD structures, here called records, read and written.
-ghost use Rattle.std.specs.Prelude.{◌≡◌, ◌+◌, ◌≤◌, ◌<◌, ◌^◌, length, get_or, drop};
-ghost use Rattle.records_spec.specs.Record.{uuid_list, flags_read, uuids_read, local_name, name_read, number_read, data_read, kind_read, first, record_read, known_read, record_at};
+ghost use Rattle.std.specs.Prelude.{◌≡◌, ◌++◌, ◌+◌, ◌≤◌, ◌<◌, ◌^◌, length, get_or, drop};
+ghost use Rattle.octets.specs.Bytes.{written};
+ghost use Rattle.records_spec.specs.Record.{record_of, uuid_list, flags_read, uuids_read, local_name, name_read, number_read, data_read, kind_read, first, record_read, known_read, record_at};
 ghost use Rattle.records_spec.specs.Uuids.{uuid16_at};
 ghost use Rattle.records_spec.specs.Write.{IsOutline, list_type, list_check, lent_outline, space_in, lent_to, lent_after, written_to, written_after};
 ghost use Rattle.records.specs.State.{content_check, outline_state};
@@ -169,6 +170,27 @@ fn space_for(len: usize, at: usize, size: usize) -> Result<(), Error>
     Ok(())
 }
 
+// Puts octets at position `at`. By a loop: `copy_from_slice` calls `memmove`, and the archives promise to call `memcpy` alone.
+fn put_octets(octets: &[u8], at: usize, out: &mut [u8])
+    requires { at + length octets.now ≤ length out.old }
+    ensures { out.new ≡ written octets.now out.old at }
+{
+    for i in 0..octets.len() {
+        out[at + i] = octets[i];
+    }
+}
+
+// Puts length, type, a record's own octets and its data at position `at`.
+fn put_record(len: u8, ty: u8, own: &[u8], data: &[u8], at: usize, out: &mut [u8])
+    requires { (at + 2 + length own.now + length «data».now ≤ length out.old) × (len ≡ 1 + length own.now + length «data».now) }
+    ensures { out.new ≡ written (record_of ty (own.now ++ «data».now)) out.old at }
+{
+    out[at] = len;
+    out[at + 1] = ty;
+    put_octets(own, at + 2, out);
+    put_octets(data, at + 2 + own.len(), out);
+}
+
 // Writes a record whose lent data are given, where these may be written.
 fn write_lent(
     outline: Outline,
@@ -182,11 +204,18 @@ fn write_lent(
     let len = outline.held + data.len();
     outline.content.check(data)?;
     space_for(len, writer.at, out.len())?;
-    let header = [(len + 1) as u8, outline.ty];
     let own = u16_to_le_bytes(outline.own);
-    let after_header = writer.write_slice(out, &header)?;
-    let after_own = after_header.write_slice(out, &own[..outline.held])?;
-    after_own.write_slice(out, data)
+    put_record(
+        (len + 1) as u8,
+        outline.ty,
+        &own[..outline.held],
+        data,
+        writer.at,
+        out,
+    );
+    Ok(ByteWriter {
+        at: writer.at + 2 + len,
+    })
 }
 
 // Writes a record whose data lie in s.

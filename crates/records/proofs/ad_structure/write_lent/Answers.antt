@@ -1,4 +1,4 @@
--- Where all checks pass, the header, the record's own octets and the data are written one after the other.
+-- Where all checks pass, the record is put.
 use Rattle.std.proofs.Common.{◌≡◌, ◌++◌, ◌+◌, ◌≤◌, length, ℕ, List, [], ◌∷◌, Bool, true, false}
 use Rattle.std.proofs.lemmas.Result.{err_from_is_err_and}
 use Rattle.std.specs.Prelude.{Result, Ok, Err}
@@ -16,7 +16,6 @@ use native.Mathlib.Omega.{arith}
 use lib.Dec.{leb, ltb}
 use lib.ListN.{take, length-append, length-take}
 use borrow.Author.Tests.{leb-true}
-use Rattle.records.proofs.Writing.{begun, written_on, written_all}
 use Rattle.records.proofs.ad_structure.write_lent.Goals as goal
 
 own_size : (o : Outline) (d : List ℕ) → o.held ≤ 2 → length (own_in o ++ d) ≡ o.held + length d
@@ -40,16 +39,14 @@ unfolding lent_to lent_after
 crowded o d out at short fine full = let size = own_size o d short in (rw (← fine, size, ← full), rw (← fine, size, ← full))
 
 -- a record that is put
-put : (o : Outline) (d out : List ℕ) (at : ℕ) (own : List ℕ) {r : Result ByteWriter Error} {l : List ℕ} → o.held ≤ 2 → own ≡ own_in o → Ok tt ≡ o.check d → Ok tt ≡ space_in (o.held + length d) (length out) at
-    → (r ≡ Ok (record { at = at + length ((((o.held + length d + 1) ∷ o.ty ∷ []) ++ own) ++ d) })) × (l ≡ written ((((o.held + length d + 1) ∷ o.ty ∷ []) ++ own) ++ d) out at)
-    → (r ≡ lent_to o d out at) × (l ≡ lent_after o d out at)
+put : (o : Outline) (d out : List ℕ) (at : ℕ) (own : List ℕ) {l : List ℕ} → o.held ≤ 2 → own ≡ own_in o → Ok tt ≡ o.check d → Ok tt ≡ space_in (o.held + length d) (length out) at
+    → l ≡ written (record_of o.ty (own ++ d)) out at → (Ok (record { at = at + 2 + (o.held + length d) }) ≡ lent_to o d out at) × (l ≡ lent_after o d out at)
 unfolding lent_to lent_after record_of
 put o d out at own short is fine space wrote =
     let size = own_size o d short in
-    let count : o.held + length d + 1 ≡ suc (length (own_in o ++ d)) = omega arith in
-    let all : (((o.held + length d + 1) ∷ o.ty ∷ []) ++ own) ++ d ≡ suc (length (own_in o ++ d)) ∷ o.ty ∷ (own_in o ++ d) = rw (count, is) in
+    let next : at + 2 + (o.held + length d) ≡ at + suc (suc (length (own_in o ++ d))) = omega arith in
     let may : Ok tt ≡ and_then (o.check d) (space_for (own_in o ++ d) out at) = rw (← fine, size) space in
-    (wrote.0 ∙ ap (λ (xs : List ℕ). Ok (record { at = at + length xs })) all ∙ (rw (← may)), wrote.1 ∙ ap (λ (xs : List ℕ). written xs out at) all ∙ (rw (← may)))
+    rw (← may) (ap (λ (end : ℕ). Ok (record { at = end })) next, wrote ∙ ap (λ (xs : List ℕ). written (record_of o.ty (xs ++ d)) out at) is)
 
 pub returns-in_err-check : goal.returns-in_err-check
 returns-in_err-check c =
@@ -61,27 +58,14 @@ returns-in_err-space_for c =
     let p = err_from_is_err_and c.from_residual-in_err-space_for.result c.from_residual-in_err-space_for.ensures.1 in
     rw (p.1, p.2) (crowded (outline_state c.args.outline) _ _ _ c.requires c.in_ok-check.ensures c.in_err-space_for.ensures)
 
-pub returns-in_err-after_header : goal.returns-in_err-after_header
-returns-in_err-after_header c =
+pub put_record-requires : goal.put_record-requires
+put_record-requires c =
     let a = c.args in
     let fits : a.writer.at + (a.outline.held + length a.«data».now + 2) ≤ length a.out.now = room _ _ _ c.in_ok-space_for.ensures in
-    absurd (written_on [] (_ ∷ _ ∷ []) a.out.now a.writer.at (omega arith) (begun a.out.now a.writer) c.write_slice.ensures c.in_err-after_header.was)
-
-pub returns-in_err-after_own : goal.returns-in_err-after_own
-returns-in_err-after_own c =
-    let a = c.args in
-    let fits : a.writer.at + (a.outline.held + length a.«data».now + 2) ≤ length a.out.now = room _ _ _ c.in_ok-space_for.ensures in
-    let own = take a.outline.held c.u16_to_le_bytes-own.result in
-    let header = written_on [] (_ ∷ _ ∷ []) a.out.now a.writer.at (omega arith) (begun a.out.now a.writer) c.write_slice.ensures c.in_ok-after_header.was in
-    absurd (written_on (_ ∷ _ ∷ []) own a.out.now a.writer.at (omega (arith, length-take a.outline.held c.u16_to_le_bytes-own.result)) header c.write_slice-2.ensures c.in_err-after_own.was)
+    let own = length-take a.outline.held c.u16_to_le_bytes-own.result in
+    (omega (arith, own), omega (arith, own))
 
 pub returns : goal.returns
 returns c =
     let a = c.args in
-    let fits : a.writer.at + (a.outline.held + length a.«data».now + 2) ≤ length a.out.now = room _ _ _ c.in_ok-space_for.ensures in
-    let own = take a.outline.held c.u16_to_le_bytes-own.result in
-    let short = length-take a.outline.held c.u16_to_le_bytes-own.result in
-    let header = written_on [] (_ ∷ _ ∷ []) a.out.now a.writer.at (omega arith) (begun a.out.now a.writer) c.write_slice.ensures c.in_ok-after_header.was in
-    let before = written_on (_ ∷ _ ∷ []) own a.out.now a.writer.at (omega (arith, short)) header c.write_slice-2.ensures c.in_ok-after_own.was in
-    put (outline_state a.outline) a.«data».now a.out.now a.writer.at own c.requires (ap (take a.outline.held) c.u16_to_le_bytes-own.ensures) c.in_ok-check.ensures c.in_ok-space_for.ensures
-    (written_all ((_ ∷ _ ∷ []) ++ own) a.«data».now a.out.now a.writer.at (omega (arith, short)) before c.write_slice-3.ensures)
+    put (outline_state a.outline) a.«data».now a.out.now a.writer.at _ c.requires (ap (take a.outline.held) c.u16_to_le_bytes-own.ensures) c.in_ok-check.ensures c.in_ok-space_for.ensures c.put_record.ensures
