@@ -441,6 +441,7 @@ pub fn next_uuid16(data: &[u8], at: usize) -> Result<Option<(Uuid16, usize)>, Er
 }
 
 // The type octets that are read or written here (Assigned Numbers, 2.3).
+#[derive(Clone, Copy)]
 pub enum Type {}
 
 impl Type {
