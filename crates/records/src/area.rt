@@ -107,7 +107,7 @@ fn write_records(s: &[u8], out: &mut [u8]) -> Result<ByteWriter, Error>
 pub fn rewrite_area(s: &[u8], out: &mut [u8]) -> Result<ByteWriter, Error>
     ensures { (result ≡ rewritten_to s.now out.old) × (out.new ≡ rewritten_after s.now out.old) }
 {
-    read_area(s)?;
+    let _count = read_area(s)?;
     if out.len() < s.len() {
         return Err(Error::Eof);
     }

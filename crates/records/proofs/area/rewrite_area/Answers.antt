@@ -1,12 +1,12 @@
 use Rattle.std.proofs.Common.{◌≡◌, ◌++◌, ◌≤◌, length, drop, ℕ, ◌+◌, List}
 use Rattle.std.proofs.lemmas.Result.{err_from_is_err_and}
-use Rattle.records_spec.specs.Area.{read_area, rewritten, rewritten_to, rewritten_after, may_rewrite}
+use Rattle.records_spec.specs.Area.{AcceptedFrom, read_area, rewritten, rewritten_to, rewritten_after, may_rewrite}
 use mathlib.Core.Path.{sym}
 use native.Mathlib.Omega.{arith}
 use borrow.Author.Tests.{lt-ltb, le-ltb}
 use Rattle.records_spec.proofs.Rewritten.{rewritten_length}
 use Rattle.records.proofs.area.rewrite_area.Goals as goal
-use Rattle.std.specs.Prelude.{Result, Ok}
+use Rattle.std.specs.Prelude.{Result, Ok, Err}
 use Rattle.octets.specs.declared.bytes.ByteWriter.{ByteWriter}
 use Rattle.octets.specs.declared.error.Error.{Error}
 
@@ -21,25 +21,30 @@ as-asked s out is room e =
     let size : 0 + length (rewritten s) ≡ length s = rw (rewritten_length s) (omega arith) in
     (rw (e.0, is, fine, size), rw (is, fine, size) e.1)
 
-pub returns-in_err-read_area : goal.returns-in_err-read_area
-unfolding rewritten_to rewritten_after may_rewrite
-returns-in_err-read_area c =
-    let p = err_from_is_err_and c.from_residual.result c.from_residual.ensures.1 in
-    (rw (p.1, p.2, ← c.in_err-read_area.ensures), rw (← c.in_err-read_area.ensures))
+-- what is read strictly may be written again
+accepted : {s : List ℕ} {n : ℕ} → read_area s ≡ Ok n → AcceptedFrom s 0
+unfolding read_area
+accepted {n = n} is = record { count = n; accepted = is }
 
--- src/area.rt:94:9
+-- what is not read so is refused
+bad_area : (s out : List ℕ) {e : Error} → Err e ≡ read_area s → (Err e ≡ rewritten_to s out) × (out ≡ rewritten_after s out)
+unfolding rewritten_to rewritten_after may_rewrite
+bad_area s out is = (rw (← is), rw (← is))
+
+pub returns-in_err-_count : goal.returns-in_err-_count
+returns-in_err-_count c =
+    let p = err_from_is_err_and c.from_residual.result c.from_residual.ensures.1 in
+    rw (p.1, p.2) (bad_area _ _ c.in_err-_count.ensures)
+
 pub returns-then-out-s : goal.returns-then-out-s
 unfolding rewritten_to rewritten_after may_rewrite
 returns-then-out-s c =
     let few = lt-ltb _ _ c.if-out-s.true in
-    (rw (← c.in_ok-read_area.ensures, few), rw (← c.in_ok-read_area.ensures, few))
+    (rw (← c.in_ok-_count.ensures, few), rw (← c.in_ok-_count.ensures, few))
 
--- src/area.rt:96:5
 pub write_records-requires : goal.write_records-requires
-unfolding read_area
-write_records-requires c = (record { count = c.in_ok-read_area.field-0; accepted = sym c.in_ok-read_area.ensures }, c.if-out-s.false)
+write_records-requires c = (accepted (sym c.in_ok-_count.ensures), c.if-out-s.false)
 
--- src/area.rt:86:1
 pub returns : goal.returns
 returns c =
-    as-asked _ _ (sym c.in_ok-read_area.ensures) c.if-out-s.false c.write_records.ensures
+    as-asked _ _ (sym c.in_ok-_count.ensures) c.if-out-s.false c.write_records.ensures
