@@ -34,5 +34,6 @@ examples =
       other_kind = refl;
       seats = refl;
       full_book = refl;
+      places = refl;
       last_turn = refl;
     }

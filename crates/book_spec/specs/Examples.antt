@@ -146,5 +146,7 @@ pub record Examples : Type 0 where
       ∷ seat_is (Some ada_random)
       ∷ seat_is None
       ∷ []
+  -- a fresh book has a public address of six zeros at each place
+  pub places : (fresh_book 0x59).addresses ≡ replicate 64 (record { bytes = 0 ∷ 0 ∷ 0 ∷ 0 ∷ 0 ∷ 0 ∷ []; kind = Public })
   -- the last turn is not closed
   pub last_turn : replies_from late_book (close ∷ close ∷ read_turn ∷ []) ≡ called (Ok tt) ∷ called (Err LastTurn) ∷ number_is 65535 ∷ []
