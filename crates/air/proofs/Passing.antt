@@ -22,7 +22,7 @@ use Rattle.advertising.specs.PduBuf.{buf_of, after_reading, with_records, beacon
 use Rattle.advertising.specs.declared.pdu_buf.PduBuf.{PduBuf}
 use Rattle.beacon_spec.proofs.Broadcasts.{broadcasting}
 use Rattle.beacon_spec.specs.Scanner.{scanned}
-use Rattle.beacon_spec.specs.Sending.{beacon_in}
+use Rattle.beacon_spec.specs.Sending.{bare_beacon, beacon_in}
 use Rattle.beacon_spec.specs.State.{Beacon}
 use Rattle.whitening.proofs.Errors.{crc_octets_length}
 use Rattle.whitening.proofs.Heard.{hears}
@@ -67,11 +67,11 @@ kind_small Public = omega arith
 kind_small Random = omega arith
 
 -- what holds of the PDU that was built holds of the beacon's
-of_built : (P : PduBuf → Type 0) (r : Result PduBuf Error) (b : Beacon) → beacon_in r ≡ Ok b → IfOk r P → P b.pdu
-of_built P (Ok p) b is holds =
+of_built : (P : PduBuf → Type 0) (bare : Beacon) (r : Result PduBuf Error) (b : Beacon) → beacon_in bare r ≡ Ok b → IfOk r P → P b.pdu
+of_built P bare (Ok p) b is holds =
     let same : p ≡ b.pdu = cc in
     subst P same holds
-of_built P (Err e) b is holds = (cc)
+of_built P bare (Err e) b is holds = (cc)
 
 beacons : (a : DeviceAddress) (s : List ℕ) (n channel start : ℕ) → length a.bytes ≡ 6 → read_area s ≡ Ok n → length s ≤ 31 → channel ≤ 39
     → Beacons a s n channel start
@@ -80,7 +80,7 @@ beacons a s n channel start six good fits there =
     let h : Header = b.beacon.pdu.header in
     let p : List ℕ = payload_of b.beacon.pdu in
     let sixteen : h.0 ≡ 2 + 64 * kind_number a.kind + 256 * (6 + (0 + length s)) =
-    of_built (λ (x : PduBuf). x.header.0 ≡ 2 + 64 * kind_number a.kind + 256 * (6 + (0 + length s))) (beacon_pdu a s) b.beacon b.made ((builders a s six).beacon.header n good fits) in
+    of_built (λ (x : PduBuf). x.header.0 ≡ 2 + 64 * kind_number a.kind + 256 * (6 + (0 + length s))) (bare_beacon a) (beacon_pdu a s) b.beacon b.made ((builders a s six).beacon.header n good fits) in
     let small : h.0 < 2 ^ 16 = omega (arith, kind_small a.kind) in
     let through = passes channel start h p there small (omega (arith, b.size)) in
     record {

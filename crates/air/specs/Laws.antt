@@ -21,7 +21,7 @@ use Rattle.advertising.specs.declared.pdu.AdvData.{AdvData}
 use Rattle.beacon_spec.specs.Laws.{Lets}
 use Rattle.beacon_spec.specs.Scanner.{scanned}
 use Rattle.beacon_spec.specs.Sending.{beacon_of}
-use Rattle.beacon_spec.specs.State.{Beacon, BeaconScanner}
+use Rattle.beacon_spec.specs.State.{Beacon, Refusal, BeaconScanner}
 use Rattle.whitening.specs.Crc.{crc_octets}
 use Rattle.whitening.specs.Packet.{start_on, flag_of}
 use Rattle.whitening.specs.Whitening.{whitened}
@@ -43,9 +43,9 @@ pub record Passes (channel start : ℕ) (h : Header) (p : List ℕ) : Type 0 whe
   pub payload : payload_in (whitened channel (packet_on channel start (header_octets h ++ p))) ≡ p
 
 -- a beacon on the air, and that of an address and records
-abbrev pub sent_on : ℕ → ℕ → Result Beacon Error → Result (List ℕ) Error
+abbrev pub sent_on : ℕ → ℕ → Result Beacon Refusal → Result (List ℕ) Error
 sent_on channel start (Ok b) = Ok (packet_on channel start (as_sent b.pdu))
-sent_on channel start (Err e) = Err e
+sent_on channel start (Err r) = Err r.error
 
 abbrev pub on_air : DeviceAddress → List ℕ → ℕ → ℕ → Result (List ℕ) Error
 on_air a s channel start = sent_on channel start (beacon_of a s)

@@ -22,13 +22,28 @@ pub struct Beacon {
     pdu: PduBuf,
 }
 
+// Why no beacon was made of an address and records, and the beacon of the address without records, which can be sent.
+#[derive(Clone, Copy)]
+pub struct Refusal {
+    pub error: Error,
+    pub bare: Beacon,
+}
+
 impl Beacon {
     // A beacon of an address and records, which are lent encoded: at most 31 octets.
-    pub fn new(addr: DeviceAddress, data: &[u8]) -> Result<Beacon, Error>
+    pub fn new(addr: DeviceAddress, data: &[u8]) -> Result<Beacon, Refusal>
         ensures { made_step result ≡ beacon_of addr «data».now }
     {
-        let pdu = PduBuf::beacon(addr, data)?;
-        Ok(Beacon { pdu })
+        match PduBuf::beacon(addr, data) {
+            Ok(pdu) => Ok(Beacon { pdu }),
+            Err(error) => {
+                let pdu = PduBuf::beacon(addr, &[]).unwrap_or(PduBuf::empty());
+                Err(Refusal {
+                    error,
+                    bare: Beacon { pdu },
+                })
+            }
+        }
     }
 
     // Sends the beacon: the payload is written to the front of `tx`, or nothing where that is too short. The header is transmitted on 37, 38 and 39 in turn.

@@ -26,13 +26,15 @@ use Rattle.advertising.proofs.Building.{building}
 use Rattle.advertising.proofs.Padded.{alike}
 use Rattle.advertising.specs.Laws.{ReadsBack}
 use Rattle.advertising.specs.Pdu.{no_request, no_address, pdu_as, decoded_as, decode_of, heard_of, octets_taken}
-use Rattle.advertising.specs.PduBuf.{header_for, payload_of}
+use Rattle.advertising.specs.PduBuf.{header_for, beacon_pdu, empty_buf, payload_of}
 use Rattle.advertising.specs.declared.pdu.AdvData.{AdvData}
+use Rattle.advertising.specs.declared.pdu_buf.PduBuf.{PduBuf}
 use Rattle.beacon_spec.specs.Laws.{Sends, NoBeacon, Broadcasting, Sendable}
-use Rattle.beacon_spec.specs.Sending.{beacon_in, beacon_of}
-use Rattle.beacon_spec.specs.State.{Beacon}
+use Rattle.beacon_spec.specs.Sending.{bare_beacon, beacon_in, beacon_of, to_send}
+use Rattle.beacon_spec.specs.State.{Beacon, Refusal}
 use Rattle.beacon_spec.proofs.Reports.{Says, same_type, holds_decoded, complete}
 use Rattle.std.specs.Prelude.{Some, Result, Ok, Err, is_ok}
+use Rattle.std.specs.Result.{result_unwrap_or}
 
 pub sends : (b : Beacon) (tx : List ℕ) → Sends b tx
 sends b tx =
@@ -47,10 +49,10 @@ sends b tx =
 pub no_beacon : (a : DeviceAddress) (s : List ℕ) → NoBeacon a s
 no_beacon a s =
     record {
-      bad_area = λ e bad. ap beacon_in (building.bad_area AdvNonconnInd a [] s e bad);
+      bad_area = λ e bad. ap (beacon_in (bare_beacon a)) (building.bad_area AdvNonconnInd a [] s e bad);
       too_long = λ n six good much.
           let size : length (a.bytes ++ []) ≡ 6 = rw (append-nil a.bytes) six in
-          ap beacon_in (building.too_long AdvNonconnInd a [] s n good (omega arith) (omega arith));
+          ap (beacon_in (bare_beacon a)) (building.too_long AdvNonconnInd a [] s n good (omega arith) (omega arith));
     }
 
 -- a type that has its name has its code
@@ -78,7 +80,7 @@ broadcasting a s n six good fits =
     let size : length ((a.bytes ++ []) ++ rewritten s) ≡ 6 + length s = simp length-append (omega arith) in
     record {
       beacon = record { pdu = back.pdu };
-      made = ap beacon_in back.built;
+      made = ap (beacon_in (bare_beacon a)) back.built;
       header = back.header ∙ ap (λ (k : ℕ). header_for AdvNonconnInd (is_random a.kind) false (6 + k)) (zero-add (length s));
       place = back.place;
       decoded = back.reads;
@@ -106,32 +108,52 @@ no_records : read_area [] ≡ Ok 0
 unfolding read_area area_of reads cut
 no_records = refl
 
-module _ (a : DeviceAddress) (s : List ℕ) (six : length a.bytes ≡ 6) where
-  sent : (n : ℕ) → Broadcasting a s n → (b : Beacon) → beacon_of a s ≡ Ok b → Sent a b
-  sent n made b is =
-      let one : ◌≡◌ {A = Result Beacon Error} (Ok made.beacon) (Ok b) = sym made.made ∙ is in
-      let same : made.beacon ≡ b = cc in
+module _ (a : DeviceAddress) (six : length a.bytes ≡ 6) where
+  sent : (s : List ℕ) (n : ℕ) → Broadcasting a s n → Sent a (to_send (beacon_of a s))
+  sent s n made =
       let h : Header = made.beacon.pdu.header in
       let p : List ℕ = payload_of made.beacon.pdu in
       let type : type_of h ≡ AdvNonconnInd = type_is_law h p a made.place made.decoded in
       let its : Says h p (pdu_as AdvNonconnInd a no_address made.place no_request) = holds_decoded h p _ type (heard_is h p a made.place made.decoded) in
-      subst (Sent a) same (record { type_2 = code_of h type; sender = sym its.sender })
+      let is : Sent a made.beacon = record { type_2 = code_of h type; sender = sym its.sender } in
+      subst (Sent a) (ap to_send (sym made.made)) is
 
-  beacon_sends : (b : Beacon) → beacon_of a s ≡ Ok b → Sent a b
-  beacon_sends b is = by_area (read_area s) refl
+  bare_sent : Sent a (to_send (beacon_of a []))
+  bare_sent = sent [] 0 (broadcasting a [] 0 six no_records (omega arith))
+
+-- beside a refusal stands the beacon without records
+beside : (bare : Beacon) (p : Result PduBuf Error) (r : Refusal) → beacon_in bare p ≡ Err r → r.bare ≡ bare
+beside bare (Ok p) r is = (cc)
+beside bare (Err e) r is = (cc)
+
+-- which is what can be sent of no records
+none_given : (p : Result PduBuf Error) → to_send (beacon_in (record { pdu = result_unwrap_or p empty_buf }) p) ≡ record { pdu = result_unwrap_or p empty_buf }
+none_given (Ok p) = refl
+none_given (Err e) = refl
+
+module _ (a : DeviceAddress) (s : List ℕ) where
+  beacon_refused : (r : Refusal) → beacon_of a s ≡ Err r → r.bare ≡ to_send (beacon_of a [])
+  beacon_refused r is = beside (bare_beacon a) (beacon_pdu a s) r is ∙ sym (none_given (beacon_pdu a []))
+
+  beacon_sends : length a.bytes ≡ 6 → Sent a (to_send (beacon_of a s))
+  beacon_sends six = by_area (read_area s) refl
     where
-      by_size : (n : ℕ) → read_area s ≡ Ok n → (t : Bool) → ltb 31 (length s) ≡ t → Sent a b
-      by_size n good true much = let none = sym is ∙ (no_beacon a s).too_long n six good (ltb-true 31 (length s) much) in (cc)
-      by_size n good false few = sent n (broadcasting a s n six good (ltb-false 31 (length s) few)) b is
+      refused : (r : Refusal) → beacon_of a s ≡ Err r → Sent a (to_send (beacon_of a s))
+      refused r is = subst (Sent a) (sym (ap to_send is ∙ beacon_refused r is)) (bare_sent a six)
 
-      by_area : (r : Result ℕ Error) → read_area s ≡ r → Sent a b
-      by_area (Err e) bad = let none = sym is ∙ (no_beacon a s).bad_area e bad in (cc)
+      by_size : (n : ℕ) → read_area s ≡ Ok n → (t : Bool) → ltb 31 (length s) ≡ t → Sent a (to_send (beacon_of a s))
+      by_size n good true much = refused _ ((no_beacon a s).too_long n six good (ltb-true 31 (length s) much))
+      by_size n good false few = sent a six s n (broadcasting a s n six good (ltb-false 31 (length s) few))
+
+      by_area : (r : Result ℕ Error) → read_area s ≡ r → Sent a (to_send (beacon_of a s))
+      by_area (Err e) bad = refused _ ((no_beacon a s).bad_area e bad)
       by_area (Ok n) good = by_size n good (ltb 31 (length s)) refl
 
-pub sendable : (a : DeviceAddress) (s : List ℕ) → Sendable a s
-sendable a s =
-    record {
-      bare = λ six. ap is_ok (broadcasting a [] 0 six no_records (omega arith)).made;
-      type_2 = λ b six is. (beacon_sends a s six b is).type_2;
-      sender = λ b six is. (beacon_sends a s six b is).sender;
-    }
+  pub sendable : Sendable a s
+  sendable =
+      record {
+        bare = λ six. ap is_ok (broadcasting a [] 0 six no_records (omega arith)).made;
+        refused = beacon_refused;
+        type_2 = λ six. (beacon_sends six).type_2;
+        sender = λ six. (beacon_sends six).sender;
+      }

@@ -51,8 +51,8 @@ use Rattle.advertising.specs.PduBuf.{header_for, payload_of, payload_after}
 use Rattle.advertising.specs.declared.pdu.AdvData.{AdvData}
 use Rattle.advertising.specs.declared.pdu.Pdu.{Pdu}
 use Rattle.beacon_spec.specs.Scanner.{scanner_of, open_scanner, configured, timer_updated, is_list_for, sighting_in, sighted, scanned, report_number, is_report}
-use Rattle.beacon_spec.specs.Sending.{beacon_of, broadcast_of}
-use Rattle.beacon_spec.specs.State.{Beacon, BeaconScanner, Report, Updated}
+use Rattle.beacon_spec.specs.Sending.{bare_beacon, beacon_of, to_send, broadcast_of}
+use Rattle.beacon_spec.specs.State.{Beacon, Refusal, BeaconScanner, Report, Updated}
 use Rattle.beacon_spec.specs.declared.beacon.Sighting.{Sighting}
 
 -- A filter lets an address pass: it accepts all, or some entry of its list is equal.
@@ -155,8 +155,8 @@ pub record Sends (b : Beacon) (tx : List ℕ) : Type 0 where
 
 -- A bad area makes no beacon, refused as its first bad record is; and a good one of more than 31 octets is 1.
 pub record NoBeacon (a : DeviceAddress) (s : List ℕ) : Type 0 where
-  pub bad_area : (e : Error) → read_area s ≡ Err e → beacon_of a s ≡ Err e
-  pub too_long : (n : ℕ) → length a.bytes ≡ 6 → read_area s ≡ Ok n → 31 < length s → beacon_of a s ≡ Err Eof
+  pub bad_area : (e : Error) → read_area s ≡ Err e → beacon_of a s ≡ Err (record { error = e; bare = bare_beacon a })
+  pub too_long : (n : ℕ) → length a.bytes ≡ 6 → read_area s ≡ Ok n → 31 < length s → beacon_of a s ≡ Err (record { error = Eof; bare = bare_beacon a })
 
 -- A beacon of the address a and n records that fit: what it sends decodes, and a scanner that lets the address pass reports it.
 pub record Broadcasting (a : DeviceAddress) (s : List ℕ) (n : ℕ) : Type 0 where
@@ -174,12 +174,15 @@ pub record Broadcasting (a : DeviceAddress) (s : List ℕ) (n : ℕ) : Type 0 wh
       → scanned scanner beacon.pdu.header (payload_of beacon.pdu) true list
       ≡ record { report = Ok (Some (record { sender = a; adv_data = place; taken = length s })); channel = scanner.channel }
 
--- "Sending a beacon writes one type 2 PDU's payload": whatever the records, what can be sent has type 2 and the address as its sender. A refusal makes no beacon.
+-- "Sending a beacon writes one type 2 PDU's payload": whatever the records, after a refusal too, what can be sent has type 2 and the address as its sender.
 pub record Sendable (a : DeviceAddress) (s : List ℕ) : Type 0 where
   -- without records there is always one
   pub bare : length a.bytes ≡ 6 → IsOk (beacon_of a [])
-  pub type_2 : (b : Beacon) → length a.bytes ≡ 6 → beacon_of a s ≡ Ok b → header_bits 0 4 b.pdu.header ≡ 2
-  pub sender : (b : Beacon) → length a.bytes ≡ 6 → beacon_of a s ≡ Ok b → address_of (take 6 (payload_of b.pdu)) (kind_of (tx_add b.pdu.header)) ≡ a
+  -- after a refusal it is that one
+  pub refused : (r : Refusal) → beacon_of a s ≡ Err r → r.bare ≡ to_send (beacon_of a [])
+  pub type_2 : length a.bytes ≡ 6 → header_bits 0 4 (to_send (beacon_of a s)).pdu.header ≡ 2
+  pub sender : length a.bytes ≡ 6
+      → address_of (take 6 (payload_of (to_send (beacon_of a s)).pdu)) (kind_of (tx_add (to_send (beacon_of a s)).pdu.header)) ≡ a
 
 -- what is told of document 01's row 42 09: a random sender and one record
 abbrev pub row_sighting : Sighting

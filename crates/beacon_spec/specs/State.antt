@@ -1,6 +1,7 @@
 -- A beacon, a scanner, and what their calls return. The structs of these names in beacon are read as these records (specs/State.antt there); a beacon and a scanner
 -- have private fields.
 --   Beacon          == what is sent of a beacon: one PDU, built once
+--   Refusal         == why no beacon was made of an address and records, and the beacon of the address without records
 --   BeaconScanner   == a scanner: its filter, its interval in µs, and the channel that it listens on
 --   Updated         == a scanner that listens, and what the radio is to do for it
 --   Report          == a beacon that was heard, or none; or the refusal of a malformed filter list
@@ -15,6 +16,10 @@ use Rattle.octets.specs.declared.error.Error.{Error}
 
 pub record Beacon : Type 0 where
   pub pdu : PduBuf
+
+pub record Refusal : Type 0 where
+  pub error : Error
+  pub bare : Beacon
 
 pub record BeaconScanner : Type 0 where
   pub filter : ScanFilter

@@ -51,8 +51,8 @@ sends b tx =
       not_sent_law = λ e. refl;
       sends = refl;
       writes = refl;
-      not_made = λ e. refl;
-      keeps = λ e. refl;
+      not_made = λ r. refl;
+      keeps = λ r. refl;
     }
 
 pub updates : (filtered : Bool) (t interval : ℕ) → Updates filtered t interval

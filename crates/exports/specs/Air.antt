@@ -25,7 +25,7 @@ use Rattle.answers.specs.Given.{filter_for}
 use Rattle.advertising.specs.PduBuf.{payload_after}
 use Rattle.beacon_spec.specs.Scanner.{scanner_of, configured, timer_updated, scanned}
 use Rattle.beacon_spec.specs.Sending.{broadcast_of}
-use Rattle.beacon_spec.specs.State.{Beacon, BeaconScanner, Scanned, Updated}
+use Rattle.beacon_spec.specs.State.{Beacon, Refusal, BeaconScanner, Scanned, Updated}
 use Rattle.beacon_spec.specs.declared.beacon.Sighting.{Sighting}
 use Rattle.answers.specs.Got.{found}
 use Rattle.exports.specs.declared.air.Heard.{Heard}
@@ -41,13 +41,13 @@ broadcast_sent (Ok (h, cs)) =
     record { number = 0; header = h.0; first = get_or (map index_of cs) 0 0; second = get_or (map index_of cs) 1 0; third = get_or (map index_of cs) 2 0 }
 broadcast_sent (Err e) = not_sent e
 
-abbrev pub beacon_sent : Result Beacon Error → List ℕ → Sent
+abbrev pub beacon_sent : Result Beacon Refusal → List ℕ → Sent
 beacon_sent (Ok b) tx = broadcast_sent (broadcast_of b tx)
-beacon_sent (Err e) tx = not_sent e
+beacon_sent (Err r) tx = not_sent r.error
 
-abbrev pub beacon_after : Result Beacon Error → List ℕ → List ℕ
+abbrev pub beacon_after : Result Beacon Refusal → List ℕ → List ℕ
 beacon_after (Ok b) tx = payload_after b.pdu tx
-beacon_after (Err e) tx = tx
+beacon_after (Err r) tx = tx
 
 -- one more update
 abbrev pub updated : Instant → Updated → Updated

@@ -36,7 +36,7 @@ use Rattle.advertising.specs.PduBuf.{built_of, flags_record, payload_after}
 use Rattle.advertising.specs.declared.pdu_buf.PduBuf.{PduBuf}
 use Rattle.beacon_spec.specs.Scanner.{configured, timer_updated, scanned, is_list_for}
 use Rattle.beacon_spec.specs.Sending.{broadcast_of}
-use Rattle.beacon_spec.specs.State.{Beacon, BeaconScanner, Scanned, Updated}
+use Rattle.beacon_spec.specs.State.{Beacon, Refusal, BeaconScanner, Scanned, Updated}
 use Rattle.beacon_spec.specs.declared.beacon.Sighting.{Sighting}
 use Rattle.radio_spec.specs.Call.{start, tick, packet, event, stop, set_scan_data, call_of}
 use Rattle.radio_spec.specs.Calls.{fresh, instant, is_advertising, is_connected, start_after, tick_after, packet_after}
@@ -84,8 +84,8 @@ pub record SentSays (b : Beacon) (tx : List ℕ) : Type 0 where
   pub not_sent_law : (e : Error) → broadcast_sent (Err e) ≡ record { number = number_of e; header = 0; first = 0; second = 0; third = 0 }
   pub sends : beacon_sent (Ok b) tx ≡ broadcast_sent (broadcast_of b tx)
   pub writes : beacon_after (Ok b) tx ≡ payload_after b.pdu tx
-  pub not_made : (e : Error) → beacon_sent (Err e) tx ≡ record { number = number_of e; header = 0; first = 0; second = 0; third = 0 }
-  pub keeps : (e : Error) → beacon_after (Err e) tx ≡ tx
+  pub not_made : (r : Refusal) → beacon_sent (Err r) tx ≡ record { number = number_of r.error; header = 0; first = 0; second = 0; third = 0 }
+  pub keeps : (r : Refusal) → beacon_after (Err r) tx ≡ tx
 
 -- a scanner with a filter or without that listens on a channel, from an instant on for an interval
 abbrev pub listener : Bool → ℕ → ℕ → AdvertisingChannel → Updated

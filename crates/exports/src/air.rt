@@ -62,7 +62,7 @@ pub fn board_beacon(own: &[u8; 6], random: bool, records: &[u8], tx: &mut [u8]) 
 {
     match Beacon::new(address(*own, random), records) {
         Ok(beacon) => broadcast_of(beacon.broadcast(tx)),
-        Err(e) => not_sent(e),
+        Err(refusal) => not_sent(refusal.error),
     }
 }
 

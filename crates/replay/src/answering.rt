@@ -162,12 +162,13 @@ impl<W: Write> Answers<W> {
                 records,
             } => {
                 let mut lent = lend(room);
-                let beacon = Beacon::new(address, records);
                 // Where the records are refused, the beacon without any is sent.
-                let sent = beacon
-                    .or_else(|_| Beacon::new(address, &[]))
-                    .and_then(|beacon| beacon.broadcast(&mut lent));
-                self.print((beacon.map(|_| ()), (sent, lent.as_slice())))
+                let (made, beacon) = match Beacon::new(address, records) {
+                    Ok(beacon) => (Ok(()), beacon),
+                    Err(refusal) => (Err(refusal.error), refusal.bare),
+                };
+                let sent = beacon.broadcast(&mut lent);
+                self.print((made, (sent, lent.as_slice())))
             }
             Request::Scan {
                 crc_ok,
