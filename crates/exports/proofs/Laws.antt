@@ -70,6 +70,7 @@ pub hears : (s : BeaconScanner) (h : Header) (p list : List ℕ) (crcOk : Bool) 
 unfolding scanned
 hears s h p list crcOk =
     record {
+      says = λ x. refl;
       reports = λ x c. refl;
       nothing = λ c. refl;
       refuses = λ e c. refl;

@@ -34,7 +34,7 @@ use Rattle.addresses.specs.declared.header.Header.{Header}
 use Rattle.addresses.specs.declared.header.PduType.TheVariants.{AdvInd, AdvNonconnInd, AdvScanInd, ScanRsp}
 use Rattle.advertising.specs.PduBuf.{built_of, flags_record, payload_after}
 use Rattle.advertising.specs.declared.pdu_buf.PduBuf.{PduBuf}
-use Rattle.beacon_spec.specs.Scanner.{configured, timer_updated, scanned, is_list_for}
+use Rattle.beacon_spec.specs.Scanner.{configured, timer_updated, scanned, is_list_for, report_number, is_report}
 use Rattle.beacon_spec.specs.Sending.{broadcast_of}
 use Rattle.beacon_spec.specs.State.{Beacon, Refusal, BeaconScanner, Scanned, Updated}
 use Rattle.beacon_spec.specs.declared.beacon.Sighting.{Sighting}
@@ -43,7 +43,7 @@ use Rattle.radio_spec.specs.Calls.{fresh, instant, is_advertising, is_connected,
 use Rattle.radio_spec.specs.State.{State, Step}
 use Rattle.radio_spec.specs.declared.link.Answer.TheVariants as answer
 use Rattle.answers.specs.Given.{filter_for}
-use Rattle.exports.specs.Air.{broadcast_sent, beacon_sent, beacon_after, scanner_with, updated_got, heard_said, heard_from}
+use Rattle.exports.specs.Air.{broadcast_sent, beacon_sent, beacon_after, scanner_with, updated_got, sighting_of, heard_said, heard_from}
 use Rattle.exports.specs.Lists.{time_in, interval_in, call_header, octets_in, call_in, buffer_after, Board, uses_second, called_by, step_of, ran_all, answer_said, called_said}
 use Rattle.exports.specs.Packets.{header_said, set_got, head_set, parsed_set, built_as, frame_of, built_frame}
 use Rattle.exports.specs.Scans.{with_next, listen_said, hear_said, entry_after, entries_after, entry_said}
@@ -110,6 +110,18 @@ silent number channel =
 
 -- without a header, a bad list is 3 all the same, and otherwise the header's refusal is told
 pub record HeardSays (s : BeaconScanner) (h : Header) (p list : List ℕ) (crcOk : Bool) : Type 0 where
+  -- of a report its number and whether it is one, and the beacon that it has
+  pub says : (x : Scanned) → heard_said x ≡ record {
+    number = report_number x.report;
+    reported = is_report x.report;
+    random = is_random (sighting_of x.report).sender.kind;
+    sender = (sighting_of x.report).sender.bytes;
+    start = (sighting_of x.report).adv_data.start;
+    len = (sighting_of x.report).adv_data.len;
+    count = (sighting_of x.report).adv_data.count;
+    taken = (sighting_of x.report).taken;
+    channel = index_of x.channel;
+  }
   pub reports : (x : Sighting) (c : AdvertisingChannel) → heard_said (record { report = Ok (Some x); channel = c }) ≡ record {
     number = 0;
     reported = true;

@@ -5,12 +5,15 @@ ghost use Rattle.addresses.specs.Header.{parsed};
 ghost use Rattle.beacon.specs.State.{scanner_state, update_step, scan_step};
 ghost use Rattle.beacon_spec.specs.Sending.{beacon_of};
 ghost use Rattle.beacon_spec.specs.Scanner.{timer_updated};
-ghost use Rattle.exports.specs.Air.{broadcast_sent, not_sent, beacon_sent, beacon_after, scanner_with, updated_got, heard_said, heard_from, headless_of, says_nothing};
+ghost use Rattle.exports.specs.Air.{broadcast_sent, not_sent, beacon_sent, beacon_after, scanner_with, updated_got, sighting_of, heard_said, heard_from, headless_of, says_nothing};
 
 use addresses::header::{Header, PduType};
+use advertising::pdu::{no_address, no_data};
 use answers::given::{address, filter};
 use answers::got::{Got, found};
-use beacon::beacon::{Beacon, BeaconScanner, Scanned, Updated};
+use beacon::beacon::{
+    Beacon, BeaconScanner, Report, Scanned, Sighting, Updated, is_report, report_number,
+};
 use channels::phy::AdvertisingChannel;
 use octets::error::Error;
 use octets::time::Instant;
@@ -118,26 +121,35 @@ pub struct Heard {
 pub(crate) fn told(scanned: Scanned) -> Heard
     ensures { result ≡ heard_said (scan_step scanned) }
 {
-    let channel = scanned.channel.channel();
-    match scanned.report {
-        Ok(Some(sighting)) => {
-            let from = sighting.sender;
-            let place = sighting.adv_data;
-            let sender = from.raw();
-            Heard {
-                number: 0,
-                reported: true,
-                random: from.is_random(),
-                sender,
-                start: place.start,
-                len: place.len,
-                count: place.count,
-                taken: sighting.taken,
-                channel,
-            }
-        }
-        Ok(None) => unreported(0, channel),
-        Err(e) => unreported(e.number(), channel),
+    let report = scanned.report;
+    let sighting = sighting_of(report);
+    let from = sighting.sender;
+    let place = sighting.adv_data;
+    let sender = from.raw();
+    Heard {
+        number: report_number(report),
+        reported: is_report(report),
+        random: from.is_random(),
+        sender,
+        start: place.start,
+        len: place.len,
+        count: place.count,
+        taken: sighting.taken,
+        channel: scanned.channel.channel(),
+    }
+}
+
+// The beacon that was heard, blank where none is reported.
+fn sighting_of(report: Report) -> Sighting
+    ensures { result ≡ sighting_of report }
+{
+    match report {
+        Ok(Some(sighting)) => sighting,
+        Ok(None) | Err(_) => Sighting {
+            sender: no_address(),
+            adv_data: no_data(),
+            taken: 0,
+        },
     }
 }
 
