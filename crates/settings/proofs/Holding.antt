@@ -1,7 +1,7 @@
 -- All laws of this crate. Assumes nothing.
 use mathlib.Core.Path.{refl}
 use Rattle.settings.specs.Settings.{AsItIs, Holds}
-use Rattle.settings.proofs.Ranges.{tests, in_time, settles, alone, limits}
+use Rattle.settings.proofs.Ranges.{tests, in_time, least_kept, settles, alone, limits}
 
 -- The code's settings are read as they are.
 pub as_it_is : AsItIs
@@ -21,6 +21,7 @@ pub holds : Holds
 holds = record {
   tests = tests;
   in_time = in_time;
+  least_kept = least_kept;
   settles = settles;
   alone = alone;
   limits = limits;

@@ -1,7 +1,7 @@
--- The ranges of a connection's settings, and what is taken, by octets: `tests`, `in_time`, `settles`, `alone`, `limits`. Assumes nothing.
+-- The ranges of a connection's settings, and what is taken, by octets: `tests`, `in_time`, `least_kept`, `settles`, `alone`, `limits`. Assumes nothing.
 use mathlib.Core.Bool.{Bool, true, false, cond}
 use mathlib.Core.List.{List, [], ◌∷◌}
-use mathlib.Core.Path.{◌≡◌, refl, sym, ap}
+use mathlib.Core.Path.{◌≡◌, refl, sym, ap, subst}
 use Prim.Native.Nat.{ℕ, ◌+◌, ◌-◌, ◌*◌, ◌/◌, ◌%◌, ◌≤◌}
 use native.Mathlib.Nat.{mul_assoc, min-le_left, min-le_right, le-min}
 use native.Mathlib.Omega.{arith}
@@ -19,9 +19,10 @@ use Rattle.advertising.proofs.Figures.{field_is}
 use Rattle.advertising.specs.Laws.{Figure}
 use Rattle.advertising.specs.Pdu.{ll_data_figure, ll_data_of, ll_data_in}
 use Rattle.settings.specs.Ranges.{Ranges, Times, between, in_ranges, Tests, InTime}
-use Rattle.settings.specs.Settings.{Settings, Within, settings_in, is_within, judged, settings_as, taken_of, Taking, Settles, Alone, RangeLimits}
+use Rattle.settings.specs.Settings.{Settings, Within, least_settings, settings_in, is_within, judged, settings_as, taken_of, Taking, Settles, Alone, RangeLimits}
 use Rattle.advertising.specs.declared.pdu.ConnectRequestData.{ConnectRequestData}
-use Rattle.std.specs.Prelude.{Ok, Err, is_err}
+use Rattle.std.specs.Prelude.{Result, Ok, Err, is_err}
+use Rattle.std.specs.Result.{result_unwrap_or}
 
 pub between_true : (low x high : ℕ) → between low x high ≡ true → (low ≤ x) × (x ≤ high)
 between_true low x high e =
@@ -116,6 +117,29 @@ in_time hop channels interval latency timeout winSize winOffset = (to, from)
           win_offset_most = omega (arith, t.win_offset_most);
         }
 
+-- the least settings are within the ranges
+pub least_kept : Within least_settings
+least_kept =
+    record {
+      hop_least = omega arith;
+      hop_most = omega arith;
+      two_channels = omega arith;
+      interval_least = omega arith;
+      interval_most = omega arith;
+      latency_most = omega arith;
+      timeout_least = omega arith;
+      timeout_most = omega arith;
+      timeout_above = omega arith;
+      win_size_least = omega arith;
+      win_size_most = omega arith;
+      win_offset_most = omega arith;
+    }
+
+-- so are settings that were taken, or the least
+kept_or_least : (t : Result Settings Error) → ((x : Settings) → t ≡ Ok x → Within x) → Within (result_unwrap_or t least_settings)
+kept_or_least (Ok x) within = within x refl
+kept_or_least (Err e) within = least_kept
+
 -- the settings as the code has them, of what a request l says
 pub are_in : (l : ConnectRequestData) {hop interval latency timeout winSize winOffset : ℕ} {chm : ChannelMap} → hop ≡ l.hop → chm ≡ l.chm → interval ≡ l.interval → latency ≡ l.latency
     → timeout ≡ l.timeout → winSize ≡ l.win_size → winOffset ≡ l.win_offset
@@ -175,6 +199,9 @@ taking o =
       complete = λ r. rw (ne_eqb n 0 (λ e. let two : 2 ≤ n = r.two_channels in omega (arith, e, two)), (tests _ _ _ _ _ _ _).1 r);
       empty = λ e. rw (eq-eqb n 0 e);
       outside = λ some out. rw (ne_eqb n 0 (λ e. omega (arith, e, some)), outside (is_within s) refl out);
+      empty_least = λ e. rw (eq-eqb n 0 e);
+      outside_least = λ some out. rw (ne_eqb n 0 (λ e. omega (arith, e, some)), outside (is_within s) refl out);
+      kept = kept_or_least (taken_of (ll_data_of o)) (λ x e. let is = sound _ (eqb n 0) (is_within s) refl x e in subst Within (sym is.0) is.1);
     }
   where
     s : Settings
@@ -221,4 +248,5 @@ limits =
       octets = refl;
       taken = refl;
       not_taken = refl;
+      least = refl;
     }

@@ -3,6 +3,7 @@
 --   Settings                           == the counts of settings, in range or not
 --   Within s                          == the ranges hold of settings; is_within s: whether they do
 --   settings_as ..                     == settings of these values
+--   least_settings                     == the least of each range, over all channels
 --   settings_of s, answer_of r         == the counts of the code's settings, and of what it answers
 --   AsItIs                            (Holding.as_it_is)  what is read so is what the code has
 --   settings_in l                      == the settings that a decoded request has, in range or not
@@ -17,7 +18,8 @@
 --   RangeLimits                       (Ranges.limits)   worked values on both sides of each limit
 --   Holds                             (Holding.holds)   all of these, with what they assume
 use Rattle.std.specs.Prelude.{Bool, cond, List, [], ◌∷◌, ◌++◌, map, ◌≡◌, ℕ, ◌/◌, ◌%◌, ◌≤◌, eqb, length, replicate, Result, Ok, Err}
-use Rattle.channels.specs.Map.{from_raw}
+use Rattle.std.specs.Result.{result_unwrap_or}
+use Rattle.channels.specs.Map.{from_raw, all_channels}
 use Rattle.channels.specs.declared.channel_map.ChannelMap.{ChannelMap}
 use Rattle.octets.specs.Bytes.{le, le_bytes}
 use Rattle.octets.specs.declared.error.Error.{Error}
@@ -45,6 +47,9 @@ Within s = Ranges s.hop s.chm.num_used_channels s.interval s.latency s.timeout s
 abbrev pub settings_as : ℕ → ChannelMap → ℕ → ℕ → ℕ → ℕ → ℕ → Settings
 settings_as hop chm interval latency timeout winSize winOffset =
     record { hop = hop; chm = chm; interval = interval; latency = latency; timeout = timeout; win_size = winSize; win_offset = winOffset }
+
+abbrev pub least_settings : Settings
+least_settings = settings_as 5 all_channels 6 0 10 1 0
 
 abbrev pub settings_of : ConnectionSettings → Settings
 settings_of s = settings_as s.hop s.chm s.interval s.latency s.timeout s.win_size s.win_offset
@@ -92,6 +97,11 @@ pub record Taking (o : List ℕ) (s : Settings) (t : Result Settings Error) : Ty
   pub complete : Within s → t ≡ Ok s
   pub empty : s.chm.num_used_channels ≡ 0 → t ≡ Err EmptyMap
   pub outside : 1 ≤ s.chm.num_used_channels → (Within s → ⊥) → t ≡ Err OutOfRange
+  -- a caller that goes on with the least settings then has these: hop 5, all channels, interval 6, latency 0, timeout 10, window 1, offset 0
+  pub empty_least : s.chm.num_used_channels ≡ 0 → result_unwrap_or t least_settings ≡ settings_as 5 all_channels 6 0 10 1 0
+  pub outside_least : 1 ≤ s.chm.num_used_channels → (Within s → ⊥) → result_unwrap_or t least_settings ≡ settings_as 5 all_channels 6 0 10 1 0
+  -- and settings within the ranges whatever was asked
+  pub kept : Within (result_unwrap_or t least_settings)
 
 abbrev pub Settles : List ℕ → Type 0
 Settles p = Taking (ll_data_in p) (settings_in (request_of p)) (taken_of (request_of p))
@@ -147,11 +157,15 @@ pub record RangeLimits : Type 0 where
   pub taken : alone_of (lldata 0x2A two_marked 300 4 800 7 200)
       ≡ Ok (record { hop = 10; chm = from_raw two_marked; interval = 300; latency = 4; timeout = 800; win_size = 7; win_offset = 200 })
   pub not_taken : alone_of (lldata 0x31 two_marked 300 4 800 7 200) ≡ Err OutOfRange
+  -- and those that are the least
+  pub least : result_unwrap_or (alone_of (lldata 0x31 two_marked 300 4 800 7 200)) least_settings
+      ≡ record { hop = 5; chm = from_raw (replicate 5 0xFF); interval = 6; latency = 0; timeout = 10; win_size = 1; win_offset = 0 }
 
 -- All of these, with what they assume.
 pub record Holds : Type 0 where
   pub tests : Tests
   pub in_time : InTime
+  pub least_kept : Within least_settings
   pub settles : (p : List ℕ) → Settles p
   pub alone : (o : List ℕ) → Alone o
   pub limits : RangeLimits

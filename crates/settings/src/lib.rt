@@ -27,7 +27,22 @@ pub struct ConnectionSettings {
 }
 
 impl ConnectionSettings {
-    ghost use Rattle.settings.specs.Settings.{answer_of, taken_of, alone_of};
+    ghost use Rattle.settings.specs.Settings.{settings_of, least_settings, answer_of, taken_of, alone_of};
+
+    // The least of each range, over all channels: what a caller may go on with that was refused.
+    pub fn least() -> ConnectionSettings
+        ensures { settings_of result ≡ least_settings }
+    {
+        ConnectionSettings {
+            hop: 5,
+            chm: ChannelMap::with_all_channels(),
+            interval: 6,
+            latency: 0,
+            timeout: 10,
+            win_size: 1,
+            win_offset: 0,
+        }
+    }
 
     // The settings of a decoded request. Order: a map that marks no channel, then a setting outside its range.
     // Not `TryFrom`: the name at the call stands beside `from_octets`, and is what docs/ cites.
