@@ -6,14 +6,15 @@
 --   at t                                      == the instant t
 --   scanner_with f t i n                       == a scanner with a filter or without, configured at time t with interval i, after up to 3 timer updates then
 --   updated_got u                              == the channel on which a scanner listens, and its next instant
---   sighting_of r                              == the beacon that a report has, blank where it has none
+--   no_sighting                                == a beacon that is blank; sighting_of r: the one that a report has, blank where it has none
+--   report_said r channel                      == the numbers of a report, of none, or of a refusal
 --   heard_said s                               == the numbers of what a scanner says of a packet
 --   says_nothing number channel                == a number and a channel, and zeros for what would be reported
 --   unheard e                                 == the number of the refusal e, and zeros
 --   judged_by r s e                            == the refusal of a filter list where the report r is one, and otherwise the refusal e of a header
 --   headless_of s list e                       == what a scanner says of a packet whose header was refused with e: a bad filter list is told first
 --   heard_from s made p crc l                  == what a scanner says of a packet whose header was made, or not
-use Rattle.std.specs.Prelude.{Bool, false, cond, List, [], ◌∷◌, map, get_or, ℕ, eqb, Result, Ok, Err, Some, None}
+use Rattle.std.specs.Prelude.{Bool, false, cond, List, [], ◌∷◌, map, get_or, ℕ, eqb, Result, Ok, Err, Option, Some, None}
 use Rattle.octets.specs.Error.{number_of}
 use Rattle.octets.specs.declared.error.Error.{Error}
 use Rattle.octets.specs.declared.time.Instant.{Instant}
@@ -26,7 +27,7 @@ use Rattle.advertising.specs.Pdu.{no_address, no_data}
 use Rattle.advertising.specs.PduBuf.{payload_after}
 use Rattle.beacon_spec.specs.Scanner.{scanner_of, configured, timer_updated, scanned, report_number, is_report}
 use Rattle.beacon_spec.specs.Sending.{broadcast_of}
-use Rattle.beacon_spec.specs.State.{Beacon, Refusal, BeaconScanner, Report, Scanned, Updated}
+use Rattle.beacon_spec.specs.State.{Beacon, Refusal, BeaconScanner, Scanned, Updated}
 use Rattle.beacon_spec.specs.declared.beacon.Sighting.{Sighting}
 use Rattle.answers.specs.Got.{found}
 use Rattle.exports.specs.declared.air.Heard.{Heard}
@@ -77,30 +78,33 @@ says_nothing number channel =
 abbrev pub no_sighting : Sighting
 no_sighting = record { sender = no_address; adv_data = no_data; taken = 0 }
 
-abbrev pub sighting_of : Report → Sighting
+abbrev pub sighting_of : Result (Option Sighting) Error → Sighting
 sighting_of (Ok (Some x)) = x
 sighting_of (Ok None) = no_sighting
 sighting_of (Err e) = no_sighting
 
-abbrev pub heard_said : Scanned → Heard
-heard_said s =
+abbrev pub report_said : Result (Option Sighting) Error → ℕ → Heard
+report_said r channel =
     record {
-      number = report_number s.report;
-      reported = is_report s.report;
-      random = is_random (sighting_of s.report).sender.kind;
-      sender = (sighting_of s.report).sender.bytes;
-      start = (sighting_of s.report).adv_data.start;
-      len = (sighting_of s.report).adv_data.len;
-      count = (sighting_of s.report).adv_data.count;
-      taken = (sighting_of s.report).taken;
-      channel = index_of s.channel;
+      number = report_number r;
+      reported = is_report r;
+      random = is_random (sighting_of r).sender.kind;
+      sender = (sighting_of r).sender.bytes;
+      start = (sighting_of r).adv_data.start;
+      len = (sighting_of r).adv_data.len;
+      count = (sighting_of r).adv_data.count;
+      taken = (sighting_of r).taken;
+      channel = channel;
     }
+
+abbrev pub heard_said : Scanned → Heard
+heard_said s = report_said s.report (index_of s.channel)
 
 abbrev pub unheard : Error → Heard
 unheard e = says_nothing (number_of e) 0
 
 -- "a filter list or name first (3)": without a header the scanner judges its list alone
-abbrev pub judged_by : Report → Scanned → Error → Heard
+abbrev pub judged_by : Result (Option Sighting) Error → Scanned → Error → Heard
 judged_by (Ok r) s e = unheard e
 judged_by (Err x) s e = heard_said s
 
