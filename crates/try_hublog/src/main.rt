@@ -2,6 +2,8 @@
 // first and last lines.
 #![tactic(auto)]
 
+ghost use Rattle.std.specs.Prelude.{◌≡◌, ◌≤◌, length, IfOk};
+
 use hub_io::{Failed, Run, log_all, log_through};
 use octets::bytes::part_of;
 use std::alloc::AllocError;
@@ -65,6 +67,28 @@ fn put_beacons(input: &mut Vec<u8>, count: u32) -> Result<(), AllocError> {
     Ok(())
 }
 
+// Room for the log of the long input.
+fn room() -> [u8; 600000]
+    ensures { 600000 ≡ length result }
+{
+    [0; 600000]
+}
+
+// Reads until `buf` is full or the file ends, and answers how many octets it holds then.
+fn read_full(file: &mut File, buf: &mut [u8]) -> io::Result<usize>
+    ensures { IfOk result (λ n. n ≤ length buf.old) }
+{
+    let mut n = 0;
+    for _ in 0..u64::MAX {
+        let got = file.read(&mut buf[n..])?;
+        if got == 0 {
+            break;
+        }
+        n += got;
+    }
+    Ok(n)
+}
+
 // Says how long a log is, and prints its CRC, its first line and its last two.
 fn print_ends(rt: &HostRuntime, log: &[u8]) -> io::Result<()> {
     println!(rt; " {} octets, CRC {:06x}", log.len(), crc(CRC_PRESET, log))?;
@@ -84,9 +108,11 @@ fn print_run(rt: &HostRuntime, run: Result<Run, Failed>, log: &[u8]) -> io::Resu
 
 // The log that a run wrote to the file `log`, and what of it is found there.
 fn print_found(rt: &HostRuntime, run: Result<Run, Failed>) -> io::Result<()> {
-    let log = fs::read(rt, LOG)?;
+    let mut log = File::open(rt, LOG)?;
     fs::remove_file(rt, LOG)?;
-    print_run(rt, run, log.as_slice())
+    let mut all = room();
+    let n = read_full(&mut log, &mut all)?;
+    print_run(rt, run, &all[..n])
 }
 
 // Runs the loop of `hub_io` with a buffer of 64 KiB, and prints what it wrote.
@@ -184,10 +210,10 @@ fn longest_run(rt: &HostRuntime) -> io::Result<()> {
     let mut log = File::open(rt, LOG)?;
     fs::remove_file(rt, LOG)?;
     log.seek(SeekFrom::End(-54))?;
-    let mut end = Vec::new(rt.alloc());
-    log.read_to_end(&mut end)?;
-    println!(rt; " {} octets", end.len())?;
-    rt.write_all(end.as_slice())
+    let mut end = [0u8; 100];
+    let n = read_full(&mut log, &mut end)?;
+    println!(rt; " {n} octets")?;
+    rt.write_all(&end[..n])
 }
 
 fn main(rt: HostRuntime) -> io::Result<()> {
