@@ -1,7 +1,7 @@
 // What each request is answered.
-use crate::lines::{Fault, MOST, Octets};
+use crate::lines::{Fault, MOST};
 use crate::requests::Request;
-use crate::show::{Show, Shown};
+use crate::show::Show;
 use addresses::device_address::{AddressKind, DeviceAddress};
 use addresses::header::Header;
 use advertising::pdu::Pdu;
@@ -49,7 +49,7 @@ impl<W: Write> Answers<W> {
     }
 
     fn print<T: Show + Drop>(&mut self, value: T) -> io::Result<()> {
-        write!(self.out, "{}", Shown(value))
+        value.show(&mut self.out)
     }
 
     // A call on the device hands on another one.
@@ -59,18 +59,28 @@ impl<W: Write> Answers<W> {
     }
 
     pub(crate) fn answer(&mut self, letter: u8, request: Request<'_>) -> io::Result<()> {
+        // All that a request may be lent.
+        let mut all = [0xFF; MOST];
         self.out.write_all(&[letter])?;
         match request {
             Request::Area(area) => self.print(read_area(area)),
             Request::Rewrite { room, area } => {
-                let mut lent = lend(room);
-                self.print((rewrite_area(area, &mut lent), lent.as_slice()))
+                let lent = &mut all[..room.min(MOST)];
+                self.print((rewrite_area(area, lent), &lent[..]))
             }
-            Request::RewritePadded { room, area } => self.rewrite_padded(area, lend(room)),
+            Request::RewritePadded { room, area } => self.rewrite_padded(
+                area,
+                &mut all[..room.min(MOST)],
+            ),
             Request::Name { size, areas } => {
                 let (advertisement, reply) = areas.split_at(size.min(areas.len()));
-                // The name has no octets where none is found.
-                self.print((find_name(advertisement, reply), name(advertisement, reply)))
+                let found = find_name(advertisement, reply);
+                self.print(found)?;
+                match found {
+                    // The octets by `name`, so that it runs too.
+                    Ok(_) => self.print(name(advertisement, reply)),
+                    Err(_) => Ok(()),
+                }
             }
             Request::Write {
                 kind,
@@ -78,10 +88,10 @@ impl<W: Write> Answers<W> {
                 room,
                 octets,
             } => {
-                let mut lent = lend(room);
+                let lent = &mut all[..room.min(MOST)];
                 let ad = structure(kind % 16, 16 <= kind, value, 0, octets.len());
-                let written = write_record(ad, octets, ByteWriter::new(), &mut lent);
-                self.print((written, lent.as_slice()))
+                let written = write_record(ad, octets, ByteWriter::new(), lent);
+                self.print((written, &lent[..]))
             }
             Request::Decode(octets) => {
                 let decoded = Header::parse(octets).and_then(|header| Pdu::from_header_and_payload(
@@ -127,16 +137,14 @@ impl<W: Write> Answers<W> {
                 room,
                 records,
             } => {
-                let mut lent = lend(room);
-                let called = self
-                    .device
-                    .start_advertise(time, interval, records, &mut lent);
-                self.print_call(called, &lent)
+                let lent = &mut all[..room.min(MOST)];
+                let called = self.device.start_advertise(time, interval, records, lent);
+                self.print_call(called, lent)
             }
             Request::Tick(room) => {
-                let mut lent = lend(room);
-                let called = self.device.update_timer(&mut lent);
-                self.print_call(called, &lent)
+                let lent = &mut all[..room.min(MOST)];
+                let called = self.device.update_timer(lent);
+                self.print_call(called, lent)
             }
             Request::Packet {
                 end,
@@ -145,11 +153,11 @@ impl<W: Write> Answers<W> {
                 header,
                 payload,
             } => {
-                let mut lent = lend(room);
+                let lent = &mut all[..room.min(MOST)];
                 let called = self
                     .device
-                    .process_adv_packet(end, header, payload, crc_ok, &mut lent);
-                self.print_call(called, &lent)
+                    .process_adv_packet(end, header, payload, crc_ok, lent);
+                self.print_call(called, lent)
             }
             Request::Event => self.print_call(self.device.event(), &[]),
             Request::Stop => self.print_call(self.device.stop(), &[]),
@@ -161,14 +169,14 @@ impl<W: Write> Answers<W> {
                 room,
                 records,
             } => {
-                let mut lent = lend(room);
+                let lent = &mut all[..room.min(MOST)];
                 // Where the records are refused, the beacon without any is sent.
                 let (made, beacon) = match Beacon::new(address, records) {
                     Ok(beacon) => (Ok(()), beacon),
                     Err(refusal) => (Err(refusal.error), refusal.bare),
                 };
-                let sent = beacon.broadcast(&mut lent);
-                self.print((made, (sent, lent.as_slice())))
+                let sent = beacon.broadcast(lent);
+                self.print((made, (sent, &lent[..])))
             }
             Request::Scan {
                 crc_ok,
@@ -176,12 +184,10 @@ impl<W: Write> Answers<W> {
                 payload,
             } => {
                 let scanner = BeaconScanner::new();
-                let report = scanner
-                    .process_adv_packet(header, payload, crc_ok, &[])
-                    .report;
-                self.print(report)?;
-                match report {
-                    Ok(Some(sighting)) => self.print(sighting.adv_data.within(payload)),
+                let scanned = scanner.process_adv_packet(header, payload, crc_ok, &[]);
+                self.print(scanned.report)?;
+                match scanned.report {
+                    Ok(Some(_)) => self.print(scanned.advertising_data(payload)),
                     _ => Ok(()),
                 }
             }
@@ -190,21 +196,14 @@ impl<W: Write> Answers<W> {
     }
 
     // An area read as the hub does, and the octets that its records took, rewritten.
-    fn rewrite_padded(&mut self, area: &[u8], mut lent: Octets) -> io::Result<()> {
+    fn rewrite_padded(&mut self, area: &[u8], lent: &mut [u8]) -> io::Result<()> {
         let written = match read_padded_area(area) {
             Ok((records, taken)) => {
                 write!(self.out, " records {records} taken {taken}")?;
-                rewrite_area(&area[..taken.min(area.len())], &mut lent)
+                rewrite_area(&area[..taken.min(area.len())], lent)
             }
             Err(e) => Err(e),
         };
-        self.print((written, lent.as_slice()))
+        self.print((written, &lent[..]))
     }
-}
-
-// So many octets of FF, at most 320.
-fn lend(room: usize) -> Octets {
-    let mut lent = Octets::from([0xFF; MOST]);
-    lent.truncate(room);
-    lent
 }

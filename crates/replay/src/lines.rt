@@ -1,4 +1,6 @@
 // A line of the input, read a character at a time: a letter, and octets in hexadecimal.
+ghost use Rattle.std.specs.Prelude.{◌<◌, IfOk};
+
 use arrayvec::ArrayVec;
 use std::mem;
 use thiserror::Error;
@@ -6,7 +8,7 @@ use thiserror::Error;
 // The most octets that a line has, and that a request is lent.
 pub(crate) const MOST: usize = 320;
 
-pub(crate) type Octets = ArrayVec<u8, MOST>;
+type Octets = ArrayVec<u8, MOST>;
 
 // Why a line is no request: what is met first.
 #[derive(Clone, Copy, Debug, Error)]
@@ -36,7 +38,10 @@ impl Fault {
     }
 }
 
-fn digit(c: u8) -> Result<u8, Fault> {
+// The value of a digit, of either case.
+fn digit(c: u8) -> Result<u8, Fault>
+    ensures { IfOk result (λ d. d < 16) }
+{
     match char::from(c).to_digit(16) {
         Some(digit) => Ok(digit as u8),
         None => Err(Fault::at(c, Fault::NoNumber)),
@@ -70,6 +75,14 @@ impl Line {
             next: Next::Letter,
             fault: None,
         }
+    }
+
+    // As `new` makes it.
+    pub(crate) fn clear(&mut self) {
+        self.letter = None;
+        self.octets.clear();
+        self.next = Next::Letter;
+        self.fault = None;
     }
 
     // Reads one character more. What follows a fault is passed over.

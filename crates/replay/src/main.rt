@@ -44,17 +44,16 @@
 
 mod answering;
 mod lines;
+mod page;
 mod requests;
 mod show;
 
 use answering::Answers;
 use lines::Line;
+use page::Page;
 use requests::Request;
 use std::io;
-use std::io::{BufRead, BufReader, BufWriter, Write};
-
-// How many octets are read at once, and written at once, at most.
-const PAGE: usize = 65536;
+use std::io::{Read, Write};
 
 // Why a run ends before its input does.
 #[derive(Drop)]
@@ -81,16 +80,15 @@ impl<W: Write> Run<W> {
     }
 
     // Answers the lines of the input. What is read is answered, and that is written, before more is read.
-    fn read<R: BufRead>(&mut self, input: &mut R) -> Result<(), Failure> {
+    fn read<R: Read>(&mut self, input: &mut R) -> Result<(), Failure> {
+        let mut page = page::blank();
         // A count: each loop is proved to end, and how often the system is asked is not known.
         for _ in 0..u64::MAX {
-            let page = input.fill_buf().map_err(Failure::Input)?;
-            let count = page.len();
+            let count = input.read(&mut page).map_err(Failure::Input)?;
             if count == 0 {
                 break;
             }
-            self.take_in(page).map_err(Failure::Output)?;
-            input.consume(count);
+            self.take_in(&page[..count]).map_err(Failure::Output)?;
         }
         self.end().map_err(Failure::Output)
     }
@@ -121,7 +119,7 @@ impl<W: Write> Run<W> {
                 Err(fault) => self.answers.refuse(self.lines, fault)?,
             }
         }
-        self.line = Line::new();
+        self.line.clear();
         self.answers.end_line()
     }
 }
@@ -131,15 +129,11 @@ fn main(rt: HostRuntime) -> io::Result<()> {
         let _said = eprintln!(rt; "usage: replay < requests");
         return Ok(());
     }
-    let alloc = rt.alloc();
-    let mut input = BufReader::with_capacity(alloc, PAGE, rt.stdin())?;
-    let mut out = BufWriter::with_capacity(alloc, PAGE, rt.stdout())?;
-    let _said = match Run::new(&mut out).read(&mut input) {
+    let mut out = Page::new(io::writer(&rt));
+    let _said = match Run::new(&mut out).read(&mut rt.stdin()) {
         Ok(()) => Ok(()),
         Err(Failure::Input(e)) => fail::fail(&rt, b"replay: standard input", &e),
         Err(Failure::Output(e)) => fail::fail(&rt, b"replay: standard output", &e),
     };
-    // What could not be written is not tried again.
-    let (_stdout, _unwritten) = out.into_parts();
     Ok(())
 }

@@ -1,4 +1,6 @@
 // The requests, and what they are read from.
+ghost use Rattle.std.specs.Prelude.{◌≤◌, IfOk};
+
 use crate::lines::{Fault, Fields, MOST};
 use addresses::device_address::{AddressKind, DeviceAddress};
 use addresses::header::Header;
@@ -184,7 +186,9 @@ impl Fields<'_> {
     }
 
     // How many octets are lent: as many as the next octet says, or 320.
-    fn room(&mut self) -> Result<usize, Fault> {
+    fn room(&mut self) -> Result<usize, Fault>
+        ensures { IfOk result (λ n. n ≤ 320) }
+    {
         match self.octet()? {
             u8::MAX => Ok(MOST),
             room => Ok(usize::from(room)),

@@ -13,53 +13,44 @@ use octets::error::Error;
 use octets::time::Instant;
 use radio::link::Answer;
 use settings::ConnectionSettings;
-use std::fmt;
+use std::io;
+use std::io::Write;
 
 // What `Display` is, for types of other crates.
 pub(crate) trait Show {
-    fn show<W: fmt::Write>(&self, f: &mut fmt::Formatter<W>) -> fmt::Result;
-}
-
-// A value, for a format.
-#[derive(Drop)]
-pub(crate) struct Shown<T>(pub(crate) T);
-
-impl<T: Show> fmt::Display for Shown<T> {
-    fn fmt<W: fmt::Write>(&self, f: &mut fmt::Formatter<W>) -> fmt::Result {
-        self.0.show(f)
-    }
+    fn show<W: Write>(&self, out: &mut W) -> io::Result<()>;
 }
 
 impl<T: Show> Show for Result<T, Error> {
-    fn show<W: fmt::Write>(&self, f: &mut fmt::Formatter<W>) -> fmt::Result {
+    fn show<W: Write>(&self, out: &mut W) -> io::Result<()> {
         match self {
-            Ok(value) => value.show(f),
-            Err(e) => write!(f, " refused {}", e.number()),
+            Ok(value) => value.show(out),
+            Err(e) => write!(out, " refused {}", e.number()),
         }
     }
 }
 
 impl<T: Show> Show for Option<T> {
-    fn show<W: fmt::Write>(&self, f: &mut fmt::Formatter<W>) -> fmt::Result {
+    fn show<W: Write>(&self, out: &mut W) -> io::Result<()> {
         match self {
-            Some(value) => value.show(f),
-            None => write!(f, " nothing"),
+            Some(value) => value.show(out),
+            None => write!(out, " nothing"),
         }
     }
 }
 
 // One after the other.
 impl<A: Show, B: Show> Show for (A, B) {
-    fn show<W: fmt::Write>(&self, f: &mut fmt::Formatter<W>) -> fmt::Result {
-        self.0.show(f)?;
-        self.1.show(f)
+    fn show<W: Write>(&self, out: &mut W) -> io::Result<()> {
+        self.0.show(out)?;
+        self.1.show(out)
     }
 }
 
 impl<T: Show, const N: usize> Show for [T; N] {
-    fn show<W: fmt::Write>(&self, f: &mut fmt::Formatter<W>) -> fmt::Result {
+    fn show<W: Write>(&self, out: &mut W) -> io::Result<()> {
         for value in self {
-            value.show(f)?;
+            value.show(out)?;
         }
         Ok(())
     }
@@ -67,68 +58,84 @@ impl<T: Show, const N: usize> Show for [T; N] {
 
 // What was accepted.
 impl Show for () {
-    fn show<W: fmt::Write>(&self, f: &mut fmt::Formatter<W>) -> fmt::Result {
-        write!(f, " accepted")
+    fn show<W: Write>(&self, out: &mut W) -> io::Result<()> {
+        write!(out, " accepted")
     }
 }
 
 impl Show for usize {
-    fn show<W: fmt::Write>(&self, f: &mut fmt::Formatter<W>) -> fmt::Result {
-        write!(f, " {self}")
+    fn show<W: Write>(&self, out: &mut W) -> io::Result<()> {
+        write!(out, " {self}")
     }
 }
 
 // Octets as pairs of hexadecimal digits. Each program that prints them has this loop: a crate for it would be no shorter.
 impl Show for &[u8] {
-    fn show<W: fmt::Write>(&self, f: &mut fmt::Formatter<W>) -> fmt::Result {
-        for octet in *self {
-            write!(f, " {octet:02x}")?;
+    fn show<W: Write>(&self, out: &mut W) -> io::Result<()> {
+        for part in self.chunks(16) {
+            let count = part.len().min(16);
+            let mut text = [b' '; 48];
+            for i in 0..count {
+                text[3 * i + 1] = digit(part[i] / 16);
+                text[3 * i + 2] = digit(part[i] % 16);
+            }
+            out.write_all(&text[..3 * count])?;
         }
         Ok(())
     }
 }
 
+// The digit of a number below 16.
+fn digit(n: u8) -> u8 {
+    if n < 10 { n + b'0' } else { n % 16 + 87 }
+}
+
 impl Show for ByteWriter {
-    fn show<W: fmt::Write>(&self, f: &mut fmt::Formatter<W>) -> fmt::Result {
-        write!(f, " to {}", self.at)
+    fn show<W: Write>(&self, out: &mut W) -> io::Result<()> {
+        write!(out, " to {}", self.at)
     }
 }
 
 impl Show for DeviceAddress {
-    fn show<W: fmt::Write>(&self, f: &mut fmt::Formatter<W>) -> fmt::Result {
-        let kind = if self.is_random() { "random" } else { "public" };
-        write!(f, " {kind}{}", Shown(self.raw().as_slice()))
+    fn show<W: Write>(&self, out: &mut W) -> io::Result<()> {
+        let kind = if self.is_random() {
+            b" random"
+        } else {
+            b" public"
+        };
+        out.write_all(kind)?;
+        self.raw().as_slice().show(out)
     }
 }
 
 impl Show for Header {
-    fn show<W: fmt::Write>(&self, f: &mut fmt::Formatter<W>) -> fmt::Result {
-        write!(f, " {:04x}", self.to_u16())
+    fn show<W: Write>(&self, out: &mut W) -> io::Result<()> {
+        write!(out, " {:04x}", self.to_u16())
     }
 }
 
 impl Show for AdvertisingChannel {
-    fn show<W: fmt::Write>(&self, f: &mut fmt::Formatter<W>) -> fmt::Result {
-        write!(f, " on {}", self.channel())
+    fn show<W: Write>(&self, out: &mut W) -> io::Result<()> {
+        write!(out, " on {}", self.channel())
     }
 }
 
 impl Show for Instant {
-    fn show<W: fmt::Write>(&self, f: &mut fmt::Formatter<W>) -> fmt::Result {
-        write!(f, " at {}", self.raw_micros())
+    fn show<W: Write>(&self, out: &mut W) -> io::Result<()> {
+        write!(out, " at {}", self.raw_micros())
     }
 }
 
 impl Show for ChannelMap {
-    fn show<W: fmt::Write>(&self, f: &mut fmt::Formatter<W>) -> fmt::Result {
-        self.to_raw().as_slice().show(f)
+    fn show<W: Write>(&self, out: &mut W) -> io::Result<()> {
+        self.to_raw().as_slice().show(out)
     }
 }
 
 impl Show for DataChannel {
-    fn show<W: fmt::Write>(&self, f: &mut fmt::Formatter<W>) -> fmt::Result {
+    fn show<W: Write>(&self, out: &mut W) -> io::Result<()> {
         write!(
-            f,
+            out,
             " {} {} {} {}",
             self.index(),
             self.rf_channel(),
@@ -139,112 +146,126 @@ impl Show for DataChannel {
 }
 
 impl Show for Hop {
-    fn show<W: fmt::Write>(&self, f: &mut fmt::Formatter<W>) -> fmt::Result {
-        write!(f, " {} {}", self.unmapped, self.channel.index())
+    fn show<W: Write>(&self, out: &mut W) -> io::Result<()> {
+        write!(out, " {} {}", self.unmapped, self.channel.index())
     }
 }
 
 // After the sender the receiver, or else the records; and the fields of a connect request.
 impl Show for Pdu {
-    fn show<W: fmt::Write>(&self, f: &mut fmt::Formatter<W>) -> fmt::Result {
-        write!(f, " type {}{}", u8::from(self.ty()), Shown(self.sender()))?;
+    fn show<W: Write>(&self, out: &mut W) -> io::Result<()> {
+        write!(out, " type {}", u8::from(self.ty()))?;
+        self.sender().show(out)?;
         if self.has_receiver() {
-            write!(f, " to{}", Shown(self.receiver()))?;
+            out.write_all(b" to")?;
+            self.receiver().show(out)?;
         } else {
-            write!(f, " records {}", self.adv_data.count)?;
+            write!(out, " records {}", self.adv_data.count)?;
         }
         if let PduType::ConnectReq = self.ty() {
-            self.lldata.show(f)?;
+            self.lldata.show(out)?;
         }
         Ok(())
     }
 }
 
 impl Show for ConnectRequestData {
-    fn show<W: fmt::Write>(&self, f: &mut fmt::Formatter<W>) -> fmt::Result {
-        write!(f, " {:08x} {:06x}", self.access_address(), self.crc_init())?;
-        write!(f, " {} {}", self.win_size(), self.win_offset())?;
+    fn show<W: Write>(&self, out: &mut W) -> io::Result<()> {
         write!(
-            f,
+            out,
+            " {:08x} {:06x}",
+            self.access_address(),
+            self.crc_init()
+        )?;
+        write!(out, " {} {}", self.win_size(), self.win_offset())?;
+        write!(
+            out,
             " {} {} {}",
             self.interval(),
             self.slave_latency(),
             self.supervision_timeout()
         )?;
-        write!(f, "{} {}", Shown(self.channel_map()), self.hop())
+        self.channel_map().show(out)?;
+        write!(out, " {}", self.hop())
     }
 }
 
 // In the order of a request's fields.
 impl Show for ConnectionSettings {
-    fn show<W: fmt::Write>(&self, f: &mut fmt::Formatter<W>) -> fmt::Result {
-        write!(f, " {} {}", self.win_size(), self.win_offset())?;
+    fn show<W: Write>(&self, out: &mut W) -> io::Result<()> {
+        write!(out, " {} {}", self.win_size(), self.win_offset())?;
         write!(
-            f,
+            out,
             " {} {} {}",
             self.interval(),
             self.slave_latency(),
             self.supervision_timeout()
         )?;
-        write!(f, "{} {}", Shown(self.channel_map()), self.hop())
+        self.channel_map().show(out)?;
+        write!(out, " {}", self.hop())
     }
 }
 
 // The zeros after the payload too.
 impl Show for PduBuf {
-    fn show<W: fmt::Write>(&self, f: &mut fmt::Formatter<W>) -> fmt::Result {
-        write!(
-            f,
-            "{}{}",
-            Shown(self.header()),
-            Shown(self.payload().as_slice())
-        )
+    fn show<W: Write>(&self, out: &mut W) -> io::Result<()> {
+        self.header().show(out)?;
+        self.payload().as_slice().show(out)
     }
 }
 
 impl Show for Answer {
-    fn show<W: fmt::Write>(&self, f: &mut fmt::Formatter<W>) -> fmt::Result {
+    fn show<W: Write>(&self, out: &mut W) -> io::Result<()> {
         match *self {
             Answer::Sent {
                 header,
                 channel,
                 next_adv,
-            } => write!(f, "{}{}{}", Shown(header), Shown(channel), Shown(next_adv)),
-            Answer::Listen(channel) => write!(f, " listens{}", Shown(channel)),
-            Answer::Respond { header, channel } => write!(f, "{}{}", Shown(header), Shown(channel)),
+            } => {
+                header.show(out)?;
+                channel.show(out)?;
+                next_adv.show(out)
+            }
+            Answer::Listen(channel) => {
+                out.write_all(b" listens")?;
+                channel.show(out)
+            }
+            Answer::Respond { header, channel } => {
+                header.show(out)?;
+                channel.show(out)
+            }
             Answer::FirstEvent {
                 channel,
                 at,
                 access_address,
                 crc_init,
-            } => write!(
-                f,
-                " {}{} {access_address:08x} {crc_init:06x}",
-                channel.index(),
-                Shown(at)
-            ),
-            Answer::NextEvent(channel) => write!(f, " {}", channel.index()),
-            Answer::Stopped => write!(f, " stopped"),
-            Answer::ScanDataSet => write!(f, " set"),
+            } => {
+                write!(out, " {}", channel.index())?;
+                at.show(out)?;
+                write!(out, " {access_address:08x} {crc_init:06x}")
+            }
+            Answer::NextEvent(channel) => write!(out, " {}", channel.index()),
+            Answer::Stopped => write!(out, " stopped"),
+            Answer::ScanDataSet => write!(out, " set"),
         }
     }
 }
 
 impl Show for NamePlace {
-    fn show<W: fmt::Write>(&self, f: &mut fmt::Formatter<W>) -> fmt::Result {
+    fn show<W: Write>(&self, out: &mut W) -> io::Result<()> {
         let (area, part) = match self {
             NamePlace::InReply(part) => ("reply", part),
             NamePlace::InAdvertisement(part) => ("advertisement", part),
         };
         let end = part.start.wrapping_add(part.len);
-        write!(f, " {area} at {} to {end}", part.start)
+        write!(out, " {area} at {} to {end}", part.start)
     }
 }
 
 impl Show for Sighting {
-    fn show<W: fmt::Write>(&self, f: &mut fmt::Formatter<W>) -> fmt::Result {
+    fn show<W: Write>(&self, out: &mut W) -> io::Result<()> {
         let data = self.adv_data;
-        self.sender.show(f)?;
-        write!(f, " records {} taken {}", data.count, self.taken)
+        self.sender.show(out)?;
+        write!(out, " records {} taken {}", data.count, self.taken)
     }
 }
