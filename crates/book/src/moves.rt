@@ -5,7 +5,7 @@ ghost use Rattle.book_spec.specs.Moves.{no_move, move_of, is_move, move_in};
 use book_spec::Move;
 use octets::bytes::{Part, u16_from_le_bytes};
 use records::ad_structure::Type;
-use records::area::{RecordTest, find_record};
+use records::area::{RecordTest, find_record, first_record};
 
 // The octets of the shortest and the longest move record: length, type, company, turn and 1 to 20 octets.
 const SHORTEST: usize = 7;
@@ -48,8 +48,8 @@ struct MoveTest {
 impl RecordTest for MoveTest {
     ghost passing = { λ test. is_move test.company };
 
-    fn passes(&self, octets: &[u8]) -> bool {
-        is_move(octets, self.company)
+    fn passes(&self, rest: &[u8]) -> bool {
+        is_move(first_record(rest), self.company)
     }
 }
 

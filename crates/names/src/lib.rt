@@ -8,7 +8,7 @@ pub use names_spec::NamePlace;
 use octets::bytes::{Part, part_of};
 use octets::error::Error;
 use records::ad_structure::Type;
-use records::area::{RecordTest, find_record, read_padded_area};
+use records::area::{RecordTest, find_record, first_record, read_padded_area};
 use utf8::is_utf8;
 
 // The name's own octets in the area that holds them; none, at the start of the advertisement, where there is no name.
@@ -47,8 +47,15 @@ struct NameTest {
 impl RecordTest for NameTest {
     ghost passing = { λ test. is_name test.ty };
 
-    fn passes(&self, octets: &[u8]) -> bool {
-        is_name(octets, self.ty)
+    fn passes(&self, rest: &[u8]) -> bool {
+        // By the type first, since most records have another.
+        if rest.len() < 2 {
+            return false;
+        }
+        if rest[1] != self.ty {
+            return false;
+        }
+        is_name(first_record(rest), self.ty)
     }
 }
 

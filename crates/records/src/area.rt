@@ -2,6 +2,7 @@
 ghost use Rattle.std.specs.Prelude.{◌≡◌, ◌++◌, ◌≤◌, ℕ, Bool, List, length, drop, Ok};
 ghost use Rattle.records_spec.specs.Area.{AcceptedFrom, front_of, read_area, rewritten, rewritten_to, rewritten_after};
 ghost use Rattle.records_spec.specs.HubReading.{is_zeros, read_padded};
+ghost use Rattle.records_spec.specs.Record.{first};
 ghost use Rattle.records_spec.specs.Search.{searched};
 
 use crate::ad_structure::{read_record, write_record};
@@ -61,13 +62,25 @@ fn is_zeros(octets: &[u8]) -> bool
     octets.iter().all(|&octet| octet == 0)
 }
 
-// A test of a record.
+// A test of records.
 pub trait RecordTest {
     // Whether the octets of a record pass, its length and its type first.
     ghost passing: { Self → List ℕ → Bool };
 
-    fn passes(&self, octets: &[u8]) -> bool
-        ensures { result ≡ passing self.now octets.now };
+    // Whether the record that `rest` begins with passes: what follows it is at hand too, so that its end is looked for only where it counts.
+    fn passes(&self, rest: &[u8]) -> bool
+        ensures { result ≡ passing self.now (first rest.now) };
+}
+
+// The octets of the record that `rest` begins with, or what there is of them.
+pub fn first_record(rest: &[u8]) -> &[u8]
+    ensures { result.now ≡ first rest.now }
+{
+    if rest.is_empty() {
+        return rest;
+    }
+    let end = rest.len().min(1 + rest[0] as usize);
+    &rest[..end]
 }
 
 // Where the first record of an area without padding that passes a test has its data.
@@ -78,8 +91,8 @@ pub fn find_record<T: RecordTest>(s: &[u8], test: &T) -> Option<Part>
     let mut at = 0;
     while at < s.len() {
         let next = at + 1 + s[at] as usize;
-        let end = s.len().min(next);
-        if test.passes(&s[at..end]) {
+        if test.passes(&s[at..]) {
+            let end = s.len().min(next);
             return Some(Part {
                 start: at + 2,
                 len: (end - at).saturating_sub(2),
