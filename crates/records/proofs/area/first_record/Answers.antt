@@ -1,4 +1,4 @@
-use Rattle.std.proofs.Common.{rules, arith}
+use Rattle.std.proofs.Common.{rules}
 use borrow.Author.Tests.{tests}
 use Rattle.records.proofs.Searching.{none_first, taken_first}
 use Rattle.records.proofs.area.first_record.Goals as goal
