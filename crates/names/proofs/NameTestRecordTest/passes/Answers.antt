@@ -1,5 +1,5 @@
 -- A record that has no type, or another, is no name.
-use Rattle.std.proofs.Common.{rules, ◌≡◌, ◌<◌, ℕ, zero, suc, false, List, [], ◌∷◌, length, get_or, arith}
+use Rattle.std.proofs.Common.{rules, ◌≡◌, ◌<◌, ℕ, zero, suc, false, List, [], ◌∷◌, length, get_or, ap, ◌∙◌, arith}
 use borrow.Author.Tests.{ne_eqb}
 use Rattle.records_spec.specs.Record.{first}
 use Rattle.names_spec.specs.Name.{is_name}
@@ -23,3 +23,6 @@ returns-then-rest-lt2 c = typeless c.args.rest.now c.args.self.now.ty (search ru
 
 pub returns-then-rest-self : goal.returns-then-rest-self
 returns-then-rest-self c = another c.args.rest.now c.args.self.now.ty (search rules) c.if-rest-self.true
+
+pub returns : goal.returns
+returns c = c.is_name.ensures ∙ ap (is_name c.args.self.now.ty) c.first_record.ensures
