@@ -43,7 +43,7 @@ octet_blank k n small =
     let none_left : n / 10 / 10 / 10 / 10 ≡ 0 = omega arith in
     rw (none_left, leading_blank k) (simp append_assoc)
 
-octet : (w n : ℕ) → n < 256 → octet_from octet_columns w n ≡ column w n
+pub octet : (w n : ℕ) → n < 256 → octet_from octet_columns w n ≡ column w n
 octet w n small = go (ltb 4 w) refl
   where
     go : (b : Bool) → ltb 4 w ≡ b → octet_from octet_columns w n ≡ column w n
