@@ -63,9 +63,21 @@ impl Show for () {
     }
 }
 
+// A space and a number, as one piece.
 impl Show for usize {
     fn show<W: Write>(&self, out: &mut W) -> io::Result<()> {
-        write!(out, " {self}")
+        let mut text = [b' '; 21];
+        let mut start = 20;
+        let mut rest = *self;
+        for i in 0..20 {
+            text[20 - i] = (rest % 10) as u8 + b'0';
+            start = 19 - i;
+            rest /= 10;
+            if rest == 0 {
+                break;
+            }
+        }
+        out.write_all(&text[start.min(20)..])
     }
 }
 
@@ -147,7 +159,8 @@ impl Show for DataChannel {
 
 impl Show for Hop {
     fn show<W: Write>(&self, out: &mut W) -> io::Result<()> {
-        write!(out, " {} {}", self.unmapped, self.channel.index())
+        usize::from(self.unmapped).show(out)?;
+        usize::from(self.channel.index()).show(out)
     }
 }
 
